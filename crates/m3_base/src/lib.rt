@@ -1,0 +1,14 @@
+//! The numbers, places and answers that every crate of m3c speaks of.
+#![tactic(auto)]
+
+mod byte_list;
+mod memory;
+mod outcomes;
+mod places;
+mod refusals;
+
+pub use byte_list::Bytes;
+pub use memory::{NoMemory, gap};
+pub use outcomes::{Entry, FaultKind, Options, Outcome, fault_name};
+pub use places::{Pos, Source};
+pub use refusals::{Refusal, Refused};
