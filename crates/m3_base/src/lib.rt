@@ -6,9 +6,13 @@ mod memory;
 mod outcomes;
 mod places;
 mod refusals;
+mod rules;
+#[cfg(test)]
+mod tests;
 
 pub use byte_list::Bytes;
 pub use memory::{NoMemory, gap};
 pub use outcomes::{Entry, FaultKind, Options, Outcome, fault_name};
 pub use places::{Pos, Source};
 pub use refusals::{Refusal, Refused};
+pub use rules::rule_text;

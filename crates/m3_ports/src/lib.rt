@@ -8,6 +8,8 @@ mod memory_sink;
 mod shelves;
 mod sinks;
 mod std_sink;
+#[cfg(test)]
+mod tests;
 
 pub use file_shelf::FileShelf;
 pub use memory_shelf::MemShelf;
