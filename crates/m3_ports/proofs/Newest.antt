@@ -1,6 +1,6 @@
 -- A scan of a log from its newest entry: an entry decides where its name is the one sought.
-use Rattle.std.proofs.Common.{◌≡◌, ℕ, List, ◌∷◌, Bool, true, false, Option, Some, ap, sym, ◌∙◌, nat_eq, cond, subst, Contains}
-use Rattle.std.specs.Ordering.{nat_cmp, eq_by_cmp}
+use Rattle.std.proofs.Common.{◌≡◌, ℕ, List, ◌∷◌, Bool, true, false, Some, ap, sym, ◌∙◌, nat_eq, cond, subst, Contains}
+use Rattle.std.specs.Ordering.{nat_cmp}
 use Rattle.std.specs.Cmp.Lexicographic.{slice_cmp, texts_ties, pointwise}
 use Rattle.std.specs.FinMap.{find}
 

@@ -1,7 +1,7 @@
-use Rattle.std.proofs.Common.{◌≡◌, ap, sym, ◌∙◌, nat_eq}
+use Rattle.std.proofs.Common.{ap, sym, ◌∙◌, nat_eq}
 use Rattle.std.specs.Ordering.{nat_cmp}
 use Rattle.std.specs.Cmp.Lexicographic.{slice_cmp, nat_list_cmp_total, pointwise}
-use Rattle.std.specs.FinMap.{get, find, get-from_entries}
+use Rattle.std.specs.FinMap.{find, get-from_entries}
 use Rattle.std.specs.VecDeque.Iter.{deque_iter_rest}
 use Rattle.m3_ports.proofs.Newest.{find-here, find-later}
 use Rattle.m3_ports.proofs.memory_shelf.newest.Goals as goal

@@ -1,4 +1,4 @@
-use Rattle.std.proofs.Common.{ap, sym, refl, ◌∙◌}
+use Rattle.std.proofs.Common.{ap, refl, ◌∙◌}
 use Rattle.m3_ports.specs.Counts.{raised}
 use Rattle.m3_ports.proofs.Newest.{Contains-along}
 use Rattle.m3_ports.proofs.memory_shelf.MemShelfShelf.store.Goals as goal
