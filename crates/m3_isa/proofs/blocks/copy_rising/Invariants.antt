@@ -1,0 +1,11 @@
+use Rattle.std.proofs.Common.{◌≡◌, ℕ, ◌+◌, ◌<◌, true, is_some}
+use Rattle.m3_isa.specs.Effects.{copied_low}
+use Rattle.m3_isa.proofs.blocks.copy_rising.Given as goal
+
+abbrev pub invariant-loop-k : goal.invariant-loop-k
+invariant-loop-k g l = record {
+  there : (j : ℕ) → j < l.k → is_some (g.W.Words.holds l.initial.mem (l.from + j)) ≡ true;
+  can : (j : ℕ) → j < l.k → g.W.Words.writable l.initial.mem (l.to + j) ≡ true;
+  copied : (x : ℕ) → g.W.Words.holds l.mem x ≡ copied_low (g.W.Words.holds l.initial.mem) l.k l.from l.to x;
+  writable : (x : ℕ) → g.W.Words.writable l.mem x ≡ g.W.Words.writable l.initial.mem x;
+}

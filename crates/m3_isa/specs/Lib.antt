@@ -1,0 +1,5 @@
+pub mod Memory
+pub mod Instructions
+pub mod Arithmetic
+pub mod Effects
+pub mod CodeBytes

@@ -1,0 +1,23 @@
+//! The instructions of the machine: what each is, its eight bytes, and what a plain one does to the
+//! registers and the memory.
+#![tactic(auto)]
+
+mod answers;
+mod arithmetic;
+mod blocks;
+mod code_bytes;
+mod instructions;
+mod memory;
+mod registers;
+mod rows;
+mod steps;
+
+pub use answers::Step;
+pub use code_bytes::{decode, encode};
+pub use instructions::{Instr, Op};
+pub use memory::Words;
+pub use registers::Regs;
+pub use steps::step;
+
+#[cfg(test)]
+mod tests;
