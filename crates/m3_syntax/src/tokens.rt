@@ -1,3 +1,6 @@
+ghost use Rattle.std.specs.Prelude.{◌≡◌};
+ghost use Rattle.m3_syntax.specs.Spellings.{text_of_word};
+
 use m3_base::Pos;
 
 /// A token of a source: what it is, its bytes in the source, and the place of its first byte.
@@ -84,6 +87,77 @@ pub enum Word {
     Var,
     While,
     With,
+}
+
+impl Word {
+    /// How the keyword is written.
+    pub fn text(self) -> &'static [u8]
+        ensures { result.now ≡ text_of_word self }
+    {
+        match self {
+            Word::And => b"AND",
+            Word::Any => b"ANY",
+            Word::Array => b"ARRAY",
+            Word::As => b"AS",
+            Word::Begin => b"BEGIN",
+            Word::Bits => b"BITS",
+            Word::Branded => b"BRANDED",
+            Word::By => b"BY",
+            Word::Case => b"CASE",
+            Word::Const => b"CONST",
+            Word::Div => b"DIV",
+            Word::Do => b"DO",
+            Word::Else => b"ELSE",
+            Word::Elsif => b"ELSIF",
+            Word::End => b"END",
+            Word::Eval => b"EVAL",
+            Word::Except => b"EXCEPT",
+            Word::Exception => b"EXCEPTION",
+            Word::Exit => b"EXIT",
+            Word::Exports => b"EXPORTS",
+            Word::Finally => b"FINALLY",
+            Word::For => b"FOR",
+            Word::From => b"FROM",
+            Word::Generic => b"GENERIC",
+            Word::If => b"IF",
+            Word::Import => b"IMPORT",
+            Word::In => b"IN",
+            Word::Interface => b"INTERFACE",
+            Word::Lock => b"LOCK",
+            Word::Loop => b"LOOP",
+            Word::Methods => b"METHODS",
+            Word::Mod => b"MOD",
+            Word::Module => b"MODULE",
+            Word::Not => b"NOT",
+            Word::Object => b"OBJECT",
+            Word::Of => b"OF",
+            Word::Or => b"OR",
+            Word::Overrides => b"OVERRIDES",
+            Word::Procedure => b"PROCEDURE",
+            Word::Raise => b"RAISE",
+            Word::Raises => b"RAISES",
+            Word::Readonly => b"READONLY",
+            Word::Record => b"RECORD",
+            Word::Ref => b"REF",
+            Word::Repeat => b"REPEAT",
+            Word::Return => b"RETURN",
+            Word::Reveal => b"REVEAL",
+            Word::Root => b"ROOT",
+            Word::Set => b"SET",
+            Word::Then => b"THEN",
+            Word::To => b"TO",
+            Word::Try => b"TRY",
+            Word::Type => b"TYPE",
+            Word::Typecase => b"TYPECASE",
+            Word::Unsafe => b"UNSAFE",
+            Word::Until => b"UNTIL",
+            Word::Untraced => b"UNTRACED",
+            Word::Value => b"VALUE",
+            Word::Var => b"VAR",
+            Word::While => b"WHILE",
+            Word::With => b"WITH",
+        }
+    }
 }
 
 /// The signs.
