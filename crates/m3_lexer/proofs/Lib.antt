@@ -1,0 +1,16 @@
+pub mod BytesLaws
+pub mod CharacterLaws
+pub mod Counts
+pub mod FrontLaws
+pub mod Heads
+pub mod Listed
+pub mod MarkLaws
+pub mod NumberLaws
+pub mod ReadsLaws
+pub mod RuleLaws
+pub mod RunLaws
+pub mod SignLaws
+pub mod StandsLaws
+pub mod TakeLaws
+pub mod TextLaws
+pub mod Uniqueness
