@@ -1,0 +1,142 @@
+use m3_base::Bytes;
+use std::collections::BTreeSet;
+
+/// A type, by its place in the list of types.
+#[derive(Clone, Copy, Debug, PartialEq, Eq, PartialOrd, Ord, Hash)]
+pub struct TypeId(pub u32);
+
+/// A constant, by its place in the list of constants. Each value stands there once, so two constants
+/// are equal exactly where their places are.
+#[derive(Clone, Copy, Debug, PartialEq, Eq, PartialOrd, Ord, Hash)]
+pub struct ConstId(pub u32);
+
+/// The value of a constant that a type contains. Its type is that of the place where it stands.
+#[derive(Drop)]
+pub enum ConstValue {
+    /// The number of a value of an ordinal type.
+    Ordinal(i64),
+    Nil,
+    /// A text, by its bytes.
+    Text(Bytes),
+    /// A procedure, by its number.
+    Procedure(u32),
+    /// The members of a set, by their numbers.
+    Set(BTreeSet<i64>),
+    /// The fields of a record, in order.
+    Fields(Vec<ConstId>),
+    /// An array of the given number of elements: those listed, of which the last stands for all that
+    /// follow it. The list doesn't end in two equal elements.
+    Elements(Vec<ConstId>, u64),
+}
+
+/// What makes a branded type differ from every other: its text, or the number of the place where
+/// BRANDED stands without a text.
+#[derive(Drop)]
+pub enum Brand {
+    Text(Bytes),
+    Occurrence(u32),
+}
+
+/// A field of a record or object, with the constant that it holds at first.
+#[derive(Drop)]
+pub struct Field {
+    pub name: Bytes,
+    pub kind: TypeId,
+    pub default: Option<ConstId>,
+}
+
+/// How an actual is passed.
+#[derive(Clone, Copy, Debug, PartialEq, Eq)]
+pub enum Mode {
+    Value,
+    Var,
+    Readonly,
+}
+
+/// A formal of a procedure type, with its default.
+#[derive(Drop)]
+pub struct Formal {
+    pub name: Bytes,
+    pub mode: Mode,
+    pub kind: TypeId,
+    pub default: Option<ConstId>,
+}
+
+/// A method of an object type: its signature is a procedure type without the object itself.
+#[derive(Drop)]
+pub struct Method {
+    pub name: Bytes,
+    pub signature: TypeId,
+    pub default: Option<ConstId>,
+}
+
+/// A method of an ancestor with the procedure that is bound to it anew.
+#[derive(Drop)]
+pub struct Override {
+    pub name: Bytes,
+    pub value: ConstId,
+}
+
+/// The exceptions that a procedure may raise, by their numbers.
+#[derive(Drop)]
+pub enum Raises {
+    Any,
+    Only(BTreeSet<u32>),
+}
+
+/// What stands behind an opaque type: the type that a full reveal of the program gives, or one of the
+/// two types of the interface Thread that no program reveals.
+#[derive(Clone, Copy, Debug, PartialEq, Eq)]
+pub enum Secret {
+    Revealed,
+    Thread,
+    Condition,
+}
+
+/// A type's definition, with each type that it names given by its place (Modula-3 report, section 2.2).
+#[derive(Drop)]
+pub enum TypeNode {
+    Integer,
+    Boolean,
+    Character,
+    /// The names of the members, in order.
+    Enumeration(Vec<Bytes>),
+    /// The base type with the numbers of the first and the last member.
+    Subrange(TypeId, i64, i64),
+    /// The index type and the element type.
+    FixedArray(TypeId, TypeId),
+    OpenArray(TypeId),
+    /// The fields of a record, in order.
+    Fields(Vec<Field>),
+    /// The type of the members.
+    SetOf(TypeId),
+    RefTo(Option<Brand>, TypeId),
+    /// The brand, the parent (ROOT where none is written), and the part that is added to it.
+    Object(Option<Brand>, TypeId, Vec<Field>, Vec<Method>, Vec<Override>),
+    Procedure(Vec<Formal>, Option<TypeId>, Raises),
+    /// The bound of an opaque type.
+    Opaque(TypeId, Secret),
+    Null,
+    RefAny,
+    Text,
+    Mutex,
+    Root,
+}
+
+/// A revelation of an opaque type, in a unit where it applies: that its bound is a supertype, or,
+/// where it is full, that it is the type itself.
+#[derive(Clone, Copy, Debug, PartialEq, Eq)]
+pub struct Reveal {
+    pub view: u32,
+    pub opaque: TypeId,
+    pub bound: TypeId,
+    pub full: bool,
+}
+
+/// All types of a program, the reveals of its opaque types, and the constants that types contain.
+#[derive(Drop)]
+pub struct TypeGraph {
+    pub nodes: Vec<TypeNode>,
+    pub reveals: Vec<Reveal>,
+    pub constants: Vec<ConstValue>,
+}
