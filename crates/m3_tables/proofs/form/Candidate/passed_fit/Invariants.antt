@@ -1,0 +1,12 @@
+use Rattle.std.proofs.Common.{◌≡◌, ℕ}
+use Rattle.std.specs.Prelude.{not, ◌||◌}
+use Rattle.std.specs.List.{list_all}
+use Rattle.m3_tables.specs.Numbers.{has}
+use Rattle.m3_tables.specs.Sections.{is_tidy}
+use Rattle.m3_tables.specs.Views.{numbers_of}
+use Rattle.m3_tables.proofs.form.Candidate.passed_fit.Given as goal
+
+abbrev pub invariant-loop-place : goal.invariant-loop-place
+invariant-loop-place l =
+    let test = λ (n : ℕ). not (is_tidy l.self.section.bytes.now l.self.row n || has (numbers_of l.self.contents.arguments) n) in
+    list_all test (numbers_of l.place-iterator) ≡ list_all test (numbers_of l.self.contents.passed)

@@ -1,0 +1,11 @@
+use Rattle.std.proofs.Common.{◌≡◌, ℕ}
+use Rattle.std.specs.Prelude.{not}
+use Rattle.std.specs.List.{list_all}
+use Rattle.m3_tables.specs.Sections.{was_tidy}
+use Rattle.m3_tables.specs.Views.{numbers_of}
+use Rattle.m3_tables.proofs.section.Section.were_free.Given as goal
+
+abbrev pub invariant-loop-place : goal.invariant-loop-place
+invariant-loop-place l =
+    let test = λ (n : ℕ). not (was_tidy l.self.bytes.now l.row n) in
+    list_all test (numbers_of l.place-iterator) ≡ list_all test (numbers_of l.fn.places)

@@ -1,0 +1,10 @@
+pub mod Numbers
+pub mod Places
+pub mod Fields
+pub mod Rows
+pub mod Sections
+pub mod Views
+pub mod Tables
+pub mod Plain
+pub mod Writing
+pub mod Tabulates
