@@ -1,0 +1,11 @@
+pub mod MarksLemmas
+pub mod SpaceLemmas
+pub mod TracingLemmas
+pub mod CopyLemmas
+pub mod ScanLemmas
+pub mod StepLemmas
+pub mod WordLemmas
+pub mod TraceLemmas
+pub mod FinalLemmas
+pub mod SemiLemmas
+pub mod FinishLemmas

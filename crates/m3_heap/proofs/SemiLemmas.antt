@@ -1,0 +1,259 @@
+-- A heap of two halves between its calls.
+use Rattle.std.proofs.Common.{◌≡◌, ℕ, ◌+◌, ◌-◌, ◌*◌, ◌<◌, ◌≤◌, ◌^◌, zero, suc, Bool, true, false, cond, eqb, ltb, leb, List, [], ◌∷◌, ◌++◌, length, set, replicate, Option, Some, None, is_some, refl, sym, ap, subst, ◌∙◌, arith, ⊎_elim, length-set}
+use Rattle.std.specs.List.{AllByRecursion}
+use Rattle.std.specs.Prelude.{◌||◌, IfSome}
+use Rattle.std.specs.Option.{IfNone}
+use Rattle.std.proofs.lemmas.Bool.{cases_Bool, eq-eqb, ne_eqb, cond-true, cond-false, false≢true, and_parts, leb-true, or_parts, ltb-false}
+use Rattle.std.proofs.lemmas.List.{length-replicate}
+use Rattle.m3_heap.specs.Cells.{Cell, heap_base, header, header_of, covers, cell_from, is_start, words_from, with_word, total_words, IsHeaded}
+use Rattle.m3_heap.specs.Heap.{IsSound}
+use Rattle.m3_heap.specs.Moves.{Move, new_start, is_kept, forwarded, with_kept, kept_words}
+use Rattle.m3_heap.specs.Space.{Space, AreLaid}
+use Rattle.m3_heap.specs.Tracing.{moves_from, marked, words_kept, IsShort, Traces, old_cells, copies, moves, IsTracing, Keeps}
+use Rattle.m3_heap.specs.Scanning.{ArePlain}
+use Rattle.m3_heap.specs.Semi.{Semi, semi_heap, first_base, second_base, AreAtRest, AreMoving, IsAsOpen}
+use Rattle.m3_heap.specs.SemiView.{semi_of, IsSemi}
+use Rattle.m3_heap.specs.declared.semi_space.SemiSpace.TheInside.{Inside}
+use Rattle.m3_heap.proofs.TracingLemmas.{all_append, none_or_some, new_start-lacks, new_start-one, total-placed, total-append, moves_from-append, cells-told, copies-told, tracing-told}
+use Rattle.m3_heap.proofs.CopyLemmas.{forwarded-kept}
+use Rattle.m3_heap.proofs.FinalLemmas.{sound-cells, words-moved}
+
+pub bases-high : (semi : Inside) → IsSemi semi → (heap_base ≤ semi.here.base) × (heap_base ≤ semi.there.base) × (semi.here.base + semi.here.size ≤ 9223372036854775808) × (semi.there.base + semi.there.size ≤ 9223372036854775808)
+bases-high semi h = ⊎_elim
+    (λ (p : (semi.here.base ≡ first_base) × (semi.there.base ≡ second_base)). (omega (arith, p.0), omega (arith, p.1), omega (arith, p.0, h.small), omega (arith, p.1, h.small, h.same_size)))
+    (λ (p : (semi.here.base ≡ second_base) × (semi.there.base ≡ first_base)). (omega (arith, p.0), omega (arith, p.1), omega (arith, p.0, h.small), omega (arith, p.1, h.small, h.same_size)))
+    h.bases
+
+sound-at-rest : (here there : Space) (asked fulls : ℕ) → AreAtRest here → heap_base ≤ here.base → here.base + here.size ≤ 9223372036854775808 → here.size ≤ 67108864 → IsSound (semi_heap false here there asked fulls)
+sound-at-rest here there asked fulls h low high small = record {
+  cells = sound-cells here.base here.cells h.headed h.laid low (omega (arith, h.room));
+  free = omega arith;
+}
+
+pub semi-sound : (semi : Inside) → IsSemi semi → semi.is_open ≡ false → IsSound (semi_of semi).heap
+semi-sound semi h closed =
+    let bases = bases-high semi h in
+    let P : Bool → Type 0 = λ b. IsSound (semi_heap b semi.here semi.there semi.asked semi.fulls) in
+    let Q : Bool → Type 0 = λ b. IsAsOpen b semi.here semi.there in
+    subst P (sym closed) (sound-at-rest semi.here semi.there semi.asked semi.fulls (subst Q closed h.as_open) bases.0 bases.2 h.small)
+
+pub is-closed : (semi : Inside) (v : Semi) → semi_of semi ≡ v → v.heap.is_open ≡ false → semi.is_open ≡ false
+is-closed semi v is closed = ap (λ (s : Semi). s.heap.is_open) is ∙ closed
+
+pub is-opened : (semi : Inside) (v : Semi) → semi_of semi ≡ v → v.heap.is_open ≡ true → semi.is_open ≡ true
+is-opened semi v is opened = ap (λ (s : Semi). s.heap.is_open) is ∙ opened
+
+pub told-sound : (semi : Inside) → IsSemi semi → (v : Semi) → semi_of semi ≡ v → v.heap.is_open ≡ false → IsSound v.heap
+told-sound semi h v is closed =
+    let P : Semi → Type 0 = λ s. IsSound s.heap in
+    subst P is (semi-sound semi h (is-closed semi v is closed))
+
+pub at-rest : (semi : Inside) → IsSemi semi → semi.is_open ≡ false → AreAtRest semi.here
+at-rest semi h closed = let Q : Bool → Type 0 = λ b. IsAsOpen b semi.here semi.there in subst Q closed h.as_open
+
+pub in-motion : (semi : Inside) → IsSemi semi → semi.is_open ≡ true → AreMoving semi.here semi.there
+in-motion semi h opened = let Q : Bool → Type 0 = λ b. IsAsOpen b semi.here semi.there in subst Q opened h.as_open
+
+-- ---- a new cell
+
+laid-push : (a : ℕ) (cs : List Cell) (ws : List ℕ) → AreLaid a cs → 1 ≤ length ws → AreLaid a (cs ++ record { start = a + total_words cs; words = ws } ∷ [])
+laid-push a [] ws h some = (omega arith, some, tt)
+laid-push a (c ∷ cs) ws h some =
+    let P : ℕ → Type 0 = λ n. AreLaid (a + length c.words) (cs ++ record { start = n; words = ws } ∷ []) in
+    (h.0, h.1, subst P (omega arith) (laid-push (a + length c.words) cs ws h.2 some))
+
+pub length-new : (header count : ℕ) → 1 ≤ count → length (header ∷ replicate (count - 1) 0) ≡ count
+length-new header count some = let zeros : length {A = ℕ} (replicate (count - 1) 0) ≡ count - 1 = length-replicate (count - 1) 0 in omega arith
+
+pub rest-push : (here here' : Space) (kind count : ℕ) → AreAtRest here → kind < 2 ^ 32 → 1 ≤ count → total_words here.cells + count ≤ here.size → here'.base ≡ here.base → here'.size ≡ here.size → here'.cells ≡ here.cells ++ record { start = here.base + total_words here.cells; words = header_of kind count ∷ replicate (count - 1) 0 } ∷ [] → AreAtRest here'
+rest-push here here' kind count h small some room base size cells =
+    let cell : Cell = record { start = here.base + total_words here.cells; words = header_of kind count ∷ replicate (count - 1) 0 } in
+    let long = length-new (header_of kind count) count some in
+    let P : List Cell → Type 0 = λ l. AllByRecursion IsHeaded l in
+    let Q : List Cell → Type 0 = λ l. AreLaid here.base l in
+    let R : ℕ → Type 0 = λ n. AreLaid n here'.cells in
+    record {
+      headed = subst P (sym cells) (all_append IsHeaded here.cells (cell ∷ []) h.headed ((kind, small, ap (λ n. header_of kind n) (sym long), omega arith), tt));
+      laid = subst R (sym base) (subst Q (sym cells) (laid-push here.base here.cells cell.words h.laid (omega arith)));
+      room = omega (arith, ap total_words cells, total-append here.cells (cell ∷ []), size);
+    }
+
+-- ---- a word that is set
+
+total-set : (cs : List Cell) (at v : ℕ) → total_words (with_word cs at v) ≡ total_words cs
+total-set [] at v = refl
+total-set (c ∷ cs) at v =
+    let rest = total-set cs at v in
+    let put : Cell = record { start = c.start; words = set c.words (at - c.start) v } in
+    ⊎_elim
+    (λ (hit : covers c at ≡ true). ap (λ (d : Cell). length d.words + total_words (with_word cs at v)) (cond-true (covers c at) put c hit) ∙ ap (λ n. n + total_words (with_word cs at v)) (length-set c.words (at - c.start) v) ∙ ap (λ n. length c.words + n) rest)
+    (λ (miss : covers c at ≡ false). ap (λ (d : Cell). length d.words + total_words (with_word cs at v)) (cond-false (covers c at) put c miss) ∙ ap (λ n. length c.words + n) rest)
+    (cases_Bool (covers c at))
+
+header-kept : (ws : List ℕ) (i v : ℕ) → (i ≡ 0 → ⊥) → header (set ws i v) ≡ header ws
+header-kept [] i v h = refl
+header-kept (w ∷ ws) zero v h = absurd (h refl)
+header-kept (w ∷ ws) (suc i) v h = refl
+
+rest-set-cells : (a : ℕ) (cs : List Cell) (at v : ℕ) → is_start cs at ≡ false → AllByRecursion IsHeaded cs → AreLaid a cs → AllByRecursion IsHeaded (with_word cs at v) × AreLaid a (with_word cs at v)
+rest-set-cells a [] at v off h l = (tt, tt)
+rest-set-cells a (c ∷ cs) at v off h l =
+    let put : Cell = record { start = c.start; words = set c.words (at - c.start) v } in
+    let long = length-set c.words (at - c.start) v in
+    let differs : c.start ≡ at → ⊥ = λ (same : c.start ≡ at). false≢true (sym off ∙ ap is_some (cond-true (eqb c.start at) (Some c) (cell_from cs at) (eq-eqb c.start at same))) in
+    let later = ap is_some (sym (cond-false (eqb c.start at) (Some c) (cell_from cs at) (ne_eqb c.start at differs))) ∙ off in
+    let rest = rest-set-cells (a + length c.words) cs at v later h.1 l.2 in
+    let P : Cell → Type 0 = λ d. AllByRecursion IsHeaded (d ∷ with_word cs at v) × AreLaid a (d ∷ with_word cs at v) in
+    ⊎_elim
+    (λ (hit : covers c at ≡ true).
+    let low = leb-true c.start at (and_parts (leb c.start at) (ltb at (c.start + length c.words)) hit).0 in
+    let head = header-kept c.words (at - c.start) v (λ (none : at - c.start ≡ 0). differs (omega arith)) in
+    let R : ℕ → Type 0 = λ n. AreLaid (a + n) (with_word cs at v) in
+    subst P (sym (cond-true (covers c at) put c hit))
+    (((h.0.0, h.0.1, head ∙ h.0.2 ∙ ap (λ n. header_of h.0.0 n) (sym long), omega (arith, h.0.3)), rest.0), (l.0, omega (arith, l.1), subst R (sym long) rest.1)))
+    (λ (miss : covers c at ≡ false). subst P (sym (cond-false (covers c at) put c miss)) ((h.0, rest.0), (l.0, l.1, rest.1)))
+    (cases_Bool (covers c at))
+
+pub rest-set : (here here' : Space) (at v : ℕ) → AreAtRest here → is_start here.cells at ≡ false → here'.base ≡ here.base → here'.size ≡ here.size → here'.cells ≡ with_word here.cells at v → AreAtRest here' × (total_words here'.cells ≡ total_words here.cells)
+rest-set here here' at v h off base size cells =
+    let both = rest-set-cells here.base here.cells at v off h.headed h.laid in
+    let total = ap total_words cells ∙ total-set here.cells at v in
+    let P : List Cell → Type 0 = λ l. AllByRecursion IsHeaded l in
+    let Q : List Cell → Type 0 = λ l. AreLaid here.base l in
+    let R : ℕ → Type 0 = λ n. AreLaid n here'.cells in (
+      record {
+        headed = subst P (sym cells) both.0;
+        laid = subst R (sym base) (subst Q (sym cells) both.1);
+        room = omega (arith, h.room);
+      },
+      total,
+    )
+
+-- ---- a collection begins
+
+short-cells : (cs : List Cell) (n : ℕ) → AllByRecursion IsHeaded cs → total_words cs ≤ n → n ≤ 67108864 → AllByRecursion IsShort cs
+short-cells [] n h room small = tt
+short-cells (c ∷ cs) n h room small =
+    let head : header c.words ≡ h.0.0 + 4294967296 * length c.words = h.0.2 in
+    let kind : h.0.0 < 4294967296 = h.0.1 in
+    ((omega arith, h.0.3), short-cells cs n h.1 (omega arith) small)
+
+none-marked : (cs : List Cell) → marked [] cs ≡ cs
+none-marked [] = refl
+none-marked (c ∷ cs) = ap (λ l. c ∷ l) (none-marked cs)
+
+none-kept : (cs : List Cell) → words_kept [] cs ≡ 0
+none-kept [] = refl
+none-kept (c ∷ cs) = let rest = none-kept cs in omega arith
+
+pub begun : (here there : Space) → AreAtRest here → there.cells ≡ [] → there.size ≡ here.size → here.size ≤ 67108864 → heap_base ≤ here.base → heap_base ≤ there.base → there.base + there.size ≤ 9223372036854775808 → Traces here there here.cells []
+begun here there h none size small low low' high = record {
+  headed = h.headed;
+  short = short-cells here.cells here.size h.headed h.room small;
+  laid = h.laid;
+  fits = omega (arith, h.room);
+  left_base = low;
+  kept_base = low';
+  kept_ends = high;
+  is_marked = sym (none-marked here.cells);
+  is_placed = none;
+  are_copies = tt;
+  distinct = tt;
+  counted = sym (none-kept here.cells);
+}
+
+pub begun-moving : (here there : Space) → AreAtRest here → Traces here there here.cells [] → AreMoving here there
+begun-moving here there h t =
+    let P : List Cell → Type 0 = λ l. ArePlain (old_cells here there) l in
+    record {
+      tracing = tracing-told here there here.cells [] t;
+      plain = subst P (sym (copies-told here there here.cells [] t)) tt;
+      room = omega (arith, h.room, ap total_words (cells-told here there here.cells [] t));
+    }
+
+pub opened : (here there : Space) (asked fulls : ℕ) → Traces here there here.cells [] → semi_heap true here there asked fulls ≡ record (semi_heap false here there asked fulls) { is_open = true; moves = [] }
+opened here there asked fulls t =
+    let cells = cells-told here there here.cells [] t in
+    let none = copies-told here there here.cells [] t in
+    ap (λ ms. record (semi_heap true here there asked fulls) { moves = ms }) (ap (λ l. moves_from there.base l) none)
+    ∙ ap (λ cs. record (semi_heap false here there asked fulls) { is_open = true; moves = []; cells = cs; free = here.size - total_words cs }) cells
+
+-- ---- a root is visited
+
+pub with_kept-told : (left kept left' kept' : Space) (w to : ℕ) → Keeps left kept left' kept' w → to ≡ forwarded (moves left' kept') w → moves left' kept' ≡ with_kept (moves left kept) w to
+with_kept-told left kept left' kept' w to keeps is =
+    let ks = copies left kept in
+    let ms = moves left kept in
+    let k : Cell = record { start = w; words = words_from (old_cells left kept) w } in
+    let test = ltb w heap_base || is_kept ms w in
+    let move : Move = record { from = w; to = to } in
+    ⊎_elim
+    (λ (on : test ≡ true).
+    ap (λ b. moves_from b (copies left' kept')) keeps.kept_base ∙ ap (λ l. moves_from kept.base l) (keeps.more_copies ∙ cond-true test ks (ks ++ k ∷ []) on)
+    ∙ sym (cond-true test ms (ms ++ move ∷ []) on))
+    (λ (off : test ≡ false).
+    let parts = or_parts (ltb w heap_base) (is_kept ms w) off in
+    let n = kept.base + total_words ks in
+    let list : moves left' kept' ≡ ms ++ record { from = w; to = n } ∷ [] =
+    ap (λ b. moves_from b (copies left' kept')) keeps.kept_base ∙ ap (λ l. moves_from kept.base l) (keeps.more_copies ∙ cond-false test ks (ks ++ k ∷ []) off) ∙ moves_from-append kept.base ks (k ∷ []) in
+    let none : new_start ms w ≡ None = ⊎_elim
+    (λ (none : new_start ms w ≡ None). none)
+    (λ (some : (d : ℕ) × (new_start ms w ≡ Some d)). absurd (false≢true (sym parts.1 ∙ ap is_some some.1)))
+    (none_or_some (new_start ms w)) in
+    let found : new_start (moves left' kept') w ≡ Some n = ap (λ l. new_start l w) list ∙ new_start-lacks ms (record { from = w; to = n } ∷ []) w none ∙ new_start-one w n in
+    let same : to ≡ n = is ∙ sym (forwarded-kept (moves left' kept') w n (ltb-false w heap_base parts.0) found) in
+    list ∙ ap (λ t. ms ++ record { from = w; to = t } ∷ []) (sym same) ∙ sym (cond-false test ms (ms ++ move ∷ []) off))
+    (cases_Bool test)
+
+pub visited : (left kept left' kept' : Space) (w to asked fulls : ℕ) → Keeps left kept left' kept' w → to ≡ forwarded (moves left' kept') w → semi_heap true left' kept' asked fulls ≡ record (semi_heap true left kept asked fulls) { moves = with_kept (moves left kept) w to }
+visited left kept left' kept' w to asked fulls keeps is =
+    let list = with_kept-told left kept left' kept' w to keeps is in
+    ap (λ ms. record (semi_heap true left' kept' asked fulls) { moves = ms }) list
+    ∙ ap (λ n. record (semi_heap true left' kept' asked fulls) { moves = with_kept (moves left kept) w to; size = n; free = n - total_words (old_cells left' kept') }) keeps.left_size
+    ∙ ap (λ cs. record (semi_heap true left kept asked fulls) { moves = with_kept (moves left kept) w to; cells = cs; free = left.size - total_words cs }) keeps.same_cells
+
+plain-push : (cs ks : List Cell) (w : ℕ) (b : Bool) → ArePlain cs ks → ArePlain cs (cond b ks (ks ++ record { start = w; words = words_from cs w } ∷ []))
+plain-push cs ks w true h = h
+plain-push cs ks w false h = all_append (λ (k : Cell). k.words ≡ words_from cs k.start) ks (record { start = w; words = words_from cs w } ∷ []) h (refl, tt)
+
+pub visited-moving : (left kept left' kept' : Space) (w : ℕ) → AreMoving left kept → Keeps left kept left' kept' w → AreMoving left' kept'
+visited-moving left kept left' kept' w h keeps =
+    let cs = old_cells left kept in
+    let P : List Cell → Type 0 = λ l. ArePlain cs l in
+    let Q : List Cell → Type 0 = λ l. ArePlain l (copies left' kept') in
+    record {
+      tracing = keeps.tracing;
+      plain = subst Q (sym keeps.same_cells) (subst P (sym keeps.more_copies) (plain-push cs (copies left kept) w (ltb w heap_base || is_kept (moves left kept) w) h.plain));
+      room = omega (arith, h.room, keeps.left_size, ap total_words keeps.same_cells);
+    }
+
+-- the words of the kept cells are those of the copies
+pub words-told : (left kept : Space) → IsTracing left kept → kept_words (old_cells left kept) (moves left kept) ≡ total_words kept.cells
+words-told left kept h = words-moved (old_cells left kept) kept.base (copies left kept) h.are_copies ∙ sym (ap total_words h.is_placed ∙ total-placed kept.base (copies left kept))
+
+-- what a visit leaves, whatever it answers
+pub record IsVisited (left kept left' kept' : Space) : Type 0 where
+  pub moving : AreMoving left' kept'
+  pub same_cells : old_cells left' kept' ≡ old_cells left kept
+  pub left_base : left'.base ≡ left.base
+  pub kept_base : kept'.base ≡ kept.base
+  pub left_size : left'.size ≡ left.size
+  pub kept_size : kept'.size ≡ kept.size
+
+pub after-visit : (left kept left' kept' : Space) (w : ℕ) (o : Option ℕ) → AreMoving left kept → IfSome o (λ _. Keeps left kept left' kept' w) → IfNone o (left' ≡ left) → IfNone o (kept' ≡ kept) → IsVisited left kept left' kept'
+after-visit left kept left' kept' w None h some l k =
+    let P : Space → Type 0 = λ s. IsVisited left kept s kept' in
+    let Q : Space → Type 0 = λ s. IsVisited left kept left s in
+    subst P (sym l) (subst Q (sym k) (record { moving = h; same_cells = refl; left_base = refl; kept_base = refl; left_size = refl; kept_size = refl }))
+after-visit left kept left' kept' w (Some to) h keeps l k = record {
+  moving = visited-moving left kept left' kept' w h keeps;
+  same_cells = keeps.same_cells;
+  left_base = keeps.left_base;
+  kept_base = keeps.kept_base;
+  left_size = keeps.left_size;
+  kept_size = keeps.kept_size;
+}
+
+pub if-both : (K : Type 0) (V G : ℕ → Type 0) (o : Option ℕ) → IfSome o (λ _. K) → IfSome o V → ((to : ℕ) → K → V to → G to) → IfSome o G
+if-both K V G None k v f = tt
+if-both K V G (Some to) k v f = f to k v

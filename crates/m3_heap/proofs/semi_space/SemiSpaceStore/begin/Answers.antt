@@ -1,0 +1,44 @@
+use Rattle.std.proofs.Common.{◌≡◌, true, [], sym, ap, subst, ◌∙◌, arith, inl, inr, ⊎_elim}
+use Rattle.m3_heap.specs.Heap.{Heap, IsSound}
+use Rattle.m3_heap.specs.Semi.{Semi, first_base, second_base, AreAtRest, semi_heap}
+use Rattle.m3_heap.specs.Moves.{staying}
+use Rattle.m3_heap.specs.Tracing.{Traces}
+use Rattle.m3_heap.proofs.SemiLemmas.{told-sound, is-closed, at-rest, bases-high, begun, begun-moving, opened}
+use Rattle.m3_heap.proofs.semi_space.SemiSpaceStore.begin.Goals as goal
+
+rest : (c : goal.After-self-1) → AreAtRest c.self.inside.here
+rest c = at-rest c.self.inside c.self.invariant (is-closed c.self.inside c.args.self.now c.self.view_is c.requires.closed)
+
+traces : (c : goal.After-self-1) → Traces c.self.inside.here c.clear.new.self c.self.inside.here.cells []
+traces c =
+    let bases = bases-high c.self.inside c.self.invariant in
+    begun c.self.inside.here c.clear.new.self (rest c) c.clear.ensures.cells (c.clear.ensures.size ∙ c.self.invariant.same_size) c.self.invariant.small bases.0 (omega (arith, bases.1, c.clear.ensures.base)) (omega (arith, bases.3, c.clear.ensures.base, c.clear.ensures.size))
+
+pub invariant_of-self : goal.invariant_of-self
+invariant_of-self c = record {
+  bases = ⊎_elim
+      (λ (p : (c.self.inside.here.base ≡ first_base) × (c.self.inside.there.base ≡ second_base)). inl (p.0, c.clear.ensures.base ∙ p.1))
+      (λ (p : (c.self.inside.here.base ≡ second_base) × (c.self.inside.there.base ≡ first_base)). inr (p.0, c.clear.ensures.base ∙ p.1))
+      c.self.invariant.bases;
+  same_size = c.clear.ensures.size ∙ c.self.invariant.same_size;
+  small = c.self.invariant.small;
+  as_open = begun-moving c.self.inside.here c.clear.new.self (rest c) (traces c);
+}
+
+seen : (c : goal.After-self-1) → semi_heap true c.self.inside.here c.clear.new.self c.self.inside.asked c.self.inside.fulls ≡ record c.args.self.now.heap { is_open = true; moves = [] }
+seen c =
+    let closed = is-closed c.self.inside c.args.self.now c.self.view_is c.requires.closed in
+    opened c.self.inside.here c.clear.new.self c.self.inside.asked c.self.inside.fulls (traces c)
+    ∙ ap (λ b. record (semi_heap b c.self.inside.here c.self.inside.there c.self.inside.asked c.self.inside.fulls) { is_open = true; moves = [] }) (sym closed)
+    ∙ ap (λ (s : Semi). record s.heap { is_open = true; moves = [] }) c.self.view_is
+
+pub returns-clause-opened : goal.returns-clause-opened
+returns-clause-opened c =
+    let none = ap (λ (s : Semi). s.heap.tenured) c.self.view_is in
+    seen c ∙ ap (λ ts. record c.args.self.now.heap { is_open = true; moves = staying ts }) none
+
+pub returns-clause-sound : goal.returns-clause-sound
+returns-clause-sound c =
+    let was = told-sound c.self.inside c.self.invariant c.args.self.now c.self.view_is c.requires.closed in
+    let P : Heap → Type 0 = λ h. IsSound h in
+    subst P (sym (seen c)) (record { cells = was.cells; free = was.free })

@@ -1,0 +1,12 @@
+pub mod Cells
+pub mod Shapes
+pub mod Moves
+pub mod Reach
+pub mod Heap
+pub mod Marks
+pub mod Space
+pub mod HalfView
+pub mod Tracing
+pub mod Scanning
+pub mod Semi
+pub mod SemiView

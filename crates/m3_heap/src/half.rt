@@ -1,0 +1,184 @@
+ghost use Rattle.std.specs.Prelude.{◌≡◌, ◌+◌, ◌-◌, ◌^◌, ◌<◌, ◌≤◌, true, List, [], ◌∷◌, ◌++◌, length, take, drop, replicate, IfOk, IfSome, is_some};
+ghost use Rattle.m3_heap.specs.Cells.{header, is_start, word_at, words_from, with_word, total_words};
+ghost use Rattle.m3_heap.specs.Space.{AreLaid};
+
+use crate::marks::Marks;
+use m3_base::NoMemory;
+use std::alloc::Global;
+use std::marker::Model;
+
+/// One half of a heap's memory. Its cells follow one another from its first address on, and one mark
+/// for each word tells where a cell starts.
+#[derive(Drop)]
+pub struct Half {
+    base: u64,
+    used: usize,
+    words: Vec<u64>,
+    starts: Marks,
+}
+
+impl Model for Half {
+    ghost use Rattle.m3_heap.specs.Space.{Space};
+
+    ghost Value = { Space };
+
+    ghost use Rattle.m3_heap.specs.HalfView.{space_of, IsHalf};
+
+    ghost view = { space_of };
+
+    ghost invariant = { IsHalf };
+}
+
+// A header and zeros.
+fn write_cell(words: &mut [u64], at: usize, end: usize, header: u64)
+    requires some { at < end }
+    requires room { end ≤ length words.old }
+    ensures length { length words.new ≡ length words.old }
+    ensures words { take end words.new ≡ take at words.old ++ header ∷ replicate (end - (at + 1)) 0 }
+{
+    words[at] = header;
+    for i in at + 1..end {
+        words[i] = 0;
+    }
+}
+
+// So many words of a source, from a place on.
+fn copy_words(words: &mut [u64], at: usize, source: &[u64], first: usize, count: usize)
+    requires room { at + count ≤ length words.old }
+    requires there { first + count ≤ length source.now }
+    ensures length { length words.new ≡ length words.old }
+    ensures words { take (at + count) words.new ≡ take at words.old ++ take count (drop first source.now) }
+{
+    words[at..at + count].copy_from_slice(&source[first..first + count]);
+}
+
+impl Half {
+    /// A half of so many words without cells, from an address on.
+    pub fn new(alloc: Global, base: u64, words: usize) -> Result<Half, NoMemory>
+        requires { base + words ≤ 2 ^ 63 }
+        ensures { IfOk result (λ half. half ≡ record { base = base; size = words; cells = [] }) }
+    {
+        let starts = Marks::new(alloc, words)?;
+        let words = vec![in alloc; 0u64; words]?;
+        Ok(Half {
+            base,
+            used: 0,
+            words,
+            starts,
+        })
+    }
+
+    /// The first address.
+    pub fn base(&self) -> u64
+        ensures { result ≡ self.now.base }
+    {
+        self.base
+    }
+
+    /// The words of all cells.
+    pub fn total(&self) -> u64
+        ensures total { result ≡ total_words self.now.cells }
+        ensures room { result ≤ self.now.size }
+        ensures laid { AreLaid self.now.base self.now.cells }
+        ensures small { self.now.base + self.now.size ≤ 2 ^ 63 }
+    {
+        self.used as u64
+    }
+
+    /// The words that no cell has.
+    pub fn free(&self) -> u64
+        ensures { result + total_words self.now.cells ≡ self.now.size }
+    {
+        (self.words.len() - self.used) as u64
+    }
+
+    /// Whether a cell starts at an address.
+    pub fn is_start(&self, at: u64) -> bool
+        ensures { result ≡ is_start self.now.cells at }
+    {
+        if at < self.base || at - self.base >= self.used as u64 {
+            return false;
+        }
+        self.starts.get((at - self.base) as usize)
+    }
+
+    /// The word at an address. None comes exactly outside a cell.
+    pub fn word(&self, at: u64) -> Option<u64>
+        ensures { result ≡ word_at self.now.cells at }
+    {
+        if at < self.base || at - self.base >= self.used as u64 {
+            return None;
+        }
+        Some(self.words[(at - self.base) as usize])
+    }
+
+    /// Word 0 of the cell that starts at an address. None comes exactly where none does.
+    pub fn header(&self, at: u64) -> Option<u64>
+        ensures starts { is_some result ≡ is_start self.now.cells at }
+        ensures value { IfSome result (λ first. first ≡ header (words_from self.now.cells at)) }
+    {
+        let _laid = self.total();
+        if self.is_start(at) {
+            self.word(at)
+        } else {
+            None
+        }
+    }
+
+    /// Sets the word at an address, if it is a cell's.
+    pub fn put(&mut self, at: u64, word: u64)
+        ensures base { self.new.base ≡ self.old.base }
+        ensures size { self.new.size ≡ self.old.size }
+        ensures cells { self.new.cells ≡ with_word self.old.cells at word }
+    {
+        if at >= self.base && at - self.base < self.used as u64 {
+            let place = (at - self.base) as usize;
+            self.words[place] = word;
+        }
+    }
+
+    /// Adds a cell with a header and zeros after the last one, and tells where it starts.
+    pub fn append_zeroed(&mut self, header: u64, count: u64) -> u64
+        requires some { 1 ≤ count }
+        requires room { total_words self.old.cells + count ≤ self.old.size }
+        ensures start { result ≡ self.old.base + total_words self.old.cells }
+        ensures base { self.new.base ≡ self.old.base }
+        ensures size { self.new.size ≡ self.old.size }
+        ensures cells { self.new.cells ≡ self.old.cells ++ record { start = result; words = header ∷ replicate (count - 1) 0 } ∷ [] }
+    {
+        let at = self.used;
+        let end = at + count as usize;
+        write_cell(&mut self.words, at, end, header);
+        self.starts.start(at, end);
+        self.used = end;
+        self.base + at as u64
+    }
+
+    /// Adds a copy of a cell of another half after the last one, and tells where it starts.
+    pub fn append_copy(&mut self, source: &Half, from: u64, count: u64) -> u64
+        requires starts { is_start source.now.cells from ≡ true }
+        requires words { length (words_from source.now.cells from) ≡ count }
+        requires room { total_words self.old.cells + count ≤ self.old.size }
+        ensures start { result ≡ self.old.base + total_words self.old.cells }
+        ensures base { self.new.base ≡ self.old.base }
+        ensures size { self.new.size ≡ self.old.size }
+        ensures cells { self.new.cells ≡ self.old.cells ++ record { start = result; words = words_from source.now.cells from } ∷ [] }
+    {
+        let at = self.used;
+        let end = at + count as usize;
+        let first = (from - source.base) as usize;
+        copy_words(&mut self.words, at, &source.words, first, count as usize);
+        self.starts.start(at, end);
+        self.used = end;
+        self.base + at as u64
+    }
+
+    /// Leaves no cell.
+    pub fn clear(&mut self)
+        ensures base { self.new.base ≡ self.old.base }
+        ensures size { self.new.size ≡ self.old.size }
+        ensures cells { self.new.cells ≡ [] }
+    {
+        self.used = 0;
+    }
+}

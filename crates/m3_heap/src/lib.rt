@@ -1,0 +1,15 @@
+//! The heap: cells that a collection moves, behind one trait, and Cheney's copying collector.
+#![tactic(auto)]
+
+mod copying;
+mod half;
+mod maps;
+mod marks;
+mod semi_space;
+mod steps;
+mod store;
+
+pub use maps::Maps;
+pub use semi_space::SemiSpace;
+pub use steps::Steps;
+pub use store::Store;
