@@ -9,7 +9,7 @@ use Rattle.m3_heap.specs.Heap.{Heap, KeepsReached, MovesCells, CostsTrace}
 use Rattle.m3_heap.specs.Space.{AreLaid, Space}
 use Rattle.m3_heap.specs.Tracing.{IsCopy, old_cells, copies, moves, IsTracing}
 use Rattle.m3_heap.specs.Scanning.{AreScanned, met, Scans, Grows}
-use Rattle.m3_heap.specs.Semi.{AreAtRest, AreMoving, IsIn, IsOfHalves, Semi, UsesOtherHalf, first_base, second_base, semi_heap}
+use Rattle.m3_heap.specs.Semi.{AreAtRest, AreMoving, IsIn, IsOfHalves, Semi, first_base, second_base, semi_heap}
 use Rattle.m3_heap.specs.SemiView.{semi_of, IsSemi}
 use Rattle.m3_heap.specs.declared.semi_space.SemiSpace.TheInside.{Inside}
 use Rattle.m3_heap.proofs.TracingLemmas.{all_map}
@@ -122,10 +122,10 @@ pub semi-halves : (semi : Inside) → IsSemi semi → semi.is_open ≡ false →
 semi-halves semi h closed =
     let P : Bool → Type 0 = λ b. IsOfHalves (record { heap = semi_heap b semi.here semi.there semi.asked semi.fulls; base = semi.here.base }) in
     subst P (sym closed) (rest-halves semi.here semi.there semi.asked semi.fulls (at-rest semi h closed)
-        (⊎_elim
-            (λ (p : (semi.here.base ≡ first_base) × (semi.there.base ≡ second_base)). inl p.0)
-            (λ (p : (semi.here.base ≡ second_base) × (semi.there.base ≡ first_base)). inr p.0)
-            h.bases))
+    (⊎_elim
+    (λ (p : (semi.here.base ≡ first_base) × (semi.there.base ≡ second_base)). inl p.0)
+    (λ (p : (semi.here.base ≡ second_base) × (semi.there.base ≡ first_base)). inr p.0)
+    h.bases))
 
 pub told-halves : (semi : Inside) → IsSemi semi → (v : Semi) → semi_of semi ≡ v → v.heap.is_open ≡ false → IsOfHalves v
 told-halves semi h v is closed =
