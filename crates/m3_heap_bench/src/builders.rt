@@ -47,7 +47,12 @@ pub fn tree(alloc: Global, heap: &mut SemiSpace, nodes: u64) -> Result<(u64, u64
     for (i, node) in made.iter().enumerate() {
         let left = i.saturating_mul(2).saturating_add(1);
         set(heap, *node, 1, made.get(left).copied().unwrap_or(0));
-        set(heap, *node, 2, made.get(left.saturating_add(1)).copied().unwrap_or(0));
+        set(
+            heap,
+            *node,
+            2,
+            made.get(left.saturating_add(1)).copied().unwrap_or(0),
+        );
     }
     Ok((made.first().copied().unwrap_or(0), made.len() as u64))
 }

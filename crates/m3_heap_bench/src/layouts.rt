@@ -2,8 +2,11 @@ use m3_heap::Maps;
 
 /// The kinds of cells.
 pub const LINK: u32 = 0;
+
 pub const NODE: u32 = 1;
+
 pub const ARRAY: u32 = 2;
+
 pub const NUMBER: u32 = 3;
 
 /// Which words of these cells are pointers.

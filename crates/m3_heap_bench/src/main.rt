@@ -8,10 +8,9 @@ use builders::{array, list, tree};
 use collecting::words_moved;
 use m3_heap::{SemiSpace, Steps};
 use std::alloc::{AllocError, Global};
-use std::env;
-use std::io;
 use std::marker::Brand;
 use std::sync::ledger::{Blank, Ledger};
+use std::{env, io};
 
 mod builders;
 mod collecting;
