@@ -14,3 +14,4 @@ pub mod Refuting
 pub mod Adding
 pub mod Stepping
 pub mod Exhausting
+pub mod Measuring

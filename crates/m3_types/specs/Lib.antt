@@ -6,3 +6,4 @@ pub mod Subtypes
 pub mod Reaching
 pub mod Assignments
 pub mod Ranges
+pub mod Sizes

@@ -16,6 +16,7 @@ mod parts;
 mod reached;
 mod same;
 mod upward;
+mod words;
 
 pub use assign::Assign;
 pub use nodes::{

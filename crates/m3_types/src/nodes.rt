@@ -1,4 +1,9 @@
-use m3_base::Bytes;
+ghost use Rattle.std.specs.Prelude.{◌≡◌, ◌↔◌, ℕ, IfOk, IsTrue};
+ghost use Rattle.m3_types.specs.Sizes.{IsRight, IsSound, IsFull, IsSized, HasSize, words_to_depth};
+
+use crate::words::{known, table_of_words};
+use m3_base::{Bytes, NoMemory};
+use std::alloc::Global;
 use std::collections::BTreeSet;
 
 /// A type, by its place in the list of types.
@@ -134,9 +139,53 @@ pub struct Reveal {
 }
 
 /// All types of a program, the reveals of its opaque types, and the constants that types contain.
+/// The words of all types are told once, when it is made.
 #[derive(Drop)]
 pub struct TypeGraph {
     pub nodes: Vec<TypeNode>,
     pub reveals: Vec<Reveal>,
     pub constants: Vec<ConstValue>,
+    words: Vec<Option<u64>>,
+    ghost right: { IsRight nodes.items words.items },
+    ghost sound: { IsSound nodes.items words.items },
+    ghost full: { IsFull nodes.items words.items },
+}
+
+impl TypeGraph {
+    /// The graph of these definitions, reveals and constants.
+    pub fn new(
+        alloc: Global,
+        nodes: Vec<TypeNode>,
+        reveals: Vec<Reveal>,
+        constants: Vec<ConstValue>,
+    ) -> Result<TypeGraph, NoMemory>
+        ensures nodes { IfOk result (λ graph. graph.nodes.items ≡ nodes.items) }
+        ensures reveals { IfOk result (λ graph. graph.reveals.items ≡ reveals.items) }
+        ensures constants { IfOk result (λ graph. graph.constants.items ≡ constants.items) }
+    {
+        let words = table_of_words(alloc, &nodes)?;
+        Ok(TypeGraph {
+            nodes,
+            reveals,
+            constants,
+            words,
+        })
+    }
+
+    /// Whether a value of the type has a size: the type doesn't contain itself, holds no open array,
+    /// and neither it nor a part of it takes more than 1,000,000,000 words.
+    pub fn has_size(&self, t: TypeId) -> bool
+        ensures { IsTrue result ↔ HasSize self.now.nodes.items t.0 }
+    {
+        known(&self.words, t.0 as usize).is_some()
+    }
+
+    /// The words of a value: 1 for an ordinal or a reference, 2 for a procedure, a bit for each member
+    /// of a set's base and at least a word, and for a record or fixed array the sum of its parts.
+    pub fn words_of(&self, t: TypeId) -> u64
+        requires { HasSize self.now.nodes.items t.0 }
+        ensures { (depth : ℕ) → IsSized self.now.nodes.items depth t.0 → result ≡ words_to_depth self.now.nodes.items depth t.0 }
+    {
+        known(&self.words, t.0 as usize).unwrap_or(0)
+    }
 }

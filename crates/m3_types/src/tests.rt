@@ -210,11 +210,12 @@ fn graph(alloc: Global) -> Result<TypeGraph, Fail> {
         reveal(1, 47, 48, true),
         reveal(2, 47, 34, false),
     ]?;
-    Ok(TypeGraph {
-        nodes,
-        reveals,
-        constants: vec![in alloc; ConstValue::Ordinal(5)]?,
-    })
+    let constants = vec![in alloc; ConstValue::Ordinal(5)]?;
+    Ok(TypeGraph::new(alloc, nodes, reveals, constants)?)
+}
+
+fn plain_graph(alloc: Global, nodes: Vec<TypeNode>) -> Result<TypeGraph, Fail> {
+    Ok(TypeGraph::new(alloc, nodes, Vec::new(alloc), Vec::new(alloc))?)
 }
 
 // view, the two types, whether they are the same, whether the first is a subtype, how it is assigned
@@ -397,11 +398,7 @@ fn families(alloc: Global, count: u32, differ: bool) -> Result<TypeGraph, Fail> 
             put(&mut nodes, TypeNode::Fields(fields))?;
         }
     }
-    Ok(TypeGraph {
-        nodes,
-        reveals: Vec::new(alloc),
-        constants: Vec::new(alloc),
-    })
+    plain_graph(alloc, nodes)
 }
 
 #[test]
@@ -424,11 +421,7 @@ fn long_records(rt: HostRuntime) -> Result<(), Fail> {
         let below = if i < 2 { 0 } else { i - 1 };
         put(&mut nodes, record(alloc, b"r", below)?)?;
     }
-    let types = TypeGraph {
-        nodes,
-        reveals: Vec::new(alloc),
-        constants: Vec::new(alloc),
-    };
+    let types = plain_graph(alloc, nodes)?;
     assert!(rt; types.same(alloc, TypeId(119999), TypeId(120000))?);
     assert!(rt; !types.same(alloc, TypeId(119998), TypeId(119999))?);
     Ok(())
@@ -443,13 +436,32 @@ fn long_parents(rt: HostRuntime) -> Result<(), Fail> {
     for i in 0..60000u32 {
         put(&mut nodes, bare_object(alloc, i))?;
     }
-    let types = TypeGraph {
-        nodes,
-        reveals: Vec::new(alloc),
-        constants: Vec::new(alloc),
-    };
+    let types = plain_graph(alloc, nodes)?;
     assert!(rt; types.subtype(alloc, 0, TypeId(60000), TypeId(1))?);
     assert!(rt; types.subtype(alloc, 0, TypeId(60000), TypeId(0))?);
     assert!(rt; !types.subtype(alloc, 0, TypeId(1), TypeId(60000))?);
+    Ok(())
+}
+
+#[test]
+fn words(rt: HostRuntime) -> Result<(), Fail> {
+    let types = graph(rt.alloc())?;
+    for (place, words) in [
+        (0u32, 1u64),
+        (5, 1),
+        (12, 1),
+        (15, 4),
+        (20, 16),
+        (24, 1),
+        (37, 2),
+        (44, 1),
+        (46, 1),
+        (50, 1),
+    ] {
+        assert!(rt; types.has_size(TypeId(place)), "size of {place}");
+        assert_eq!(rt; types.words_of(TypeId(place)), words, "words of {place}");
+    }
+    // An open array has no size.
+    assert!(rt; !types.has_size(TypeId(18)));
     Ok(())
 }
