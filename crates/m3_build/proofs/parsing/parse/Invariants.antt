@@ -1,0 +1,10 @@
+use Rattle.std.proofs.Common.{length}
+use Rattle.m3_build.specs.Terms.{terms_of}
+use Rattle.m3_build.proofs.Parsings.{Leaves}
+use Rattle.m3_build.proofs.parsing.parse.Given as goal
+
+abbrev pub invariant-loop-alloc : goal.invariant-loop-alloc
+invariant-loop-alloc l = Leaves l.initial.rest (terms_of l.puts.items) l.rest
+
+abbrev pub decreases-loop-alloc : goal.decreases-loop-alloc
+decreases-loop-alloc l = length l.rest

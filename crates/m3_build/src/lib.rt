@@ -1,0 +1,14 @@
+//! From a text to code. For now the texts are those of the plain form: modules whose body prints
+//! whole numbers.
+#![tactic(auto)]
+
+mod code;
+mod lexing;
+mod parsing;
+mod plain;
+mod reading;
+mod tokens;
+
+pub use code::{PlainCode, build_plain};
+pub use plain::{Arith, Plain, PlainRefused};
+pub use reading::read_plain;
