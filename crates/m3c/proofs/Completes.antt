@@ -1,0 +1,107 @@
+-- Completeness follows from the table.
+use Rattle.std.proofs.Common.{◌≡◌, ℕ, ◌<◌, ◌≤◌, ◌==◌, ◌||◌, Bool, true, false, List, length, Option, None, Some, refl, sym, ap, ◌∙◌, subst, inl, inr, ◌⊎◌, arith}
+use Rattle.std.specs.Prelude.{IfSome, IsSomeAnd}
+use Rattle.std.specs.FinMap.{get}
+use Rattle.std.proofs.lemmas.Bool.{false≢true}
+use Rattle.std.proofs.lemmas.Bool.Decides.{nat_tests}
+use Rattle.m3_base.specs.declared.outcomes.FaultKind.TheVariants.{Overflow}
+use Rattle.m3_base.specs.declared.outcomes.Outcome.{Outcome}
+use Rattle.m3_base.specs.declared.outcomes.Outcome.TheVariants.{Done, Fault}
+use Rattle.m3_ports.specs.Files.{Files, IsNotHeld, IsHeldOver}
+use Rattle.m3_build.specs.Terms.{Term, outcome_of}
+use Rattle.m3_build.specs.PlainForm.{IsPlain}
+use Rattle.m3c.specs.Command.{Call, CountRose, IsSilent, IsRead, Ran, Answers, end_status, Promises, file_cap}
+
+or_parts : (a b : Bool) → (a || b) ≡ true → (a ≡ true) ⊎ (b ≡ true)
+or_parts true b e = inl refl
+or_parts false b e = inr e
+
+same_number : (a b : ℕ) → (a == b) ≡ true → b ≡ a
+same_number a b e = grind (arith, nat_tests)
+
+some_same : {A : Type 0} (x y : A) → Some x ≡ Some y → x ≡ y
+some_same x y e = cc
+
+some_none : {A : Type 0} (x : A) → Some x ≡ None → ⊥
+some_none x e = cc
+
+held_text : (told : Option Files) (files : Files) (name text : List ℕ) → told ≡ Some files → IfSome told (λ f. get f name ≡ Some text) → get files name ≡ Some text
+held_text told files name text e h = subst (λ o. IfSome o (λ f. get f name ≡ Some text)) e h
+
+same_text : (call : Call) (files : Files) (name text name' text' : List ℕ) → call.file ≡ Some name → call.held ≡ Some files → get files name ≡ Some text → IsRead call name' text' → text ≡ text'
+same_text call files name text name' text' f h g r =
+    let n : name' ≡ name = some_same name' name (sym r.named ∙ f) in
+    let g' = held_text call.held files name' text' h r.held in
+    some_same text text' (sym g ∙ ap (λ x. get files x) (sym n) ∙ g')
+
+same_run : (call : Call) (files : Files) (name text : List ℕ) (puts : List Term) (outcome : Outcome) → call.file ≡ Some name → call.held ≡ Some files → get files name ≡ Some text → IsPlain text puts → Ran call outcome → outcome ≡ outcome_of puts
+same_run call files name text puts outcome f h g p r =
+    let t = same_text call files name text r.name r.text f h g r.read in
+    sym r.ends ∙ ap outcome_of (sym (r.only puts (subst (λ x. IsPlain x puts) t p)))
+
+module _ (call : Call) (status : ℕ) (table : Answers call status) (files : Files) (name text : List ℕ) (puts : List Term) (f : call.file ≡ Some name) (h : call.held ≡ Some files) (g : get files name ≡ Some text) (short : length text ≤ file_cap) (p : IsPlain text puts) (no_fault : CountRose call.faults → ⊥) (no_out : CountRose call.out_faults → ⊥) (no_err : CountRose call.err_faults → ⊥) where
+  abbrev Complete : Type 0
+  Complete = ((status ≡ end_status (outcome_of puts)) × Ran call (outcome_of puts)) ⊎ ((status ≡ 5) × IsSilent call)
+
+  at_0 : status ≡ 0 → Complete
+  at_0 e =
+      let r = table.done e in
+      let o = same_run call files name text puts Done f h g p r in
+      inl (e ∙ ap end_status o, subst (λ x. Ran call x) o r)
+
+  at_10 : status ≡ 10 → Complete
+  at_10 e =
+      let r = table.fault e in
+      let o = same_run call files name text puts (Fault Overflow 0 r.0) f h g p r.1 in
+      inl (e ∙ ap end_status o, subst (λ x. Ran call x) o r.1)
+
+  at_1 : status ≡ 1 → Complete
+  at_1 e =
+      let n = table.not_built e in
+      absurd (n.other puts (subst (λ x. IsPlain x puts) (same_text call files name text n.name n.text f h g n.read) p))
+
+  at_2 : status ≡ 2 → Complete
+  at_2 e = let u = table.usage e in absurd (some_none name (sym f ∙ u.0))
+
+  at_4 : status ≡ 4 → Complete
+  at_4 e = absurd (no_rise (table.write_fault e))
+    where
+      no_rise : CountRose call.out_faults ⊎ CountRose call.err_faults → ⊥
+      no_rise (inl r) = no_out r
+      no_rise (inr r) = no_err r
+
+  at_6 : status ≡ 6 → Complete
+  at_6 e =
+      let a = table.absent e in
+      let n : a.name ≡ name = some_same a.name name (sym a.named ∙ f) in
+      let free : IsNotHeld files a.name = subst (λ o. IfSome o (λ x. IsNotHeld x a.name)) h a.holds.1 in
+      absurd (some_none text (sym g ∙ ap (λ x. get files x) (sym n) ∙ free))
+
+  at_7 : status ≡ 7 → Complete
+  at_7 e =
+      let a = table.too_long e in
+      let n : a.name ≡ name = some_same a.name name (sym a.named ∙ f) in
+      let over : IsHeldOver files a.name file_cap = subst (λ o. IfSome o (λ x. IsHeldOver x a.name file_cap)) h a.holds.1 in
+      let over' : IsSomeAnd (Some text) (λ bytes. file_cap < length bytes) = subst (λ o. IsSomeAnd o (λ bytes. file_cap < length bytes)) (ap (λ x. get files x) n ∙ g) over in
+      absurd (omega (arith, over', short))
+
+  complete : Complete
+  complete =
+      split (0 == status) _ (λ e. at_0 (same_number 0 status e)) (λ r.
+      split (1 == status) _ (λ e. at_1 (same_number 1 status e)) (λ r.
+      split (2 == status) _ (λ e. at_2 (same_number 2 status e)) (λ r.
+      split (3 == status) _ (λ e. let a = table.read_fault (same_number 3 status e) in absurd (no_fault a.holds)) (λ r.
+      split (4 == status) _ (λ e. at_4 (same_number 4 status e)) (λ r.
+      split (5 == status) _ (λ e. let n = table.no_memory (same_number 5 status e) in inr (same_number 5 status e, n.0)) (λ r.
+      split (6 == status) _ (λ e. at_6 (same_number 6 status e)) (λ r.
+      split (7 == status) _ (λ e. at_7 (same_number 7 status e)) (λ r.
+      split (10 == status) _ (λ e. at_10 (same_number 10 status e)) (λ r. absurd (false≢true r)) r) r) r) r) r) r) r) r) table.known
+    where
+      split : (a b : Bool) → (a ≡ true → Complete) → (b ≡ true → Complete) → (a || b) ≡ true → Complete
+      split a b x y e = elim (or_parts a b e) [ inl t ↦ x t | inr t ↦ y t ]
+
+pub promised : (call : Call) (status : ℕ) → Answers call status → Promises call status
+promised call status table = record {
+  table = table;
+  complete = λ files name text puts f h g short p a b c. complete call status table files name text puts f h g short p a b c;
+}

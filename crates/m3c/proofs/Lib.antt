@@ -1,0 +1,6 @@
+pub mod FirstWords
+pub mod Turns
+pub mod Loops
+pub mod Ends
+pub mod Rows
+pub mod Completes

@@ -1,0 +1,150 @@
+-- What the command answers: a row for each status, over what the words say, what the shelf tells that it
+-- holds, which counts rose, and what the sinks took.
+use Rattle.std.specs.Prelude.{ℕ, ◌≡◌, ◌≤◌, ◌==◌, ◌&&◌, ◌⊎◌, Bool, false, not, if◌then◌else◌, Option, None, Some, IfSome, List, [], ◌∷◌, ◌++◌, length, codes, decimal, IsTrue}
+use Rattle.std.specs.List.{list_any}
+use Rattle.std.specs.Str.{bytes_eq}
+use Rattle.std.specs.FinMap.{get}
+use Rattle.m3_base.specs.declared.outcomes.FaultKind.TheVariants.{Overflow}
+use Rattle.m3_base.specs.declared.outcomes.Outcome.{Outcome}
+use Rattle.m3_base.specs.declared.outcomes.Outcome.TheVariants.{Done, Fault}
+use Rattle.m3_base.specs.Faults.{name_of_fault}
+use Rattle.m3_ports.specs.Counts.{Rose}
+use Rattle.m3_ports.specs.Files.{Files, IsNotHeld, IsHeldOver}
+use Rattle.m3_isa.specs.declared.instructions.Instr.{Instr}
+use Rattle.m3_build.specs.Terms.{Term, output_of, points_of, outcome_of}
+use Rattle.m3_build.specs.PlainForm.{IsPlain}
+use Rattle.m3_build.specs.Machine.{Puts}
+
+-- ---- the words
+
+-- a name isn't empty and doesn't begin with `-`
+abbrev pub is_name : List ℕ → Bool
+is_name [] = false
+is_name (b ∷ bytes) = not (b == 45)
+
+-- the file that the words name, where they are a command line: exec FILE
+abbrev pub file_of : List (List ℕ) → Option (List ℕ)
+file_of [] = None
+file_of (command ∷ []) = None
+file_of (command ∷ file ∷ []) = if bytes_eq command (codes "exec") && is_name file then Some file else None
+file_of (command ∷ file ∷ more ∷ words) = None
+
+-- the most bytes that a file may have
+abbrev pub file_cap : ℕ
+file_cap = 1048576
+
+-- ---- what happened outside
+
+-- the file that the words name, what the shelf tells that it holds, and pairs of what was before the call
+-- and after it: three counts of the shelf, and for out and err what they tell that they took and the
+-- counts of their faults
+pub record Call : Type 0 where
+  pub file : Option (List ℕ)
+  pub held : Option Files
+  pub faults : ℕ × ℕ
+  pub absences : ℕ × ℕ
+  pub excesses : ℕ × ℕ
+  pub out : Option (List ℕ) × Option (List ℕ)
+  pub out_faults : ℕ × ℕ
+  pub err : Option (List ℕ) × Option (List ℕ)
+  pub err_faults : ℕ × ℕ
+
+abbrev pub CountRose : ℕ × ℕ → Type 0
+CountRose count = Rose count.0 count.1
+
+-- a sink took these bytes, where it tells them
+abbrev pub Took : Option (List ℕ) × Option (List ℕ) → List ℕ → Type 0
+Took taken bytes = IfSome taken.0 (λ before. taken.1 ≡ Some (before ++ bytes))
+
+-- out has what it had
+abbrev pub IsSilent : Call → Type 0
+IsSilent call = call.out.1 ≡ call.out.0
+
+-- err took one line
+abbrev pub Says : Call → List ℕ → Type 0
+Says call line = Took call.err (line ++ codes "\n")
+
+-- the words name this file, which was read: these are its bytes, where the shelf tells them
+pub record IsRead (call : Call) (name text : List ℕ) : Type 0 where
+  pub named : call.file ≡ Some name
+  pub short : length text ≤ file_cap
+  pub held : IfSome call.held (λ files. get files name ≡ Some text)
+
+-- ---- a run
+
+-- the words of an outcome in the report, where a fault names its file; no other outcome comes yet
+abbrev pub ending : List ℕ → Outcome → List ℕ
+ending name Done = codes "done"
+ending name (Fault kind file line) = codes "fault " ++ name_of_fault kind ++ codes " " ++ name ++ codes ":" ++ decimal line
+ending name _ = []
+
+-- the report of a run: how it ended, the points passed and the instructions executed
+abbrev pub report : List ℕ → Outcome → ℕ → ℕ → List ℕ
+report name outcome points instructions =
+    ending name outcome ++ codes " points " ++ decimal points ++ codes " instructions " ++ decimal instructions
+
+-- the file is in the plain form, and its puts end so: out took the values in decimal, and the report has
+-- the counts of the run of a code that does what the puts say
+pub record Ran (call : Call) (outcome : Outcome) : Type 0 where
+  pub name : List ℕ
+  pub text : List ℕ
+  pub read : IsRead call name text
+  pub puts : List Term
+  pub plain : IsPlain text puts
+  pub only : (others : List Term) → IsPlain text others → others ≡ puts
+  pub ends : outcome_of puts ≡ outcome
+  pub code : List Instr
+  pub lines : List ℕ
+  pub built : Puts puts code lines
+  pub output : Took call.out (output_of puts)
+  pub says : Says call (report name outcome (points_of puts) built.last.instructions)
+
+-- ---- the table
+
+-- the file can't be fetched, for a cause: err names it
+pub record Refuses (call : Call) (cause : List ℕ) (Holds : List ℕ → Type 0) : Type 0 where
+  pub name : List ℕ
+  pub named : call.file ≡ Some name
+  pub holds : Holds name
+  pub silent : IsSilent call
+  pub says : Says call (cause ++ codes " " ++ name)
+
+-- the file is no text of the plain form
+pub record NotPlain (call : Call) : Type 0 where
+  pub name : List ℕ
+  pub text : List ℕ
+  pub read : IsRead call name text
+  pub other : (puts : List Term) → IsPlain text puts → ⊥
+  pub silent : IsSilent call
+  pub says : Says call (name ++ codes ":1:1: rule 99 not built yet")
+
+-- each status, and when it comes
+pub record Answers (call : Call) (status : ℕ) : Type 0 where
+  pub known : IsTrue (list_any (λ s. s == status) (0 ∷ 1 ∷ 2 ∷ 3 ∷ 4 ∷ 5 ∷ 6 ∷ 7 ∷ 10 ∷ []))
+  pub done : status ≡ 0 → Ran call Done
+  pub not_built : status ≡ 1 → NotPlain call
+  pub usage : status ≡ 2 → (call.file ≡ None) × IsSilent call × Says call (codes "usage: m3c build, run, exec, dump or bench")
+  pub read_fault : status ≡ 3 → Refuses call (codes "read fault") (λ name. CountRose call.faults)
+  pub write_fault : status ≡ 4 → CountRose call.out_faults ⊎ CountRose call.err_faults
+  pub no_memory : status ≡ 5 → IsSilent call × Says call (codes "out of memory")
+  pub absent : status ≡ 6 → Refuses call (codes "absent") (λ name. CountRose call.absences × IfSome call.held (λ files. IsNotHeld files name))
+  pub too_long : status ≡ 7 → Refuses call (codes "too long") (λ name. CountRose call.excesses × IfSome call.held (λ files. IsHeldOver files name file_cap))
+  pub fault : status ≡ 10 → (line : ℕ) × Ran call (Fault Overflow 0 line)
+
+-- the status of an end that the plain form has: Done, or a fault
+abbrev pub end_status : Outcome → ℕ
+end_status Done = 0
+end_status _ = 10
+
+-- completeness: a file that is held within its cap and is in the plain form, where no count of faults
+-- rises, is run to the end of its puts, or memory ran out before any output
+abbrev pub IsComplete : Call → ℕ → Type 0
+IsComplete call status =
+    (files : Files) (name text : List ℕ) (puts : List Term) → call.file ≡ Some name → call.held ≡ Some files → get files name ≡ Some text → length text ≤ file_cap → IsPlain text puts
+    → ¬ CountRose call.faults → ¬ CountRose call.out_faults → ¬ CountRose call.err_faults
+    → ((status ≡ end_status (outcome_of puts)) × Ran call (outcome_of puts)) ⊎ ((status ≡ 5) × IsSilent call)
+
+-- the table, and completeness
+pub record Promises (call : Call) (status : ℕ) : Type 0 where
+  pub table : Answers call status
+  pub complete : IsComplete call status

@@ -1,0 +1,4 @@
+pub mod Stacks
+pub mod Command
+pub mod Running
+pub mod Compiled

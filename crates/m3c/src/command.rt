@@ -1,0 +1,193 @@
+// The command: its words, its files and its answer.
+
+ghost use Rattle.std.specs.Prelude.{◌≡◌, ◌+◌, ◌≤◌, ◌++◌, [], ◌⊎◌, ℕ, List, Option, Some, None, Result, length, codes, map, string_bytes, vec_len, vec_capacity, IfOk, MatchOption, IsErrOf};
+ghost use Rattle.m3_base.specs.declared.outcomes.Outcome.TheVariants.{Done, Fault};
+ghost use Rattle.m3_base.specs.declared.outcomes.FaultKind.TheVariants.{Overflow};
+ghost use Rattle.m3_ports.specs.Counts.{Rose};
+ghost use Rattle.m3_ports.specs.declared.shelves.ShelfFault.TheVariants.{Absent, TooLong, Failed, NoMemory};
+ghost use Rattle.m3_build.specs.Terms.{Term};
+ghost use Rattle.m3_build.specs.PlainForm.{IsPlain};
+ghost use Rattle.m3c.specs.Command.{file_of, is_name, Took, Answers, Promises};
+ghost use Rattle.m3c.specs.Compiled.{Compiles, refusal, refusal_status};
+
+use crate::machine::run;
+use crate::report::{LINE_ROOM, add, add_report};
+use crate::stack::Stack;
+use m3_build::{PlainCode, PlainRefused, build_plain, read_plain};
+use m3_ports::{Shelf, ShelfFault, Sink};
+use std::alloc::Global;
+
+// The statuses that the command ends with, beside those of a run.
+const NOT_BUILT: u8 = 1;
+
+const USAGE: u8 = 2;
+
+const READ_FAULT: u8 = 3;
+
+const WRITE_FAULT: u8 = 4;
+
+const NO_MEMORY: u8 = 5;
+
+const ABSENT: u8 = 6;
+
+const TOO_LONG: u8 = 7;
+
+// The most bytes that a file may have.
+const FILE_CAP: u64 = 1_048_576;
+
+/// Carries out the command that the words give, without the program's name, and gives its status.
+///
+/// For now the one command is `exec FILE`, with a FILE in the plain form: its text is compiled and run,
+/// its output goes to `out`, and one line goes to `err`. `image` stays empty. No status but 4 comes
+/// where a sink failed.
+pub fn m3c<F: Shelf, O: Sink, E: Sink>(
+    alloc: Global,
+    words: Vec<String>,
+    shelf: &mut F,
+    out: &mut O,
+    err: &mut E,
+    image: &mut Vec<u8>,
+) -> u8
+    requires { image.old.items ≡ [] }
+    ensures promises { Promises (record {
+      file = file_of (map string_bytes words.items);
+      held = F.held shelf.old;
+      faults = (F.faults shelf.old, F.faults shelf.new);
+      absences = (F.absences shelf.old, F.absences shelf.new);
+      excesses = (F.excesses shelf.old, F.excesses shelf.new);
+      out = (O.taken out.old, O.taken out.new);
+      out_faults = (O.faults out.old, O.faults out.new);
+      err = (E.taken err.old, E.taken err.new);
+      err_faults = (E.faults err.old, E.faults err.new);
+    }) result }
+    ensures held { F.held shelf.new ≡ F.held shelf.old }
+    ensures image { image.new.items ≡ [] }
+{
+    let Some(name) = file_word(words.as_slice()) else {
+        return tell(err, USAGE, b"usage: m3c build, run, exec, dump or bench\n");
+    };
+    let Ok(mut line) = Vec::with_capacity(alloc, name.len() + LINE_ROOM) else {
+        return tell(err, NO_MEMORY, b"out of memory\n");
+    };
+    let status = execute(alloc, name, shelf, out, &mut line);
+    tell(err, status, line.as_slice())
+}
+
+// The file that the words name, where they are a command line.
+fn file_word(words: &[String]) -> Option<&str>
+    ensures { MatchOption result (file_of (map string_bytes words.now) ≡ None)
+        (λ name. file_of (map string_bytes words.now) ≡ Some name.now) }
+{
+    match words {
+        [command, file] if command.as_str() == "exec" && is_name(file.as_bytes()) => {
+            Some(file.as_str())
+        }
+        _ => None,
+    }
+}
+
+fn is_name(word: &[u8]) -> bool
+    ensures { result ≡ is_name word.now }
+{
+    match word {
+        [first, ..] => *first != b'-',
+        [] => false,
+    }
+}
+
+// Puts the line, and gives the status, or that of a write fault.
+fn tell<E: Sink>(err: &mut E, status: u8, line: &[u8]) -> u8
+    ensures { ((result ≡ status) × Took (E.taken err.old, E.taken err.new) line.now)
+        ⊎ ((result ≡ 4) × Rose (E.faults err.old) (E.faults err.new)) }
+{
+    match err.put(line) {
+        Ok(()) => status,
+        Err(_) => WRITE_FAULT,
+    }
+}
+
+// Fetches the file, compiles it and runs it. The line for err is added, and the status given.
+fn execute<F: Shelf, O: Sink>(
+    alloc: Global,
+    name: &str,
+    shelf: &mut F,
+    out: &mut O,
+    line: &mut Vec<u8>,
+) -> u8
+    requires empty { line.old.items ≡ [] }
+    requires room { length name.now + 128 ≤ vec_capacity line.old }
+    ensures answers { Answers (record {
+      file = Some name.now;
+      held = F.held shelf.old;
+      faults = (F.faults shelf.old, F.faults shelf.new);
+      absences = (F.absences shelf.old, F.absences shelf.new);
+      excesses = (F.excesses shelf.old, F.excesses shelf.new);
+      out = (O.taken out.old, O.taken out.new);
+      out_faults = (O.faults out.old, O.faults out.new);
+      err = (Some [], Some line.new.items);
+      err_faults = (0, 0);
+    }) result }
+    ensures held { F.held shelf.new ≡ F.held shelf.old }
+{
+    let mut text = Vec::new(alloc);
+    if let Err(fault) = shelf.fetch(alloc, name, FILE_CAP, &mut text) {
+        return refuse(fault, name, line);
+    }
+    let built = match compile(alloc, text.as_slice()) {
+        Ok(built) => built,
+        Err(PlainRefused::NotBuilt) => {
+            add(line, name.as_bytes());
+            add(line, b":1:1: rule 99 not built yet\n");
+            return NOT_BUILT;
+        }
+        Err(PlainRefused::NoMemory) => {
+            add(line, b"out of memory\n");
+            return NO_MEMORY;
+        }
+    };
+    let Ok(stack) = Stack::new(alloc) else {
+        add(line, b"out of memory\n");
+        return NO_MEMORY;
+    };
+    match run(stack, &built, out) {
+        Ok(ended) => add_report(line, name, ended),
+        Err(_) => {
+            add(line, b"write fault\n");
+            WRITE_FAULT
+        }
+    }
+}
+
+// Adds the line of a fetch that failed, and gives the status.
+fn refuse(fault: ShelfFault, name: &str, line: &mut Vec<u8>) -> u8
+    requires empty { line.old.items ≡ [] }
+    requires room { length name.now + 128 ≤ vec_capacity line.old }
+    ensures line { line.new.items ≡ refusal fault name.now ++ codes "\n" }
+    ensures status { result ≡ refusal_status fault }
+{
+    let (cause, status): (&[u8], u8) = match fault {
+        ShelfFault::Absent => (b"absent ", ABSENT),
+        ShelfFault::TooLong => (b"too long ", TOO_LONG),
+        ShelfFault::Failed => (b"read fault ", READ_FAULT),
+        ShelfFault::NoMemory => {
+            add(line, b"out of memory\n");
+            return NO_MEMORY;
+        }
+    };
+    add(line, cause);
+    add(line, name.as_bytes());
+    add(line, b"\n");
+    status
+}
+
+// The code of a text of the plain form.
+fn compile(alloc: Global, text: &[u8]) -> Result<PlainCode, PlainRefused>
+    ensures ok { IfOk result (λ built. Compiles text.now built.code.items built.lines.items) }
+    ensures not_built { IsErrOf result PlainRefused.NotBuilt → (puts : List Term) → IsPlain text.now puts → ⊥ }
+{
+    let puts = read_plain(alloc, text)?;
+    match build_plain(alloc, puts.as_slice()) {
+        Ok(built) => Ok(built),
+        Err(_) => Err(PlainRefused::NoMemory),
+    }
+}

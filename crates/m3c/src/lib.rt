@@ -1,0 +1,12 @@
+//! The command `m3c`: from words, files and sinks to a status.
+#![tactic(auto)]
+
+mod command;
+mod machine;
+mod report;
+mod stack;
+
+pub use command::m3c;
+
+#[cfg(test)]
+mod tests;
