@@ -14,7 +14,14 @@ fn main(rt: HostRuntime) -> io::Result<ExitCode> {
     let mut out = StdSink::out(rt.stdout());
     let mut err = StdSink::err(rt.stderr());
     let mut image = Vec::new(rt.alloc());
-    let status = m3c(rt.alloc(), words, &mut shelf, &mut out, &mut err, &mut image);
+    let status = m3c(
+        rt.alloc(),
+        words,
+        &mut shelf,
+        &mut out,
+        &mut err,
+        &mut image,
+    );
     Ok(ExitCode::from(status))
 }
 
