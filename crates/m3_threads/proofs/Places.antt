@@ -1,0 +1,368 @@
+-- The place of a thread in a list.
+use Rattle.std.proofs.Common.{◌≡◌, ◌≢◌, ℕ, zero, suc, ◌+◌, ◌<◌, ◌≤◌, ◌==◌, List, [], ◌∷◌, length, Some, None, Bool, true, false, cond, ◌&&◌, ◌||◌, map, take, drop, ◌++◌, add-one, nat_le, nat_lt, refl, sym, ap, subst, ◌∙◌, inl, inr, ◌⊎◌, IsSome, arith, get_or, ◌-◌, ◌*◌, mul_comm}
+use Rattle.std.specs.Prelude.{find, slice_get, slice_set, remove}
+use Rattle.m3_threads.specs.Actions.{without, uses, woken, woken_on, sleeps_on}
+use Rattle.std.specs.List.{list_any}
+use Rattle.std.proofs.lemmas.Bool.{eq-eqb, ne_eqb, eqb-true, cases_lt}
+use Rattle.std.proofs.lemmas.Option.{slice_get-get_or, slice_get_past}
+use Rattle.m3_threads.specs.declared.status.Thread.{Thread}
+use Rattle.m3_threads.specs.All.{is_named, updated, base_of, IsSound}
+use Rattle.m3_threads.specs.Places.{IsPlaceOf, IsNobody, IsOwnerAt}
+use Rattle.m3_threads.specs.Spaces.{covers}
+use Rattle.std.proofs.lemmas.Bool.Decides.{nat_tests}
+use Rattle.std.proofs.lemmas.Nat.{mul-add-lt}
+
+-- no thread below k has the number
+pub record Passed (n : ℕ) (threads : List Thread) (k : ℕ) : Type 0 where
+  pub others : (j : ℕ) (t : Thread) → j < k → slice_get threads j ≡ Some t → t.number ≢ n
+
+some_same : {A : Type 0} {x y : A} → Some x ≡ Some y → x ≡ y
+some_same e = cc
+
+tail : (n : ℕ) (x : Thread) (xs : List Thread) (k : ℕ) → Passed n (x ∷ xs) (suc k) → Passed n xs k
+tail n x xs k h = record { others = λ j t l e. h.others (suc j) t (omega arith) e }
+
+head : (n : ℕ) (x : Thread) (xs : List Thread) (k : ℕ) → Passed n (x ∷ xs) (suc k) → (x.number == n) ≡ false
+head n x xs k h = ne_eqb x.number n (h.others 0 x (omega arith) refl)
+
+found_here : (n : ℕ) (ts : List Thread) (k : ℕ) (t : Thread) → Passed n ts k → slice_get ts k ≡ Some t → t.number ≡ n → find (is_named n) ts ≡ slice_get ts k
+found_here n [] k t h e m = refl
+found_here n (x ∷ xs) zero t h e m =
+    ap (λ b. cond b (Some x) (find (is_named n) xs)) (eq-eqb x.number n (ap (λ u. u.number) (some_same e) ∙ m))
+found_here n (x ∷ xs) (suc k) t h e m =
+    ap (λ b. cond b (Some x) (find (is_named n) xs)) (head n x xs k h) ∙ found_here n xs k t (tail n x xs k h) e m
+
+changed_here : (n : ℕ) (ts : List Thread) (k : ℕ) (t : Thread) (f : Thread → Thread) → Passed n ts k → slice_get ts k ≡ Some t → t.number ≡ n → updated f n ts ≡ slice_set ts k (f t)
+changed_here n [] k t f h e m = cc
+changed_here n (x ∷ xs) zero t f h e m =
+    ap (λ b. cond b (f x ∷ xs) (x ∷ updated f n xs)) (eq-eqb x.number n (ap (λ u. u.number) (some_same e) ∙ m)) ∙ ap (λ u. f u ∷ xs) (some_same e)
+changed_here n (x ∷ xs) (suc k) t f h e m =
+    ap (λ b. cond b (f x ∷ xs) (x ∷ updated f n xs)) (head n x xs k h) ∙ ap (λ us. x ∷ us) (changed_here n xs k t f (tail n x xs k h) e m)
+
+cut_here : (n : ℕ) (ts : List Thread) (k : ℕ) (t : Thread) → Passed n ts k → slice_get ts k ≡ Some t → t.number ≡ n → without n ts ≡ remove ts k
+cut_here n [] k t h e m = cc
+cut_here n (x ∷ xs) zero t h e m =
+    ap (λ b. cond b xs (x ∷ without n xs)) (eq-eqb x.number n (ap (λ u. u.number) (some_same e) ∙ m))
+cut_here n (x ∷ xs) (suc k) t h e m =
+    ap (λ b. cond b xs (x ∷ without n xs)) (head n x xs k h) ∙ ap (λ us. x ∷ us) (cut_here n xs k t (tail n x xs k h) e m)
+
+get_within : (ts : List Thread) (k : ℕ) (t : Thread) → slice_get ts k ≡ Some t → k < length ts
+get_within ts k t e = elim (cases_lt k (length ts)) [ inl low ↦ low | inr past ↦ let gone = slice_get_past ts k past in cc ]
+
+pub place_here : (n : ℕ) (ts : List Thread) (k : ℕ) (t : Thread) → Passed n ts k → slice_get ts k ≡ Some t → t.number ≡ n → IsPlaceOf n ts k
+place_here n ts k t h e m = record {
+  within = get_within ts k t e;
+  found = found_here n ts k t h e m;
+  change = λ f u g. changed_here n ts k u f h g (ap (λ v. v.number) (some_same (sym g ∙ e)) ∙ m);
+  cut = cut_here n ts k t h e m;
+}
+
+pub place_more : (n : ℕ) (ts : List Thread) (k : ℕ) (t : Thread) → Passed n ts k → slice_get ts k ≡ Some t → t.number ≢ n → Passed n ts (k + 1)
+place_more n ts k t h e m = record {
+  others = λ j u l g. elim (cases_lt j k) [
+    | inl low ↦ h.others j u low g
+    | inr high ↦
+        let same : j ≡ k = omega arith in
+        λ v. m (ap (λ w. w.number) (some_same (sym e ∙ ap (slice_get ts) (sym same) ∙ g)) ∙ v)
+  ];
+}
+
+pub nobody : (n : ℕ) (ts : List Thread) (k : ℕ) → length ts ≤ k → Passed n ts k → find (is_named n) ts ≡ None
+nobody n [] k l h = refl
+nobody n (x ∷ xs) zero l h = absurd (omega arith)
+nobody n (x ∷ xs) (suc k) l h =
+    ap (λ b. cond b (Some x) (find (is_named n) xs)) (head n x xs k h) ∙ nobody n xs k (omega arith) (tail n x xs k h)
+
+pub passed_none : (n : ℕ) (ts : List Thread) → Passed n ts 0
+passed_none n ts = record { others = λ j t l e. absurd (omega arith) }
+
+-- no thread below k has the address in its stack
+pub record Uncovered (stack at : ℕ) (threads : List Thread) (k : ℕ) : Type 0 where
+  pub others : (j : ℕ) (t : Thread) → j < k → slice_get threads j ≡ Some t → covers stack at t ≡ false
+
+uncovered_tail : (stack at : ℕ) (x : Thread) (xs : List Thread) (k : ℕ) → Uncovered stack at (x ∷ xs) (suc k) → Uncovered stack at xs k
+uncovered_tail stack at x xs k h = record { others = λ j t l e. h.others (suc j) t (omega arith) e }
+
+owner_found : (stack at : ℕ) (ts : List Thread) (k : ℕ) (t : Thread) → Uncovered stack at ts k → slice_get ts k ≡ Some t → covers stack at t ≡ true → find (covers stack at) ts ≡ slice_get ts k
+owner_found stack at [] k t h e m = refl
+owner_found stack at (x ∷ xs) zero t h e m =
+    ap (λ b. cond b (Some x) (find (covers stack at) xs)) (ap (covers stack at) (some_same e) ∙ m)
+owner_found stack at (x ∷ xs) (suc k) t h e m =
+    ap (λ b. cond b (Some x) (find (covers stack at) xs)) (h.others 0 x (omega arith) refl)
+    ∙ owner_found stack at xs k t (uncovered_tail stack at x xs k h) e m
+
+covered_between : (base stack at : ℕ) → (nat_le base at && nat_lt at (base + stack)) ≡ true → (base ≤ at) × (at < base + stack)
+covered_between base stack at e = (grind (arith, nat_tests), grind (arith, nat_tests))
+
+pub owner_here : (stack at : ℕ) (ts : List Thread) (k : ℕ) (t : Thread) → Uncovered stack at ts k → slice_get ts k ≡ Some t → covers stack at t ≡ true → IsOwnerAt stack at ts k
+owner_here stack at ts k t h e m = record {
+  within = get_within ts k t e;
+  found = owner_found stack at ts k t h e m;
+  inside = λ u g. covered_between (base_of u) stack at (ap (covers stack at) (some_same (sym g ∙ e)) ∙ m);
+}
+
+pub owner_more : (stack at : ℕ) (ts : List Thread) (k : ℕ) (t : Thread) → Uncovered stack at ts k → slice_get ts k ≡ Some t → covers stack at t ≡ false → Uncovered stack at ts (k + 1)
+owner_more stack at ts k t h e m = record {
+  others = λ j u l g. elim (cases_lt j k) [
+    | inl low ↦ h.others j u low g
+    | inr high ↦
+        let same : j ≡ k = omega arith in
+        ap (covers stack at) (some_same (sym g ∙ ap (slice_get ts) same ∙ e)) ∙ m
+  ];
+}
+
+pub unowned : (stack at : ℕ) (ts : List Thread) (k : ℕ) → length ts ≤ k → Uncovered stack at ts k → find (covers stack at) ts ≡ None
+unowned stack at [] k l h = refl
+unowned stack at (x ∷ xs) zero l h = absurd (omega arith)
+unowned stack at (x ∷ xs) (suc k) l h =
+    ap (λ b. cond b (Some x) (find (covers stack at) xs)) (h.others 0 x (omega arith) refl)
+    ∙ unowned stack at xs k (omega arith) (uncovered_tail stack at x xs k h)
+
+pub uncovered_none : (stack at : ℕ) (ts : List Thread) → Uncovered stack at ts 0
+uncovered_none stack at ts = record { others = λ j t l e. absurd (omega arith) }
+
+-- the thread in whose stack an address is, and where it stands
+pub record Owns (stack at : ℕ) (threads : List Thread) (place : ℕ) (t : Thread) : Type 0 where
+  pub got : slice_get threads place ≡ Some t
+  pub owned : find (covers stack at) threads ≡ Some t
+  pub below : base_of t ≤ at
+  pub above : at < base_of t + stack
+
+pub owns : (stack at : ℕ) (ts slice : List Thread) (k : ℕ) (t : Thread) → slice ≡ ts → IsOwnerAt stack at slice k → t ≡ get_or ts k t → Owns stack at ts k t
+owns stack at ts slice k t e h r =
+    let i : IsOwnerAt stack at ts k = subst (λ xs. IsOwnerAt stack at xs k) e h in
+    let g : slice_get ts k ≡ Some t = slice_get-get_or ts k t i.within ∙ ap Some (sym r) in
+    let b = i.inside t g in
+    record { got = g; owned = i.found ∙ g; below = b.0; above = b.1 }
+
+-- the place of an address among the words of all stacks
+pub place_within : (slot allowed stack at base n : ℕ) → slot < allowed → n ≡ allowed * stack → base ≤ at → at < base + stack → slot * stack + (at - base) < n
+place_within slot allowed stack at base n s e b a =
+    let d : at - base < stack = omega arith in
+    let h : slot * stack + (at - base) < stack * allowed = mul-add-lt slot stack (at - base) allowed s d in
+    omega (arith, mul_comm allowed stack)
+
+-- a thread that is found has the number
+pub found-number : (n : ℕ) (ts : List Thread) (t : Thread) → find (is_named n) ts ≡ Some t → t.number ≡ n
+found-number n [] t e = cc
+found-number n (x ∷ xs) t e =
+    elim (cases_lt x.number n) [
+      | inl low ↦ found-number n xs t (sym (ap (λ b. cond b (Some x) (find (is_named n) xs)) (ne_eqb x.number n (λ s. omega arith))) ∙ e)
+      | inr high ↦ elim (cases_lt n x.number) [
+        | inl above ↦ found-number n xs t (sym (ap (λ b. cond b (Some x) (find (is_named n) xs)) (ne_eqb x.number n (λ s. omega arith))) ∙ e)
+        | inr same ↦
+            let m : x.number ≡ n = omega arith in
+            sym (ap (λ u. u.number) (some_same (sym (ap (λ b. cond b (Some x) (find (is_named n) xs)) (eq-eqb x.number n m)) ∙ e))) ∙ m
+      ]
+    ]
+
+-- after a write each thread is the written one or stood there before
+pub set-member : (ts : List Thread) (k : ℕ) (t : Thread) (j : ℕ) (v : Thread) → slice_get (slice_set ts k t) j ≡ Some v → (v ≡ t) ⊎ (slice_get ts j ≡ Some v)
+set-member [] k t j v e = inr e
+set-member (x ∷ xs) zero t zero v e = inl (sym (some_same e))
+set-member (x ∷ xs) zero t (suc j) v e = inr e
+set-member (x ∷ xs) (suc k) t zero v e = inr e
+set-member (x ∷ xs) (suc k) t (suc j) v e = set-member xs k t j v e
+
+length-slice_set : (ts : List Thread) (k : ℕ) (t : Thread) → length (slice_set ts k t) ≡ length ts
+length-slice_set [] k t = refl
+length-slice_set (x ∷ xs) zero t = refl
+length-slice_set (x ∷ xs) (suc k) t = ap suc (length-slice_set xs k t)
+
+-- a change that keeps a thread's slot and number keeps what makes sense
+pub sound-set : (a s f : ℕ) (ts : List Thread) (st : List ℕ) (k : ℕ) (t u : Thread) → IsSound a s f ts st → slice_get ts k ≡ Some u → u.slot ≡ t.slot → u.number ≡ t.number → IsSound a s f (slice_set ts k t) st
+sound-set a s f ts st k t u h e slot number = record {
+  few = h.few;
+  small = h.small;
+  large = h.large;
+  whole = h.whole;
+  room = rw (length-slice_set ts k t) h.room;
+  slots = λ j v g. elim (set-member ts k t j v g) [
+    | inl new ↦ let old = h.slots k u e in let same : v.slot ≡ u.slot = ap (λ w. w.slot) new ∙ sym slot in omega arith
+    | inr old ↦ h.slots j v old
+  ];
+  numbers = λ j v g. elim (set-member ts k t j v g) [
+    | inl new ↦ let old = h.numbers k u e in let same : v.number ≡ u.number = ap (λ w. w.number) new ∙ sym number in omega arith
+    | inr old ↦ h.numbers j v old
+  ];
+}
+
+-- the thread at the place of a number
+pub record Found (n : ℕ) (threads : List Thread) (place : ℕ) (t : Thread) : Type 0 where
+  pub got : slice_get threads place ≡ Some t
+  pub owned : find (is_named n) threads ≡ Some t
+
+pub place_got : (n : ℕ) (ts slice : List Thread) (k : ℕ) (t : Thread) → slice ≡ ts → IsPlaceOf n slice k → t ≡ get_or ts k t → Found n ts k t
+place_got n ts slice k t e h r =
+    let i : IsPlaceOf n ts k = subst (λ xs. IsPlaceOf n xs k) e h in
+    let g : slice_get ts k ≡ Some t = slice_get-get_or ts k t i.within ∙ ap Some (sym r) in
+    record { got = g; owned = i.found ∙ g }
+
+pub place_is : (n : ℕ) (ts slice : List Thread) (k : ℕ) (u : Thread) → slice ≡ ts → IsPlaceOf n slice k → find (is_named n) ts ≡ Some u → slice_get ts k ≡ Some u
+place_is n ts slice k u e h f =
+    let i : IsPlaceOf n ts k = subst (λ xs. IsPlaceOf n xs k) e h in
+    sym i.found ∙ f
+
+unchanged : (n : ℕ) (ts : List Thread) (k : ℕ) (f : Thread → Thread) → length ts ≤ k → Passed n ts k → updated f n ts ≡ ts
+unchanged n [] k f l h = refl
+unchanged n (x ∷ xs) zero f l h = absurd (omega arith)
+unchanged n (x ∷ xs) (suc k) f l h =
+    ap (λ b. cond b (f x ∷ xs) (x ∷ updated f n xs)) (head n x xs k h) ∙ ap (λ us. x ∷ us) (unchanged n xs k f (omega arith) (tail n x xs k h))
+
+pub nobody_here : (n : ℕ) (ts : List Thread) (k : ℕ) → length ts ≤ k → Passed n ts k → IsNobody n ts
+nobody_here n ts k l h = record { missing = nobody n ts k l h; kept = λ f. unchanged n ts k f l h }
+
+some_or : (n : ℕ) (x y : Thread) (xs ys : List Thread) → x.number ≡ y.number → (IsSome (find (is_named n) xs) → IsSome (find (is_named n) ys)) → IsSome (find (is_named n) (x ∷ xs)) → IsSome (find (is_named n) (y ∷ ys))
+some_or n x y xs ys e go h =
+    elim (cases_lt x.number n) [
+      | inl low ↦ grind (arith, nat_tests)
+      | inr high ↦ grind (arith, nat_tests)
+    ]
+
+-- a change that keeps numbers keeps who is there
+pub named-updated : (f : Thread → Thread) (m n : ℕ) (ts : List Thread) → ((t : Thread) → (f t).number ≡ t.number) → IsSome (find (is_named n) ts) → IsSome (find (is_named n) (updated f m ts))
+named-updated f m n [] keeps h = h
+named-updated f m n (x ∷ xs) keeps h =
+    elim (x.number == m) as (λ b. IsSome (find (is_named n) (cond b (f x ∷ xs) (x ∷ updated f m xs)))) [
+      | true ↦ some_or n x (f x) xs xs (sym (keeps x)) (λ g. g) h
+      | false ↦ some_or n x x xs (updated f m xs) refl (named-updated f m n xs keeps) h
+    ]
+
+missing_at : (f : Thread → Thread) (n : ℕ) (x : Thread) (xs : List Thread) (b : Bool) → (find (is_named n) xs ≡ None → updated f n xs ≡ xs) → (x.number == n) ≡ b → cond b (Some x) (find (is_named n) xs) ≡ None → cond (x.number == n) (f x ∷ xs) (x ∷ updated f n xs) ≡ x ∷ xs
+missing_at f n x xs true go b e = cc
+missing_at f n x xs false go b e = ap (λ c. cond c (f x ∷ xs) (x ∷ updated f n xs)) b ∙ ap (λ us. x ∷ us) (go e)
+
+-- where there is no thread of the number, nothing changes
+pub updated-missing : (f : Thread → Thread) (n : ℕ) (ts : List Thread) → find (is_named n) ts ≡ None → updated f n ts ≡ ts
+updated-missing f n [] e = refl
+updated-missing f n (x ∷ xs) e = missing_at f n x xs (x.number == n) (updated-missing f n xs) refl e
+
+named_at : (f : Thread → Thread) (n : ℕ) (x t : Thread) (xs : List Thread) (b : Bool) → ((u : Thread) → (f u).number ≡ u.number) → (find (is_named n) xs ≡ Some t → find (is_named n) (updated f n xs) ≡ Some (f t)) → (x.number == n) ≡ b → cond b (Some x) (find (is_named n) xs) ≡ Some t → find (is_named n) (cond b (f x ∷ xs) (x ∷ updated f n xs)) ≡ Some (f t)
+named_at f n x t xs true keeps go b e =
+    ap (λ k. cond k (Some (f x)) (find (is_named n) xs)) (ap (λ k. k == n) (keeps x) ∙ b) ∙ ap (λ u. Some (f u)) (some_same e)
+named_at f n x t xs false keeps go b e = ap (λ k. cond k (Some x) (find (is_named n) (updated f n xs))) b ∙ go e
+
+-- the changed thread is found
+pub find-updated : (f : Thread → Thread) (n : ℕ) (t : Thread) (ts : List Thread) → ((u : Thread) → (f u).number ≡ u.number) → find (is_named n) ts ≡ Some t → find (is_named n) (updated f n ts) ≡ Some (f t)
+find-updated f n t [] keeps e = cc
+find-updated f n t (x ∷ xs) keeps e = named_at f n x t xs (x.number == n) keeps (find-updated f n t xs keeps) refl e
+
+-- no thread below k passes a test
+pub record Fails (p : Thread → Bool) (threads : List Thread) (k : ℕ) : Type 0 where
+  pub others : (j : ℕ) (t : Thread) → j < k → slice_get threads j ≡ Some t → p t ≡ false
+
+fails_tail : (p : Thread → Bool) (x : Thread) (xs : List Thread) (k : ℕ) → Fails p (x ∷ xs) (suc k) → Fails p xs k
+fails_tail p x xs k h = record { others = λ j t l e. h.others (suc j) t (omega arith) e }
+
+pub find-first : (p : Thread → Bool) (ts : List Thread) (k : ℕ) (t : Thread) → Fails p ts k → slice_get ts k ≡ Some t → p t ≡ true → find p ts ≡ Some t
+find-first p [] k t h e m = cc
+find-first p (x ∷ xs) zero t h e m = ap (λ b. cond b (Some x) (find p xs)) (ap p (some_same e) ∙ m) ∙ e
+find-first p (x ∷ xs) (suc k) t h e m =
+    ap (λ b. cond b (Some x) (find p xs)) (h.others 0 x (omega arith) refl) ∙ find-first p xs k t (fails_tail p x xs k h) e m
+
+pub find-nothing : (p : Thread → Bool) (ts : List Thread) (k : ℕ) → length ts ≤ k → Fails p ts k → find p ts ≡ None
+find-nothing p [] k l h = refl
+find-nothing p (x ∷ xs) zero l h = absurd (omega arith)
+find-nothing p (x ∷ xs) (suc k) l h =
+    ap (λ b. cond b (Some x) (find p xs)) (h.others 0 x (omega arith) refl) ∙ find-nothing p xs k (omega arith) (fails_tail p x xs k h)
+
+pub fails_none : (p : Thread → Bool) (ts : List Thread) → Fails p ts 0
+fails_none p ts = record { others = λ j t l e. absurd (omega arith) }
+
+pub fails_more : (p : Thread → Bool) (ts : List Thread) (k : ℕ) (t : Thread) → Fails p ts k → slice_get ts k ≡ Some t → p t ≡ false → Fails p ts (k + 1)
+fails_more p ts k t h e m = record {
+  others = λ j u l g. elim (cases_lt j k) [
+    | inl low ↦ h.others j u low g
+    | inr high ↦
+        let same : j ≡ k = omega arith in
+        ap p (some_same (sym g ∙ ap (slice_get ts) same ∙ e)) ∙ m
+  ];
+}
+
+-- a list whose first k threads were changed
+abbrev pub mixed : (Thread → Thread) → ℕ → List Thread → List Thread
+mixed f k ts = map f (take k ts) ++ drop k ts
+
+mixed_suc : (f : Thread → Thread) (ts : List Thread) (k : ℕ) (t : Thread) → slice_get (mixed f k ts) k ≡ Some t → slice_set (mixed f k ts) k (f t) ≡ mixed f (suc k) ts
+mixed_suc f [] zero t e = cc
+mixed_suc f [] (suc k) t e = cc
+mixed_suc f (x ∷ xs) zero t e = ap (λ u. f u ∷ xs) (sym (some_same e))
+mixed_suc f (x ∷ xs) (suc k) t e = ap (λ us. f x ∷ us) (mixed_suc f xs k t e)
+
+pub mixed_more : (f : Thread → Thread) (ts now : List Thread) (k : ℕ) (t : Thread) → now ≡ mixed f k ts → slice_get now k ≡ Some t → slice_set now k (f t) ≡ mixed f (k + 1) ts
+mixed_more f ts now k t e g =
+    ap (λ us. slice_set us k (f t)) e ∙ mixed_suc f ts k t (ap (λ us. slice_get us k) (sym e) ∙ g) ∙ ap (λ j. mixed f j ts) (sym (add-one k))
+
+-- who is there stays there when each thread keeps its number
+pub named-map : (f : Thread → Thread) (n : ℕ) (ts : List Thread) → ((t : Thread) → (f t).number ≡ t.number) → IsSome (find (is_named n) ts) → IsSome (find (is_named n) (map f ts))
+named-map f n [] keeps h = h
+named-map f n (x ∷ xs) keeps h = some_or n x (f x) xs (map f xs) (sym (keeps x)) (named-map f n xs keeps) h
+
+length-mapped : (f : Thread → Thread) (ts : List Thread) → length (map f ts) ≡ length ts
+length-mapped f [] = refl
+length-mapped f (x ∷ xs) = ap suc (length-mapped f xs)
+
+map-member : (f : Thread → Thread) (ts : List Thread) (j : ℕ) (v : Thread) → slice_get (map f ts) j ≡ Some v → (u : Thread) × (slice_get ts j ≡ Some u) × (v ≡ f u)
+map-member f [] j v e = cc
+map-member f (x ∷ xs) zero v e = (x, refl, sym (some_same e))
+map-member f (x ∷ xs) (suc j) v e = map-member f xs j v e
+
+pub sound-map : (a s n : ℕ) (ts : List Thread) (st : List ℕ) (f : Thread → Thread) → ((t : Thread) → (f t).number ≡ t.number) → ((t : Thread) → (f t).slot ≡ t.slot) → IsSound a s n ts st → IsSound a s n (map f ts) st
+sound-map a s n ts st f number slot h = record {
+  few = h.few;
+  small = h.small;
+  large = h.large;
+  whole = h.whole;
+  room = rw (length-mapped f ts) h.room;
+  slots = λ j v g. let m = map-member f ts j v g in let old = h.slots j m.0 m.1 in let same : v.slot ≡ m.0.slot = ap (λ w. w.slot) m.2 ∙ slot m.0 in omega arith;
+  numbers = λ j v g. let m = map-member f ts j v g in let old = h.numbers j m.0 m.1 in let same : v.number ≡ m.0.number = ap (λ w. w.number) m.2 ∙ number m.0 in omega arith;
+}
+
+-- ---- slots
+
+without_slot : ℕ → List Thread → List Thread
+without_slot s [] = []
+without_slot s (x ∷ xs) = cond (x.slot == s) xs (x ∷ without_slot s xs)
+
+shorter : (s : ℕ) (ts : List Thread) → list_any (uses s) ts ≡ true → length (without_slot s ts) + 1 ≡ length ts
+unfolding without_slot
+shorter s [] e = cc
+shorter s (x ∷ xs) e =
+    elim (x.slot == s) as (λ b. (b || list_any (uses s) xs) ≡ true → length (cond b xs (x ∷ without_slot s xs)) + 1 ≡ suc (length xs)) [
+      | true ↦ λ _. omega arith
+      | false ↦ λ g. let h = shorter s xs g in omega arith
+    ] e
+
+other_slot_at : (s r : ℕ) (x : Thread) (xs : List Thread) (b : Bool) → (x.slot == s) ≡ b → r ≢ s → (list_any (uses r) xs ≡ true → list_any (uses r) (without_slot s xs) ≡ true) → (uses r x || list_any (uses r) xs) ≡ true → list_any (uses r) (cond b xs (x ∷ without_slot s xs)) ≡ true
+other_slot_at s r x xs true m n go e =
+    let same : x.slot ≡ s = eqb-true x.slot s m in
+    let not : (x.slot == r) ≡ false = ne_eqb x.slot r (λ q. n (sym q ∙ same)) in
+    sym (ap (λ b. b || list_any (uses r) xs) not) ∙ e
+other_slot_at s r x xs false m n go e =
+    elim (x.slot == r) as (λ b. (b || list_any (uses r) xs) ≡ true → (b || list_any (uses r) (without_slot s xs)) ≡ true) [
+      | true ↦ λ _. refl
+      | false ↦ λ g. go g
+    ] e
+
+other_slot : (s r : ℕ) (ts : List Thread) → r ≢ s → list_any (uses r) ts ≡ true → list_any (uses r) (without_slot s ts) ≡ true
+unfolding without_slot
+other_slot s r [] n e = e
+other_slot s r (x ∷ xs) n e = other_slot_at s r x xs (x.slot == s) refl n (other_slot s r xs n) e
+
+-- n slots in use are those of n threads at least
+pub all_used : (n : ℕ) (ts : List Thread) → ((s : ℕ) → s < n → list_any (uses s) ts ≡ true) → n ≤ length ts
+all_used zero ts h = omega arith
+all_used (suc n) ts h =
+    let rest = all_used n (without_slot n ts) (λ s l. other_slot n s ts (λ e. absurd (omega arith)) (h s (omega arith))) in
+    let one = shorter n ts (h n (omega arith)) in
+    omega arith
+
+pub place_cut : (n : ℕ) (ts slice : List Thread) (k : ℕ) → slice ≡ ts → IsPlaceOf n slice k → without n ts ≡ remove ts k
+place_cut n ts slice k e h = let i : IsPlaceOf n ts k = subst (λ xs. IsPlaceOf n xs k) e h in i.cut
+
+-- waking keeps who a thread is
+pub woken_on-number : (at : ℕ) (t : Thread) → (woken_on at t).number ≡ t.number
+woken_on-number at t = elim (sleeps_on at t) as (λ b. (cond b (woken t) t).number ≡ t.number) [ true ↦ refl | false ↦ refl ]
+
+pub woken_on-slot : (at : ℕ) (t : Thread) → (woken_on at t).slot ≡ t.slot
+woken_on-slot at t = elim (sleeps_on at t) as (λ b. (cond b (woken t) t).slot ≡ t.slot) [ true ↦ refl | false ↦ refl ]

@@ -1,0 +1,6 @@
+pub mod All
+pub mod Spaces
+pub mod Going
+pub mod Actions
+pub mod Places
+pub mod Lending

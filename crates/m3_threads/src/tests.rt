@@ -1,0 +1,440 @@
+ghost use Rattle.std.specs.Prelude.{ℕ, ◌≡◌, ◌≤◌, ◌+◌, ◌-◌, ◌^◌, ◌<◌, ◌&&◌, nat_le, nat_lt, if◌then◌else◌, Some, None, slice_index, length};
+ghost use Rattle.std.proofs.Common.{arith};
+ghost use Rattle.std.proofs.lemmas.Bool.Decides.{nat_tests};
+ghost use Rattle.m3_isa.specs.Instructions.{IsInstruction};
+
+use super::*;
+use m3_isa::{Instr, Op, Words, decode, encode};
+use std::process::Abort;
+use std::test::Fail;
+
+// Sixty-four words of the heap.
+const HEAP: u64 = 1 << 60;
+
+#[derive(Clone, Copy)]
+struct Cells {
+    words: [u64; 64],
+}
+
+impl Words for Cells {
+    ghost holds = { λ s at. if nat_le (2 ^ 60) at && nat_lt at (2 ^ 60 + 64)
+        then Some (slice_index s.words (at - 2 ^ 60)) else None };
+
+    ghost writable = { λ s at. nat_le (2 ^ 60) at && nat_lt at (2 ^ 60 + 64) };
+
+    ghost readable = { λ s x h. Prim.grind (arith, nat_tests) };
+
+    ghost low = { λ s x h. Prim.grind (arith, nat_tests) };
+
+    fn load(&self, at: u64) -> Option<u64> {
+        if HEAP <= at && at < HEAP + 64 {
+            Some(self.words[(at - HEAP) as usize])
+        } else {
+            None
+        }
+    }
+
+    fn store(&mut self, at: u64, word: u64) -> bool {
+        if HEAP <= at && at < HEAP + 64 {
+            self.words[(at - HEAP) as usize] = word;
+            true
+        } else {
+            false
+        }
+    }
+}
+
+// A step of a history, with what is to be seen.
+#[derive(Clone, Copy, Debug)]
+enum Event {
+    /// Register r of thread n gets a word.
+    Give(u64, u8, u64),
+    /// Thread n comes to an instruction.
+    Stand(u64, Op, u8, u8, u8),
+    /// Thread n may go, or not.
+    Goes(u64, bool),
+    /// The entry, the running thread, and who goes.
+    Choose(Option<u64>, u64, Option<u64>),
+    /// Thread n may go, and carries out an instruction.
+    Act(u64, Op, u8, u8, u8, Done),
+    /// A fork gives this number and this stack.
+    Fork(u64, u64),
+    /// As many threads as are allowed have not ended.
+    Full,
+    /// Register r of thread n has this word, and n stands here.
+    Seen(u64, u8, u64, u32),
+    /// Word k of the heap.
+    Heap(usize, u64),
+    /// The thread at a place of the list.
+    Listed(u32, Option<u64>),
+    /// Word k of the stack of thread n.
+    Stack(u64, usize, u64),
+}
+
+use Event::{Act, Choose, Fork, Full, Give, Goes, Heap, Listed, Seen, Stack, Stand};
+
+// The instruction with these fields, which jumps to 40 where it jumps.
+fn instruction(rt: &impl Abort, op: Op, a: u8, b: u8, c: u8) -> Instr
+    ensures { IsInstruction result }
+{
+    let imm = match op {
+        Op::Rel | Op::Wait | Op::Join | Op::Await | Op::Ajoin => 40,
+        _ => 0,
+    };
+    let Some(i) = decode(encode(Instr { op, a, b, c, imm })) else {
+        panic!(rt; "{op:?} is no instruction");
+    };
+    i
+}
+
+// Carries out an instruction of a thread that may go.
+fn act(rt: &impl Abort, all: &mut Threads, mem: &mut Cells, n: u64, i: Instr) -> Done
+    requires row { IsInstruction i }
+    requires counted { all.old.forks + all.old.waits < 2 ^ 62 }
+    ensures { all.new.forks + all.new.waits ≤ all.old.forks + all.old.waits + 1 }
+{
+    assert!(rt; all.regs(n).is_some(), "{n} has ended");
+    assert!(rt; all.may_go(n, mem), "{n} may not go");
+    match i.op {
+        Op::Acq => all.acquire(n, mem, i),
+        Op::Rel => all.release(n, mem, i),
+        Op::Wait => all.wait(n, mem, i),
+        Op::Sig => all.wake_one(n, mem, i),
+        Op::Bca => all.wake_all(n, mem, i),
+        Op::Join => all.join(n, mem, i),
+        Op::Endt => all.end(n, mem, i),
+        Op::Alert => all.alert(n, mem, i),
+        Op::Talert => all.test_alert(n, mem, i),
+        Op::Await => all.alert_wait(n, mem, i),
+        Op::Ajoin => all.alert_join(n, mem, i),
+        _ => panic!(rt; "{i:?} is none of these"),
+    }
+}
+
+fn stand(rt: &impl Abort, all: &mut Threads, n: u64, i: Instr)
+    requires row { IsInstruction i }
+    requires counted { all.old.forks + all.old.waits < 2 ^ 62 }
+    ensures { all.new.forks + all.new.waits ≤ all.old.forks + all.old.waits }
+{
+    assert!(rt; all.regs(n).is_some(), "{n} has ended");
+    all.stand(n, i);
+}
+
+fn goes(rt: &impl Abort, all: &Threads, mem: &Cells, n: u64) -> bool
+    requires { all.now.forks + all.now.waits < 2 ^ 62 }
+{
+    assert!(rt; all.regs(n).is_some(), "{n} has ended");
+    all.may_go(n, mem)
+}
+
+fn give(rt: &impl Abort, all: &mut Threads, n: u64, register: u8, word: u64)
+    ensures { all.new.forks + all.new.waits ≤ all.old.forks + all.old.waits }
+{
+    assert!(rt; register < 16);
+    match all.regs_mut(n) {
+        Some(regs) => regs.r[register as usize] = word,
+        None => panic!(rt; "{n} has ended"),
+    }
+}
+
+fn seen(all: &Threads, n: u64, register: u8) -> Option<(u64, u32)> {
+    let regs = all.regs(n)?;
+    let word = regs.r.get(register as usize)?;
+    Some((*word, regs.pc))
+}
+
+// A fork of a thread whose cell is at HEAP + 8.
+fn fork(all: &mut Threads) -> Result<u64, ThreadsFull>
+    requires { all.old.forks + all.old.waits < 2 ^ 62 }
+    ensures { all.new.forks + all.new.waits ≤ all.old.forks + all.old.waits + 1 }
+{
+    all.fork(7, 55, HEAP + 8)
+}
+
+fn play_one(rt: &impl Abort, all: &mut Threads, mem: &mut Cells, event: Event)
+    requires { all.old.forks + all.old.waits < 2 ^ 62 }
+    ensures { all.new.forks + all.new.waits ≤ all.old.forks + all.old.waits + 1 }
+{
+    match event {
+        Give(n, register, word) => give(rt, all, n, register, word),
+        Stand(n, op, a, b, c) => stand(rt, all, n, instruction(rt, op, a, b, c)),
+        Goes(n, may) => assert_eq!(rt; goes(rt, all, mem, n), may, "{event:?}"),
+        Choose(to, running, who) => {
+            assert_eq!(rt; all.choose(to, running, mem), who, "{event:?}");
+        }
+        Act(n, op, a, b, c, done) => {
+            let i = instruction(rt, op, a, b, c);
+            assert_eq!(rt; act(rt, all, mem, n, i), done, "{event:?}");
+        }
+        Fork(n, at) => {
+            assert_eq!(rt; fork(all), Ok(n), "{event:?}");
+            assert_eq!(rt; all.stack_at(n), Some(at), "{event:?}");
+        }
+        Full => {
+            assert!(rt; all.is_full());
+            assert_eq!(rt; fork(all), Err(ThreadsFull));
+        }
+        Seen(n, register, word, pc) => {
+            assert_eq!(rt; seen(all, n, register), Some((word, pc)), "{event:?}");
+        }
+        Heap(k, word) => assert_eq!(rt; mem.words.get(k).copied(), Some(word), "{event:?}"),
+        Listed(place, n) => assert_eq!(rt; all.number(place), n, "{event:?}"),
+        Stack(n, k, word) => {
+            assert_eq!(rt; stack_word(all, n, k), Some(word), "{event:?}");
+        }
+    }
+}
+
+fn stack_word(all: &Threads, n: u64, k: usize) -> Option<u64> {
+    all.words(n)?.get(k).copied()
+}
+
+// Plays a history.
+fn play(rt: &impl Abort, all: &mut Threads, mem: &mut Cells, events: &[Event])
+    requires few { length events.now < 1000 }
+    requires counted { all.old.forks + all.old.waits < 2 ^ 61 }
+    ensures { all.new.forks + all.new.waits ≤ all.old.forks + all.old.waits + length events.now }
+{
+    for event in events {
+        play_one(rt, all, mem, *event);
+    }
+}
+
+fn heap() -> Cells {
+    let mut words = [0; 64];
+    words[9] = 1;
+    Cells { words }
+}
+
+const SLOT: u64 = 1 << 40;
+
+const M: u64 = HEAP;
+
+const C: u64 = HEAP + 4;
+
+const CELL: u64 = HEAP + 8;
+
+#[test]
+fn one_thread(rt: HostRuntime) -> Result<(), Fail> {
+    let mut all = Threads::new(rt.alloc(), 1, 1024)?;
+    let mut mem = heap();
+    play(
+        &rt,
+        &mut all,
+        &mut mem,
+        &[
+            Listed(0, Some(0)),
+            Listed(1, None),
+            Full,
+            Stack(0, 0, u64::MAX),
+            Stack(0, 1, 0),
+            Stack(0, 2, 1 << 32),
+            Stack(0, 1023, 0),
+            Give(0, 1, M),
+            Stand(0, Op::Acq, 1, 0, 0),
+            Choose(Some(3), 0, Some(0)),
+            Act(0, Op::Acq, 1, 0, 0, Done::Went),
+            Heap(1, 1),
+            Seen(0, 1, M, 1),
+            // Its own mutex again: nobody may go.
+            Stand(0, Op::Acq, 1, 0, 0),
+            Choose(None, 0, None),
+            Stand(0, Op::Rel, 1, 0, 0),
+            Act(0, Op::Rel, 1, 0, 0, Done::Went),
+            Heap(1, 0),
+            Act(0, Op::Rel, 1, 0, 0, Done::Jumped),
+            Seen(0, 1, M, 40),
+            // A mutex that can't be loaded lets the thread go, into a trap.
+            Give(0, 1, 0),
+            Stand(0, Op::Acq, 1, 0, 0),
+            Act(0, Op::Acq, 1, 0, 0, Done::Trapped(2)),
+        ],
+    );
+    Ok(())
+}
+
+#[test]
+fn sleepers(rt: HostRuntime) -> Result<(), Fail> {
+    let mut all = Threads::new(rt.alloc(), 4, 1024)?;
+    let mut mem = heap();
+    play(
+        &rt,
+        &mut all,
+        &mut mem,
+        &[
+            Fork(1, 2 * SLOT),
+            Fork(2, 3 * SLOT),
+            Fork(3, 4 * SLOT),
+            Give(0, 1, M),
+            Give(0, 2, C),
+            Give(1, 1, M),
+            Give(1, 2, C),
+            Give(2, 1, M),
+            Give(2, 2, C),
+            Give(3, 1, M),
+            Give(3, 2, C),
+            // They fall asleep in the order 2, 1, 3.
+            Act(2, Op::Acq, 1, 0, 0, Done::Went),
+            Heap(1, 3),
+            Act(2, Op::Wait, 1, 2, 0, Done::Slept),
+            Heap(1, 0),
+            Act(1, Op::Acq, 1, 0, 0, Done::Went),
+            Act(1, Op::Wait, 1, 2, 0, Done::Slept),
+            Act(3, Op::Acq, 1, 0, 0, Done::Went),
+            Act(3, Op::Wait, 1, 2, 0, Done::Slept),
+            Choose(Some(2), 3, Some(0)),
+            Act(0, Op::Acq, 1, 0, 0, Done::Went),
+            Act(0, Op::Sig, 2, 0, 0, Done::Went),
+            // The one that is woken wants a mutex that is held.
+            Goes(2, false),
+            Act(0, Op::Rel, 1, 0, 0, Done::Went),
+            Goes(1, false),
+            Goes(3, false),
+            Choose(Some(2), 0, Some(2)),
+            Choose(Some(1), 0, Some(0)),
+            Act(2, Op::Wait, 1, 2, 0, Done::Went),
+            Heap(1, 3),
+            Seen(2, 2, C, 9),
+            Act(2, Op::Rel, 1, 0, 0, Done::Went),
+            Act(0, Op::Bca, 2, 0, 0, Done::Went),
+            Goes(1, true),
+            Goes(3, true),
+            // A WAIT without the mutex jumps, and a signal that nobody waits for does nothing.
+            Act(0, Op::Wait, 1, 2, 0, Done::Jumped),
+            Act(0, Op::Sig, 2, 0, 0, Done::Went),
+        ],
+    );
+    Ok(())
+}
+
+#[test]
+fn joins(rt: HostRuntime) -> Result<(), Fail> {
+    let mut all = Threads::new(rt.alloc(), 2, 1024)?;
+    let mut mem = heap();
+    play(
+        &rt,
+        &mut all,
+        &mut mem,
+        &[
+            Fork(1, 2 * SLOT),
+            Full,
+            Seen(1, 0, 0, 7),
+            Stack(1, 0, u64::MAX),
+            Stack(1, 2, CELL),
+            Stack(1, 6, 55),
+            Stack(1, 7, 0),
+            Give(0, 3, CELL),
+            Stand(0, Op::Join, 4, 3, 0),
+            Goes(0, false),
+            Choose(Some(0), 0, Some(1)),
+            Give(1, 5, 99),
+            Act(1, Op::Endt, 5, 0, 0, Done::Went),
+            Listed(0, Some(0)),
+            Listed(1, None),
+            Heap(10, 1),
+            Heap(11, 99),
+            Act(0, Op::Join, 4, 3, 0, Done::Went),
+            Heap(10, 2),
+            Seen(0, 4, 99, 1),
+            Stand(0, Op::Join, 4, 3, 0),
+            Act(0, Op::Join, 4, 3, 0, Done::Jumped),
+            Seen(0, 4, 99, 40),
+            // The slot is used again, and the number is not.
+            Fork(2, 2 * SLOT),
+            Listed(1, Some(2)),
+            Stack(2, 2, CELL),
+            Stack(2, 3, 0),
+            Full,
+        ],
+    );
+    Ok(())
+}
+
+#[test]
+fn alerts(rt: HostRuntime) -> Result<(), Fail> {
+    let mut all = Threads::new(rt.alloc(), 3, 1024)?;
+    let mut mem = heap();
+    play(
+        &rt,
+        &mut all,
+        &mut mem,
+        &[
+            Fork(1, 2 * SLOT),
+            Give(0, 3, CELL),
+            Give(0, 2, C),
+            Give(1, 1, M),
+            Give(1, 2, C),
+            Give(1, 3, CELL),
+            // A plain WAIT doesn't look at the mark.
+            Act(1, Op::Acq, 1, 0, 0, Done::Went),
+            Act(1, Op::Wait, 1, 2, 0, Done::Slept),
+            Act(0, Op::Alert, 3, 0, 0, Done::Went),
+            Goes(1, false),
+            Act(0, Op::Sig, 2, 0, 0, Done::Went),
+            Act(1, Op::Wait, 1, 2, 0, Done::Went),
+            Act(1, Op::Talert, 4, 0, 0, Done::Went),
+            Seen(1, 4, 1, 10),
+            Act(1, Op::Talert, 4, 0, 0, Done::Went),
+            Seen(1, 4, 0, 11),
+            // AWAIT is ended by an alert, which is taken with the mutex.
+            Act(1, Op::Await, 1, 2, 6, Done::Slept),
+            Heap(1, 0),
+            Act(0, Op::Alert, 3, 0, 0, Done::Went),
+            Act(1, Op::Await, 1, 2, 6, Done::Went),
+            Heap(1, 2),
+            Seen(1, 6, 1, 12),
+            // With the mark set AWAIT answers at once and keeps the mutex.
+            Act(0, Op::Alert, 3, 0, 0, Done::Went),
+            Give(1, 6, 0),
+            Act(1, Op::Await, 1, 2, 6, Done::Went),
+            Heap(1, 2),
+            Seen(1, 6, 1, 13),
+            // AJOIN of itself may go only with the mark set, and without it AJOIN is JOIN.
+            Stand(1, Op::Ajoin, 4, 3, 6),
+            Goes(1, false),
+            Act(0, Op::Alert, 3, 0, 0, Done::Went),
+            Give(1, 4, 7),
+            Act(1, Op::Ajoin, 4, 3, 6, Done::Went),
+            Seen(1, 4, 0, 14),
+            Seen(1, 6, 1, 14),
+            Act(0, Op::Endt, 2, 0, 0, Done::Trapped(2)),
+            Act(1, Op::Ajoin, 4, 3, 6, Done::Went),
+            Heap(10, 2),
+            Seen(1, 6, 0, 15),
+            Act(1, Op::Ajoin, 4, 3, 6, Done::Jumped),
+            Seen(1, 6, 0, 40),
+        ],
+    );
+    Ok(())
+}
+
+#[test]
+fn sixty_four(rt: HostRuntime) -> Result<(), Fail> {
+    let mut all = Threads::new(rt.alloc(), 64, 1024)?;
+    let mut mem = heap();
+    let mut events = [Full; 64];
+    for k in 1..64 {
+        events[k] = Fork(k as u64, SLOT * (k as u64 + 1));
+    }
+    play(&rt, &mut all, &mut mem, &events[1..]);
+    play(
+        &rt,
+        &mut all,
+        &mut mem,
+        &[
+            Full,
+            Listed(63, Some(63)),
+            Listed(64, None),
+            Act(40, Op::Endt, 5, 0, 0, Done::Went),
+            Act(5, Op::Endt, 5, 0, 0, Done::Went),
+            Listed(5, Some(6)),
+            Listed(61, Some(63)),
+            Listed(62, None),
+            Fork(64, 6 * SLOT),
+            Fork(65, 41 * SLOT),
+            Listed(63, Some(65)),
+            Full,
+        ],
+    );
+    Ok(())
+}
