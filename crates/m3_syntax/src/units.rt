@@ -1,0 +1,72 @@
+use crate::names::Name;
+use crate::statements::{Block, Decl};
+use m3_base::Pos;
+
+/// A unit (the report, section 2.5): a file's whole text. Its place is that of its first token, and
+/// `closing` is the name behind its last END.
+#[derive(Drop)]
+pub struct Unit<'a> {
+    pub pos: Pos,
+    pub is_unsafe: bool,
+    pub name: Name<'a>,
+    pub kind: UnitKind<'a>,
+    pub closing: Name<'a>,
+    /// How many tokens its file has.
+    pub tokens: u32,
+}
+
+/// What a unit is. A module without EXPORTS exports the interface of its own name.
+#[derive(Drop)]
+pub enum UnitKind<'a> {
+    Interface {
+        imports: Vec<Import<'a>>,
+        declarations: Vec<Decl<'a>>,
+    },
+    /// `INTERFACE I = G(A1, A2) END I.`
+    InterfaceInstance {
+        generic: Name<'a>,
+        actuals: Vec<Name<'a>>,
+    },
+    Module {
+        exports: Option<Vec<Name<'a>>>,
+        imports: Vec<Import<'a>>,
+        block: Block<'a>,
+    },
+    /// `MODULE M = G(A1, A2) END M.`
+    ModuleInstance {
+        exports: Option<Vec<Name<'a>>>,
+        generic: Name<'a>,
+        actuals: Vec<Name<'a>>,
+    },
+    GenericInterface {
+        formals: Vec<Name<'a>>,
+        imports: Vec<Import<'a>>,
+        declarations: Vec<Decl<'a>>,
+    },
+    GenericModule {
+        formals: Vec<Name<'a>>,
+        imports: Vec<Import<'a>>,
+        block: Block<'a>,
+    },
+}
+
+/// What a unit imports, by the place of the first word: interfaces, or names of one interface.
+#[derive(Drop)]
+pub enum Import<'a> {
+    Interfaces {
+        pos: Pos,
+        items: Vec<ImportItem<'a>>,
+    },
+    Names {
+        pos: Pos,
+        interface: Name<'a>,
+        names: Vec<Name<'a>>,
+    },
+}
+
+/// An imported interface, with the name that it has here where AS gives one.
+#[derive(Clone, Copy, Debug)]
+pub struct ImportItem<'a> {
+    pub interface: Name<'a>,
+    pub alias: Option<Name<'a>>,
+}
