@@ -1,5 +1,5 @@
 -- The numbers of the operations, both ways.
-use Rattle.std.proofs.Common.{◌≡◌, ℕ, zero, suc, ◌+◌, ◌*◌, ◌^◌, ◌<◌, length, take, drop, ℤ, List, [], ◌∷◌, ◌++◌, Some, refl, sym, ap, ◌∙◌, arith, add-zero}
+use Rattle.std.proofs.Common.{◌≡◌, ℕ, zero, suc, ◌+◌, ◌*◌, ◌^◌, ◌<◌, true, length, drop, ℤ, List, [], ◌∷◌, ◌++◌, Some, refl, sym, ap, ◌∙◌, arith, add-zero}
 use Rattle.std.specs.Prelude.{slice_get, slice_index, FitsSigned}
 use Rattle.std.specs.Int.{byte_at, w32, cast_unsigned, cast_signed}
 use Rattle.std.proofs.lemmas.Int.{to_z-of_z, of_z-to_z, ints}
@@ -8,8 +8,11 @@ use Rattle.byteorder.specs.Numbers.{little_number-reads_back}
 use Rattle.m3_isa.specs.declared.instructions.Instr.{Instr}
 use Rattle.m3_isa.specs.declared.instructions.Op.{Op}
 use Rattle.m3_isa.specs.declared.instructions.Op.TheVariants.{Move}
-use Rattle.m3_isa.specs.Instructions.{opcode}
-use Rattle.m3_isa.specs.CodeBytes.{operations, operation, bytes_of}
+use Rattle.m3_isa.specs.declared.rows.Field.{Field}
+use Rattle.m3_isa.specs.declared.rows.Field.TheVariants.{Register, Number, Unnamed}
+use Rattle.m3_isa.specs.Instructions.{opcode, row_of, FitsField, FitsImm, IsInstruction}
+use Rattle.m3_isa.specs.CodeBytes.{operations, operation, bytes_of, field_fits, imm_fits, fields_fit, fields_in, fitting, instruction_in}
+use Rattle.std.proofs.lemmas.Bool.{lt-ltb}
 
 pub operation-opcode : (op : Op) → operation (opcode op) ≡ Some op
 operation-opcode Move = refl
@@ -70,7 +73,7 @@ bytes_of-same i j f g e =
     ∙ ap (λ v. instruction j.op j.a j.b v i.imm) c ∙ ap (λ v. instruction j.op j.a j.b j.c v) imm
 
 -- the bytes of an instruction laid out from eight bytes are those bytes
-pub laid_bytes : (op : Op) (xs : List ℕ) (z : ℤ) → length xs ≡ 8 → ((k : ℕ) → slice_index xs k < 256) → opcode op ≡ slice_index xs 0 → z ≡ cast_signed w32 (little_number 4 (take 4 (drop 4 xs))) → FitsSigned w32 z → bytes_of (instruction op (slice_index xs 1) (slice_index xs 2) (slice_index xs 3) (cast_signed w32 (cast_unsigned w32 z))) ≡ xs
+pub laid_bytes : (op : Op) (xs : List ℕ) (z : ℤ) → length xs ≡ 8 → ((k : ℕ) → slice_index xs k < 256) → opcode op ≡ slice_index xs 0 → z ≡ cast_signed w32 (little_number 4 (drop 4 xs)) → FitsSigned w32 z → bytes_of (instruction op (slice_index xs 1) (slice_index xs 2) (slice_index xs 3) (cast_signed w32 (cast_unsigned w32 z))) ≡ xs
 laid_bytes op (a ∷ b ∷ c ∷ d ∷ e ∷ f ∷ g ∷ h ∷ []) z l small o r fits =
     let n : ℕ = e + 256 * (f + 256 * (g + 256 * (h + 256 * 0))) in
     let pe : e < 256 = small 4 in
@@ -83,3 +86,32 @@ laid_bytes op (a ∷ b ∷ c ∷ d ∷ e ∷ f ∷ g ∷ h ∷ []) z l small o r
     ap (λ v. v ∷ b ∷ c ∷ d ∷ little_bytes 4 (cast_unsigned w32 (cast_signed w32 (cast_unsigned w32 z)))) o
     ∙ ap (λ v. a ∷ b ∷ c ∷ d ∷ little_bytes 4 v) word ∙ ap (λ v. a ∷ b ∷ c ∷ d ∷ v) (bytes-number e f g h pe pf pg ph)
 laid_bytes op _ z l small o r fits = absurd (omega arith)
+
+-- ---- the instruction of its own bytes
+
+field_fits-fact : (f : Field) (n : ℕ) → FitsField f n → field_fits f n ≡ true
+field_fits-fact Register n h = lt-ltb n 16 h
+field_fits-fact Number n h = refl
+field_fits-fact Unnamed n h = rw h refl
+
+imm_fits-fact : (f : Field) (z : ℤ) → FitsImm f z → imm_fits f z ≡ true
+imm_fits-fact Register z h = refl
+imm_fits-fact Number z h = refl
+imm_fits-fact Unnamed z h = rw h refl
+
+fields_fit-fact : (i : Instr) → IsInstruction i → fields_fit (row_of i.op) i ≡ true
+fields_fit-fact i h =
+    let row = row_of i.op in
+    rw (field_fits-fact row.a i.a h.0, field_fits-fact row.b i.b h.1, field_fits-fact row.c i.c h.2, imm_fits-fact row.imm i.imm h.3) refl
+
+fields_in-bytes_of : (i : Instr) → FitsSigned w32 i.imm → fields_in i.op (bytes_of i) ≡ i
+fields_in-bytes_of i fits =
+    let low : little_number 4 (little_bytes 4 (cast_unsigned w32 i.imm)) ≡ cast_unsigned w32 i.imm = little_number-reads_back 4 (cast_unsigned w32 i.imm) [] (omega (arith, ints)) in
+    ap (λ v. instruction i.op i.a i.b i.c v) (ap (cast_signed w32) low ∙ to_z-of_z w32 i.imm fits)
+
+pub instruction_in-bytes_of : (i : Instr) → IsInstruction i → FitsSigned w32 i.imm → instruction_in (bytes_of i) ≡ Some i
+unfolding instruction_in
+instruction_in-bytes_of i h fits =
+    let same = fields_in-bytes_of i fits in
+    let good : fields_fit (row_of i.op) (fields_in i.op (bytes_of i)) ≡ true = ap (fields_fit (row_of i.op)) same ∙ fields_fit-fact i h in
+    rw (operation-opcode i.op) (rw good (ap Some same))

@@ -1,7 +1,7 @@
 ghost use Rattle.std.specs.Prelude.{◌≡◌, ◌↔◌, IsTrue, Some, IfSome, FitsSigned, slice_index, length};
 ghost use Rattle.std.specs.Int.{w32};
-ghost use Rattle.m3_isa.specs.Instructions.{IsInstruction, opcode};
-ghost use Rattle.m3_isa.specs.CodeBytes.{bytes_of, operation};
+ghost use Rattle.m3_isa.specs.Instructions.{IsInstruction, opcode, row_of};
+ghost use Rattle.m3_isa.specs.CodeBytes.{bytes_of, operation, instruction_in, fields_fit, fields_in};
 ghost use Rattle.m3_isa.specs.declared.instructions.Instr.{Instr as Instruction};
 
 use crate::instructions::{Instr, Op};
@@ -95,14 +95,22 @@ pub fn encode(i: Instr) -> [u8; 8]
 }
 
 /// The instruction that has these bytes, and none exactly where no instruction has them.
+#[tactic(auto, unfolding(crate::specs::CodeBytes::instruction_in))]
 pub fn decode(bytes: [u8; 8]) -> Option<Instr>
     ensures found { (i : Instruction) → IsInstruction i → FitsSigned w32 i.imm
         → bytes_of i ≡ bytes → result ≡ Some i }
     ensures sound { IfSome result (λ i. IsInstruction i × (bytes_of i ≡ bytes)) }
+    ensures value { result ≡ instruction_in bytes }
 {
     let op = operation(bytes[0])?;
     let i = laid_out(op, &bytes);
     if fits_row(i) { Some(i) } else { None }
+}
+
+/// The bytes of an instruction are those of no other.
+pub fn same_instruction()
+    ensures { (i : Instruction) → IsInstruction i → FitsSigned w32 i.imm → instruction_in (bytes_of i) ≡ Some i }
+{
 }
 
 // The operation of a number, where one has it.
@@ -120,6 +128,7 @@ fn laid_out(op: Op, bytes: &[u8]) -> Instr
     requires eight { length bytes.now ≡ 8 }
     requires number { opcode op ≡ slice_index bytes.now 0 }
     ensures bytes { bytes_of result ≡ bytes.now }
+    ensures fields { result ≡ fields_in op bytes.now }
     ensures imm { FitsSigned w32 result.imm }
 {
     Instr {
@@ -127,13 +136,14 @@ fn laid_out(op: Op, bytes: &[u8]) -> Instr
         a: bytes[1],
         b: bytes[2],
         c: bytes[3],
-        imm: LittleEndian::read_i32(&bytes[4..8]),
+        imm: LittleEndian::read_i32(&bytes[4..]),
     }
 }
 
 // Whether each field is as the operation's row has it.
 fn fits_row(i: Instr) -> bool
-    ensures { IsTrue result ↔ IsInstruction i }
+    ensures row { IsTrue result ↔ IsInstruction i }
+    ensures value { result ≡ fields_fit (row_of i.op) i }
 {
     let row = i.op.row();
     row.a.fits(i.a) && row.b.fits(i.b) && row.c.fits(i.c) && row.imm.fits_imm(i.imm)

@@ -86,3 +86,43 @@ pub struct Instr {
     pub c: u8,
     pub imm: i32,
 }
+
+impl Op {
+    ghost use Rattle.std.specs.Prelude.{◌≡◌};
+    ghost use Rattle.m3_isa.specs.Instructions.{is_point};
+
+    /// Whether this is a point instruction, before which the machine may change threads and collect.
+    pub fn is_point(self) -> bool
+        ensures { result ≡ is_point self }
+    {
+        match self {
+            Op::Call
+            | Op::Callr
+            | Op::Callm
+            | Op::New
+            | Op::Newo
+            | Op::Point
+            | Op::Cat
+            | Op::Tchr
+            | Op::Tsub
+            | Op::Fork
+            | Op::Join
+            | Op::Acq
+            | Op::Rel
+            | Op::Wait
+            | Op::Sig
+            | Op::Bca
+            | Op::Self_
+            | Op::Put
+            | Op::Putn
+            | Op::Putc
+            | Op::Alert
+            | Op::Talert
+            | Op::Await
+            | Op::Ajoin
+            | Op::Getc
+            | Op::Eof => true,
+            _ => false,
+        }
+    }
+}

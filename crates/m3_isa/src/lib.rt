@@ -13,7 +13,7 @@ mod rows;
 mod steps;
 
 pub use answers::Step;
-pub use code_bytes::{decode, encode};
+pub use code_bytes::{decode, encode, same_instruction};
 pub use instructions::{Instr, Op};
 pub use memory::Words;
 pub use registers::Regs;

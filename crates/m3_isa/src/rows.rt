@@ -170,11 +170,14 @@ impl Op {
 
 impl Field {
     ghost use Rattle.std.specs.Prelude.{◌↔◌, IsTrue};
+    ghost use Rattle.std.specs.Prelude.{◌≡◌};
     ghost use Rattle.m3_isa.specs.Instructions.{FitsField, FitsImm};
+    ghost use Rattle.m3_isa.specs.CodeBytes.{field_fits, imm_fits};
 
     /// Whether a byte is what its row says.
     pub(crate) fn fits(self, n: u8) -> bool
-        ensures { IsTrue result ↔ FitsField self n }
+        ensures fact { IsTrue result ↔ FitsField self n }
+        ensures value { result ≡ field_fits self n }
     {
         match self {
             Field::Register => n < 16,
@@ -185,7 +188,8 @@ impl Field {
 
     /// Whether the number of an instruction is what its row says.
     pub(crate) fn fits_imm(self, n: i32) -> bool
-        ensures { IsTrue result ↔ FitsImm self n }
+        ensures fact { IsTrue result ↔ FitsImm self n }
+        ensures value { result ≡ imm_fits self n }
     {
         match self {
             Field::Register | Field::Number => true,

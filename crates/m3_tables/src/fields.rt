@@ -46,8 +46,9 @@ pub(crate) enum Listing<'a> {
     Same,
 }
 
+/// A number of four bytes, and the bytes after it. None exactly where there are fewer.
 #[tactic(auto, unfolding(crate::specs::Fields::word_at))]
-pub(crate) fn word_at(bytes: &[u8]) -> Option<(u32, &[u8])>
+pub fn word_at(bytes: &[u8]) -> Option<(u32, &[u8])>
     ensures { option_map (λ x. (x.0, x.1.now)) result ≡ word_at bytes.now }
 {
     if bytes.len() < 4 {
@@ -66,8 +67,10 @@ fn half_at(bytes: &[u8]) -> Option<(u16, &[u8])>
     Some((half(bytes), &bytes[2..]))
 }
 
+/// Numbers of four bytes behind their count, and the bytes after them. None exactly where the bytes don't
+/// hold them.
 #[tactic(auto, unfolding(crate::specs::Fields::list_at))]
-fn list_at(bytes: &[u8]) -> Option<(Numbers<'_>, &[u8])>
+pub fn list_at(bytes: &[u8]) -> Option<(Numbers<'_>, &[u8])>
     ensures { option_map (λ x. (numbers_of x.0, x.1.now)) result ≡ list_at bytes.now }
 {
     let (count, rest) = word_at(bytes)?;

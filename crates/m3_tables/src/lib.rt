@@ -17,6 +17,8 @@ mod table;
 mod writing;
 
 pub use derivation::Derivation;
+pub use fields::{list_at, word_at};
+pub use numbers::{Numbers, word};
 pub use place::Location;
 pub use plain::{DerivedPlain, RowPlain, Way};
 pub use row::Row;

@@ -6,7 +6,7 @@ use byteorder::{ByteOrder, LittleEndian};
 
 /// The number in the first four bytes.
 #[tactic(auto, unfolding(crate::specs::Numbers::word_in))]
-pub(crate) fn word(bytes: &[u8]) -> u32
+pub fn word(bytes: &[u8]) -> u32
     requires { 4 ≤ length bytes.now }
     ensures { result ≡ word_in bytes.now }
 {
@@ -24,7 +24,7 @@ pub(crate) fn half(bytes: &[u8]) -> u16
 
 /// Numbers of four bytes each, one after the other, and perhaps bytes after them.
 #[derive(Clone, Copy)]
-pub(crate) struct Numbers<'a> {
+pub struct Numbers<'a> {
     pub(crate) count: usize,
     pub(crate) bytes: &'a [u8],
     ghost held: { 4 * count ≤ length bytes.now },
@@ -54,7 +54,7 @@ impl<'a> Iterator for Numbers<'a> {
 }
 
 impl<'a> Numbers<'a> {
-    ghost use Rattle.std.specs.Prelude.{IsTrue};
+    ghost use Rattle.std.specs.Prelude.{IsTrue, ◌==◌};
     ghost use Rattle.std.specs.List.{slice_get};
     ghost use Rattle.m3_tables.specs.Numbers.{has, rises};
     ghost use Rattle.m3_tables.specs.Views.{numbers_of};
@@ -68,7 +68,7 @@ impl<'a> Numbers<'a> {
     }
 
     /// The number at a place, from 0. None exactly past the last.
-    pub(crate) fn get(&self, place: usize) -> Option<u32>
+    pub fn get(&self, place: usize) -> Option<u32>
         ensures { result ≡ slice_get (numbers_of self.now) place }
     {
         if place < self.count {
@@ -78,8 +78,15 @@ impl<'a> Numbers<'a> {
         }
     }
 
+    /// Whether there is no number.
+    pub fn is_empty(&self) -> bool
+        ensures { result ≡ (length (numbers_of self.now) == 0) }
+    {
+        self.count == 0
+    }
+
     /// Whether each number is above the one before.
-    pub(crate) fn rises(&self) -> bool
+    pub fn rises(&self) -> bool
         ensures { result ≡ rises (numbers_of self.now) }
     {
         for place in 1..self.count {
@@ -91,7 +98,7 @@ impl<'a> Numbers<'a> {
     }
 
     /// Whether a number stands in a list that rises.
-    pub(crate) fn has(&self, number: u32) -> bool
+    pub fn has(&self, number: u32) -> bool
         requires { IsTrue (rises (numbers_of self.now)) }
         ensures { result ≡ has (numbers_of self.now) number }
     {
