@@ -110,8 +110,7 @@ pub fn decode(bytes: [u8; 8]) -> Option<Instr>
 /// The bytes of an instruction are those of no other.
 pub fn same_instruction()
     ensures { (i : Instruction) → IsInstruction i → FitsSigned w32 i.imm → instruction_in (bytes_of i) ≡ Some i }
-{
-}
+{}
 
 // The operation of a number, where one has it.
 fn operation(number: u8) -> Option<Op>
