@@ -1,22 +1,21 @@
 -- The place of a thread in a list.
-use Rattle.std.proofs.Common.{◌≡◌, ◌≢◌, ℕ, zero, suc, ◌+◌, ◌<◌, ◌≤◌, ◌==◌, List, [], ◌∷◌, length, Some, None, Bool, true, false, cond, ◌&&◌, ◌||◌, map, take, drop, ◌++◌, add-one, nat_le, nat_lt, refl, sym, ap, subst, ◌∙◌, inl, inr, ◌⊎◌, IsSome, arith, get_or, ◌-◌, ◌*◌, mul_comm}
+use Rattle.std.proofs.Common.{◌≡◌, ◌≢◌, ℕ, zero, suc, ◌+◌, ◌<◌, ◌≤◌, ◌==◌, List, [], ◌∷◌, length, Some, None, Bool, true, false, cond, ◌&&◌, ◌||◌, map, take, drop, ◌++◌, add-one, nat_le, nat_lt, refl, sym, ap, subst, ◌∙◌, inl, inr, IsSome, arith, get_or}
 use Rattle.std.specs.Prelude.{find, slice_get, slice_set, remove}
 use Rattle.m3_threads.specs.Actions.{without, uses, woken, woken_on, sleeps_on}
 use Rattle.std.specs.List.{list_any}
 use Rattle.std.proofs.lemmas.Bool.{eq-eqb, ne_eqb, eqb-true, cases_lt}
 use Rattle.std.proofs.lemmas.Option.{slice_get-get_or, slice_get_past}
 use Rattle.m3_threads.specs.declared.status.Thread.{Thread}
-use Rattle.m3_threads.specs.All.{is_named, updated, base_of, IsSound}
+use Rattle.m3_threads.specs.All.{is_named, updated, base_of}
 use Rattle.m3_threads.specs.Places.{IsPlaceOf, IsNobody, IsOwnerAt}
 use Rattle.m3_threads.specs.Spaces.{covers}
 use Rattle.std.proofs.lemmas.Bool.Decides.{nat_tests}
-use Rattle.std.proofs.lemmas.Nat.{mul-add-lt}
 
 -- no thread below k has the number
 pub record Passed (n : ℕ) (threads : List Thread) (k : ℕ) : Type 0 where
   pub others : (j : ℕ) (t : Thread) → j < k → slice_get threads j ≡ Some t → t.number ≢ n
 
-some_same : {A : Type 0} {x y : A} → Some x ≡ Some y → x ≡ y
+pub some_same : {A : Type 0} {x y : A} → Some x ≡ Some y → x ≡ y
 some_same e = cc
 
 tail : (n : ℕ) (x : Thread) (xs : List Thread) (k : ℕ) → Passed n (x ∷ xs) (suc k) → Passed n xs k
@@ -46,7 +45,7 @@ cut_here n (x ∷ xs) zero t h e m =
 cut_here n (x ∷ xs) (suc k) t h e m =
     ap (λ b. cond b xs (x ∷ without n xs)) (head n x xs k h) ∙ ap (λ us. x ∷ us) (cut_here n xs k t (tail n x xs k h) e m)
 
-get_within : (ts : List Thread) (k : ℕ) (t : Thread) → slice_get ts k ≡ Some t → k < length ts
+pub get_within : (ts : List Thread) (k : ℕ) (t : Thread) → slice_get ts k ≡ Some t → k < length ts
 get_within ts k t e = elim (cases_lt k (length ts)) [ inl low ↦ low | inr past ↦ let gone = slice_get_past ts k past in cc ]
 
 pub place_here : (n : ℕ) (ts : List Thread) (k : ℕ) (t : Thread) → Passed n ts k → slice_get ts k ≡ Some t → t.number ≡ n → IsPlaceOf n ts k
@@ -135,13 +134,6 @@ owns stack at ts slice k t e h r =
     let b = i.inside t g in
     record { got = g; owned = i.found ∙ g; below = b.0; above = b.1 }
 
--- the place of an address among the words of all stacks
-pub place_within : (slot allowed stack at base n : ℕ) → slot < allowed → n ≡ allowed * stack → base ≤ at → at < base + stack → slot * stack + (at - base) < n
-place_within slot allowed stack at base n s e b a =
-    let d : at - base < stack = omega arith in
-    let h : slot * stack + (at - base) < stack * allowed = mul-add-lt slot stack (at - base) allowed s d in
-    omega (arith, mul_comm allowed stack)
-
 -- a thread that is found has the number
 pub found-number : (n : ℕ) (ts : List Thread) (t : Thread) → find (is_named n) ts ≡ Some t → t.number ≡ n
 found-number n [] t e = cc
@@ -155,37 +147,6 @@ found-number n (x ∷ xs) t e =
             sym (ap (λ u. u.number) (some_same (sym (ap (λ b. cond b (Some x) (find (is_named n) xs)) (eq-eqb x.number n m)) ∙ e))) ∙ m
       ]
     ]
-
--- after a write each thread is the written one or stood there before
-pub set-member : (ts : List Thread) (k : ℕ) (t : Thread) (j : ℕ) (v : Thread) → slice_get (slice_set ts k t) j ≡ Some v → (v ≡ t) ⊎ (slice_get ts j ≡ Some v)
-set-member [] k t j v e = inr e
-set-member (x ∷ xs) zero t zero v e = inl (sym (some_same e))
-set-member (x ∷ xs) zero t (suc j) v e = inr e
-set-member (x ∷ xs) (suc k) t zero v e = inr e
-set-member (x ∷ xs) (suc k) t (suc j) v e = set-member xs k t j v e
-
-length-slice_set : (ts : List Thread) (k : ℕ) (t : Thread) → length (slice_set ts k t) ≡ length ts
-length-slice_set [] k t = refl
-length-slice_set (x ∷ xs) zero t = refl
-length-slice_set (x ∷ xs) (suc k) t = ap suc (length-slice_set xs k t)
-
--- a change that keeps a thread's slot and number keeps what makes sense
-pub sound-set : (a s f : ℕ) (ts : List Thread) (st : List ℕ) (k : ℕ) (t u : Thread) → IsSound a s f ts st → slice_get ts k ≡ Some u → u.slot ≡ t.slot → u.number ≡ t.number → IsSound a s f (slice_set ts k t) st
-sound-set a s f ts st k t u h e slot number = record {
-  few = h.few;
-  small = h.small;
-  large = h.large;
-  whole = h.whole;
-  room = rw (length-slice_set ts k t) h.room;
-  slots = λ j v g. elim (set-member ts k t j v g) [
-    | inl new ↦ let old = h.slots k u e in let same : v.slot ≡ u.slot = ap (λ w. w.slot) new ∙ sym slot in omega arith
-    | inr old ↦ h.slots j v old
-  ];
-  numbers = λ j v g. elim (set-member ts k t j v g) [
-    | inl new ↦ let old = h.numbers k u e in let same : v.number ≡ u.number = ap (λ w. w.number) new ∙ sym number in omega arith
-    | inr old ↦ h.numbers j v old
-  ];
-}
 
 -- the thread at the place of a number
 pub record Found (n : ℕ) (threads : List Thread) (place : ℕ) (t : Thread) : Type 0 where
@@ -247,38 +208,6 @@ pub find-updated : (f : Thread → Thread) (n : ℕ) (t : Thread) (ts : List Thr
 find-updated f n t [] keeps e = cc
 find-updated f n t (x ∷ xs) keeps e = named_at f n x t xs (x.number == n) keeps (find-updated f n t xs keeps) refl e
 
--- no thread below k passes a test
-pub record Fails (p : Thread → Bool) (threads : List Thread) (k : ℕ) : Type 0 where
-  pub others : (j : ℕ) (t : Thread) → j < k → slice_get threads j ≡ Some t → p t ≡ false
-
-fails_tail : (p : Thread → Bool) (x : Thread) (xs : List Thread) (k : ℕ) → Fails p (x ∷ xs) (suc k) → Fails p xs k
-fails_tail p x xs k h = record { others = λ j t l e. h.others (suc j) t (omega arith) e }
-
-pub find-first : (p : Thread → Bool) (ts : List Thread) (k : ℕ) (t : Thread) → Fails p ts k → slice_get ts k ≡ Some t → p t ≡ true → find p ts ≡ Some t
-find-first p [] k t h e m = cc
-find-first p (x ∷ xs) zero t h e m = ap (λ b. cond b (Some x) (find p xs)) (ap p (some_same e) ∙ m) ∙ e
-find-first p (x ∷ xs) (suc k) t h e m =
-    ap (λ b. cond b (Some x) (find p xs)) (h.others 0 x (omega arith) refl) ∙ find-first p xs k t (fails_tail p x xs k h) e m
-
-pub find-nothing : (p : Thread → Bool) (ts : List Thread) (k : ℕ) → length ts ≤ k → Fails p ts k → find p ts ≡ None
-find-nothing p [] k l h = refl
-find-nothing p (x ∷ xs) zero l h = absurd (omega arith)
-find-nothing p (x ∷ xs) (suc k) l h =
-    ap (λ b. cond b (Some x) (find p xs)) (h.others 0 x (omega arith) refl) ∙ find-nothing p xs k (omega arith) (fails_tail p x xs k h)
-
-pub fails_none : (p : Thread → Bool) (ts : List Thread) → Fails p ts 0
-fails_none p ts = record { others = λ j t l e. absurd (omega arith) }
-
-pub fails_more : (p : Thread → Bool) (ts : List Thread) (k : ℕ) (t : Thread) → Fails p ts k → slice_get ts k ≡ Some t → p t ≡ false → Fails p ts (k + 1)
-fails_more p ts k t h e m = record {
-  others = λ j u l g. elim (cases_lt j k) [
-    | inl low ↦ h.others j u low g
-    | inr high ↦
-        let same : j ≡ k = omega arith in
-        ap p (some_same (sym g ∙ ap (slice_get ts) same ∙ e)) ∙ m
-  ];
-}
-
 -- a list whose first k threads were changed
 abbrev pub mixed : (Thread → Thread) → ℕ → List Thread → List Thread
 mixed f k ts = map f (take k ts) ++ drop k ts
@@ -297,26 +226,6 @@ mixed_more f ts now k t e g =
 pub named-map : (f : Thread → Thread) (n : ℕ) (ts : List Thread) → ((t : Thread) → (f t).number ≡ t.number) → IsSome (find (is_named n) ts) → IsSome (find (is_named n) (map f ts))
 named-map f n [] keeps h = h
 named-map f n (x ∷ xs) keeps h = some_or n x (f x) xs (map f xs) (sym (keeps x)) (named-map f n xs keeps) h
-
-length-mapped : (f : Thread → Thread) (ts : List Thread) → length (map f ts) ≡ length ts
-length-mapped f [] = refl
-length-mapped f (x ∷ xs) = ap suc (length-mapped f xs)
-
-map-member : (f : Thread → Thread) (ts : List Thread) (j : ℕ) (v : Thread) → slice_get (map f ts) j ≡ Some v → (u : Thread) × (slice_get ts j ≡ Some u) × (v ≡ f u)
-map-member f [] j v e = cc
-map-member f (x ∷ xs) zero v e = (x, refl, sym (some_same e))
-map-member f (x ∷ xs) (suc j) v e = map-member f xs j v e
-
-pub sound-map : (a s n : ℕ) (ts : List Thread) (st : List ℕ) (f : Thread → Thread) → ((t : Thread) → (f t).number ≡ t.number) → ((t : Thread) → (f t).slot ≡ t.slot) → IsSound a s n ts st → IsSound a s n (map f ts) st
-sound-map a s n ts st f number slot h = record {
-  few = h.few;
-  small = h.small;
-  large = h.large;
-  whole = h.whole;
-  room = rw (length-mapped f ts) h.room;
-  slots = λ j v g. let m = map-member f ts j v g in let old = h.slots j m.0 m.1 in let same : v.slot ≡ m.0.slot = ap (λ w. w.slot) m.2 ∙ slot m.0 in omega arith;
-  numbers = λ j v g. let m = map-member f ts j v g in let old = h.numbers j m.0 m.1 in let same : v.number ≡ m.0.number = ap (λ w. w.number) m.2 ∙ number m.0 in omega arith;
-}
 
 -- ---- slots
 

@@ -1,5 +1,5 @@
 -- What the instructions on threads, mutexes, conditions and alerts do.
-use Rattle.std.specs.Prelude.{ℕ, ℤ, ◌+◌, ◌&&◌, ◌==◌, ◌≡◌, nat_lt, Bool, true, false, if◌then◌else◌, List, [], ◌∷◌, ◌++◌, map, fold, Option, Some, None, zero, suc, ◌-◌, ◌*◌, ◌^◌, ◌<◌, replicate, slice_set}
+use Rattle.std.specs.Prelude.{ℕ, ℤ, ◌+◌, ◌&&◌, ◌==◌, ◌≡◌, nat_lt, Bool, true, false, if◌then◌else◌, List, [], ◌∷◌, ◌++◌, map, fold, Option, Some, None, ◌-◌, ◌^◌, ◌<◌, ◌≤◌, replicate, slice_get, slice_set}
 use Rattle.std.specs.List.{list_any}
 use Rattle.m3_base.specs.Words.{add_words}
 use Rattle.m3_isa.specs.declared.instructions.Instr.{Instr}
@@ -136,6 +136,15 @@ longer at best t = if sleeps_on at t && is_before t best then Some t else best
 abbrev pub longest : ℕ → List Thread → Option Thread
 longest at threads = fold (longer at) None threads
 
+-- the thread sleeps on the condition, and nobody who does has a lower place, or nobody sleeps there
+abbrev pub SleepsLongest : ℕ → List Thread → Option Thread → Type 0
+SleepsLongest at threads None = (k : ℕ) (t : Thread) → slice_get threads k ≡ Some t → sleeps_on at t ≡ false
+SleepsLongest at threads (Some best) = record {
+  there : (k : ℕ) × (slice_get threads k ≡ Some best);
+  sleeps : sleeps_on at best ≡ true;
+  first : (k : ℕ) (t : Thread) → slice_get threads k ≡ Some t → sleeps_on at t ≡ true → queue_place best ≤ queue_place t;
+}
+
 abbrev pub wakened_by : Option Thread → List Thread → List Thread
 wakened_by None threads = threads
 wakened_by (Some t) threads = updated woken t.number threads
@@ -233,15 +242,11 @@ started_regs first slot = record { r = replicate 16 0; pc = first; fp = base_of_
 abbrev pub started : ℕ → ℕ → ℕ → Thread
 started number slot first = record { number = number; slot = slot; regs = started_regs first slot; status = Ready; alerted = false }
 
--- the words after the first n from a place on were set to 0
-abbrev pub cleared : ℕ → List ℕ → ℕ → List ℕ
-cleared place words zero = words
-cleared place words (suc n) = slice_set (cleared place words n) (place + n) 0
-
--- the first frame of a thread returns to no instruction, and has its cell in word 2
-abbrev pub framed : ℕ → ℕ → List ℕ → List ℕ
-framed place cell words =
-    slice_set (slice_set (slice_set words place (2 ^ 64 - 1)) (place + 1) 0) (place + 2) cell
+-- the stack of a thread that starts: the first frame returns to no instruction and has its cell in
+-- word 2, and every other word is 0
+abbrev pub started_stack : ℕ → ℕ → List ℕ
+started_stack stack cell =
+    slice_set (slice_set (slice_set (replicate stack 0) 0 (2 ^ 64 - 1)) 1 0) 2 cell
 
 -- the threads at the start: the main one alone, whose cell is the first of the globals
 abbrev pub at_start : ℕ → ℕ → Everyone
@@ -251,20 +256,15 @@ at_start allowed stack = record {
   forks = 0;
   waits = 0;
   threads = started 0 0 0 ∷ [];
-  stacks = framed 0 (2 ^ 32) (replicate (allowed * stack) 0);
+  stacks = slice_set (replicate allowed (replicate stack 0)) 0 (started_stack stack (2 ^ 32));
 }
 
--- FORK: a new thread in a slot, with its stack cleared
-abbrev pub forked_stacks : Everyone → ℕ → ℕ → ℕ → List ℕ
-forked_stacks all slot closure cell =
-    let place = slot * all.stack in
-    slice_set (framed place cell (cleared place all.stacks all.stack)) (place + 6) closure
-
+-- FORK: a new thread in a slot, with its closure in word 6
 abbrev pub forked : Everyone → ℕ → ℕ → ℕ → ℕ → Everyone
 forked all slot first closure cell = record all {
   forks = all.forks + 1;
   threads = all.threads ++ started (all.forks + 1) slot first ∷ [];
-  stacks = forked_stacks all slot closure cell;
+  stacks = slice_set all.stacks slot (slice_set (started_stack all.stack cell) 6 closure);
 }
 
 -- a thread uses a slot

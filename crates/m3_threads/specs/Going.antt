@@ -1,5 +1,5 @@
 -- Who may go, and who goes.
-use Rattle.std.specs.Prelude.{ℕ, ◌==◌, ◌||◌, ◌&&◌, not, Bool, true, false, if◌then◌else◌, Option, Some, None, find}
+use Rattle.std.specs.Prelude.{ℕ, ◌≡◌, ◌<◌, ◌↔◌, ◌==◌, ◌||◌, ◌&&◌, not, Bool, true, false, Option, Some, None}
 use Rattle.m3_base.specs.Words.{add_words}
 use Rattle.m3_isa.specs.declared.instructions.Op.{Op}
 use Rattle.m3_isa.specs.declared.instructions.Op.TheVariants.{Acq, Join, Ajoin}
@@ -53,23 +53,28 @@ may_go_if memory (Some t) = may_go_in memory t
 abbrev pub may_go : Everyone → Memory → ℕ → Bool
 may_go all memory n = may_go_if (held all memory) (thread_named all n)
 
-abbrev pub number_of : Option Thread → Option ℕ
-number_of None = None
-number_of (Some t) = Some t.number
+-- the entry names a thread that may go
+abbrev pub entry_goes : Everyone → Memory → Option ℕ → Bool
+entry_goes all memory None = false
+entry_goes all memory (Some n) = may_go all memory n
 
--- the lowest-numbered thread that may go
-abbrev pub lowest : Everyone → Memory → Option ℕ
-lowest all memory = number_of (find (may_go_in (held all memory)) all.threads)
+-- no thread may go
+abbrev pub NoneGoes : Everyone → Memory → Type 0
+NoneGoes all memory = (n : ℕ) → may_go all memory n ≡ false
 
--- the running thread if it may go, else the lowest-numbered that may
-abbrev pub chosen_else : Everyone → Memory → ℕ → Option ℕ
-chosen_else all memory running = if may_go all memory running then Some running else lowest all memory
+-- the thread of number n may go, and none with a lower number may
+pub record IsLowest (all : Everyone) (memory : Memory) (n : ℕ) : Type 0 where
+  pub goes : may_go all memory n ≡ true
+  pub lower : (m : ℕ) → m < n → may_go all memory m ≡ false
 
--- the thread that the entry names if it may go, else the running one if it may, else the
--- lowest-numbered that may
-abbrev pub chosen : Everyone → Memory → Option ℕ → ℕ → Option ℕ
-chosen all memory None running = chosen_else all memory running
-chosen all memory (Some n) running = if may_go all memory n then Some n else chosen_else all memory running
+-- who goes: the thread that the entry names if it may, else the running one if it may, else the one
+-- with the lowest number of those that may, and none exactly where no thread may go
+pub record IsChoice (all : Everyone) (memory : Memory) (entry : Option ℕ) (running : ℕ) (choice : Option ℕ) : Type 0 where
+  pub named : (n : ℕ) → entry ≡ Some n → may_go all memory n ≡ true → choice ≡ Some n
+  pub stays : entry_goes all memory entry ≡ false → may_go all memory running ≡ true → choice ≡ Some running
+  pub lowest : entry_goes all memory entry ≡ false → may_go all memory running ≡ false
+      → (n : ℕ) → choice ≡ Some n → IsLowest all memory n
+  pub none : (choice ≡ None) ↔ NoneGoes all memory
 
 -- the thread doesn't sleep
 abbrev pub IsAwakeAt : Status → Type 0

@@ -1,8 +1,8 @@
 -- The memory that an instruction on threads sees: the stacks, and the words outside them.
-use Rattle.std.specs.Prelude.{ℕ, ◌+◌, ◌-◌, ◌*◌, Bool, true, ◌&&◌, nat_le, nat_lt, Option, Some, None, find, slice_index, slice_set}
+use Rattle.std.specs.Prelude.{ℕ, ◌+◌, ◌-◌, Bool, true, ◌&&◌, nat_le, nat_lt, Option, Some, None, find, slice_index, slice_set}
 use Rattle.m3_isa.specs.Memory.{Memory, put}
 use Rattle.m3_threads.specs.declared.status.Thread.{Thread}
-use Rattle.m3_threads.specs.All.{Everyone, base_of}
+use Rattle.m3_threads.specs.All.{Everyone, base_of, words_of, with_stack}
 
 -- an address is in a thread's stack
 abbrev pub covers : ℕ → ℕ → Thread → Bool
@@ -12,14 +12,14 @@ covers stack at t = nat_le (base_of t) at && nat_lt at (base_of t + stack)
 abbrev pub owner : Everyone → ℕ → Option Thread
 owner all at = find (covers all.stack at) all.threads
 
--- the place of an address of a thread's stack among the words of all stacks
-abbrev pub place_in : Everyone → Thread → ℕ → ℕ
-place_in all t at = t.slot * all.stack + (at - base_of t)
+-- the place of an address in a thread's stack
+abbrev pub place_in : Thread → ℕ → ℕ
+place_in t at = at - base_of t
 
 -- what an address holds, of a stack and of the memory outside
 abbrev pub held_by : Everyone → Memory → ℕ → Option Thread → Option ℕ
 held_by all memory at None = memory at
-held_by all memory at (Some t) = Some (slice_index all.stacks (place_in all t at))
+held_by all memory at (Some t) = Some (slice_index (words_of all t) (place_in t at))
 
 abbrev pub held : Everyone → Memory → Memory
 held all memory at = held_by all memory at (owner all at)
@@ -35,7 +35,7 @@ replaceable all can at = replaceable_by can at (owner all at)
 -- the stacks and the memory outside after a word was put
 abbrev pub put_inside_by : Everyone → ℕ → ℕ → Option Thread → Everyone
 put_inside_by all at word None = all
-put_inside_by all at word (Some t) = record all { stacks = slice_set all.stacks (place_in all t at) word }
+put_inside_by all at word (Some t) = with_stack all t.slot (slice_set (words_of all t) (place_in t at) word)
 
 abbrev pub put_inside : Everyone → ℕ → ℕ → Everyone
 put_inside all at word = put_inside_by all at word (owner all at)

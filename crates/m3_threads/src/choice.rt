@@ -18,11 +18,11 @@ fn status_at(i: Instr) -> Status
 }
 
 impl Threads {
-    ghost use Rattle.std.specs.Prelude.{◌≡◌, ◌==◌, ◌+◌, ◌<◌, ◌^◌, IsSome, Some, length, slice_get};
+    ghost use Rattle.std.specs.Prelude.{ℕ, ◌≡◌, ◌==◌, ◌+◌, ◌<◌, ◌^◌, IsSome, Some, None, length};
     ghost use Rattle.m3_isa.specs.Instructions.{IsInstruction};
     ghost use Rattle.m3_threads.specs.All.{thread_named, updated};
     ghost use Rattle.m3_threads.specs.Spaces.{held};
-    ghost use Rattle.m3_threads.specs.Going.{status_at as status_at_place, standing, may_go, may_go_in, lowest, chosen};
+    ghost use Rattle.m3_threads.specs.Going.{status_at as status_at_place, standing, may_go, may_go_in, IsLowest, IsChoice, NoneGoes};
     ghost use Rattle.m3_threads.specs.Actions.{with_threads};
 
     /// Sets the status of a thread that has come to an instruction.
@@ -49,7 +49,7 @@ impl Threads {
     /// else the lowest-numbered that may, and none exactly where no thread may go.
     pub fn choose<W: Words>(&self, to: Option<u64>, running: u64, mem: &W) -> Option<u64>
         requires { self.now.forks + self.now.waits < 2 ^ 63 }
-        ensures { result ≡ chosen self.now (W.holds mem.now) to running }
+        ensures { IsChoice self.now (W.holds mem.now) to running result }
     {
         if let Some(named) = to {
             if self.may_go_if_there(named, mem) {
@@ -108,29 +108,14 @@ impl Threads {
 
     // The lowest-numbered thread that may go.
     fn lowest<W: Words>(&self, mem: &W) -> Option<u64>
-        ensures { result ≡ lowest self.now (W.holds mem.now) }
+        ensures lowest { (n : ℕ) → result ≡ Some n → IsLowest self.now (W.holds mem.now) n }
+        ensures none { result ≡ None → NoneGoes self.now (W.holds mem.now) }
     {
-        for k in 0..self.count() {
-            let t = self.at(k);
-            if self.goes(t, mem) {
+        for t in &self.list {
+            if self.goes(*t, mem) {
                 return Some(t.number);
             }
         }
         None
-    }
-
-    // How many threads have not ended.
-    fn count(&self) -> usize
-        ensures { result ≡ length self.now.threads }
-    {
-        self.list.len()
-    }
-
-    // The thread at a place of the list.
-    fn at(&self, place: usize) -> Thread
-        requires { place < length self.now.threads }
-        ensures { slice_get self.now.threads place ≡ Some result }
-    {
-        self.list[place]
     }
 }

@@ -1,5 +1,6 @@
 use crate::answers::ThreadsFull;
-use crate::list::{frame, lay_out, lowest_slot};
+use crate::list::lowest_slot;
+use crate::stacks::{blank_stacks, frame, lay_out};
 use crate::status::Thread;
 use crate::threads::Threads;
 use m3_base::NoMemory;
@@ -19,8 +20,8 @@ impl Threads {
         ensures { IfOk result (λ all. all ≡ at_start threads stack) }
     {
         let mut list = Vec::with_capacity(alloc, threads as usize)?;
-        let mut stacks = vec![in alloc; 0; (u64::from(threads) * stack) as usize]?;
-        frame(&mut stacks, 0, 1 << 32);
+        let mut stacks = blank_stacks(alloc, threads as usize, stack as usize)?;
+        frame(&mut stacks[0], 1 << 32);
         list.push_reserved(Thread::started(0, 0, 0));
         Ok(Threads {
             allowed: threads,
@@ -44,14 +45,7 @@ impl Threads {
             return Err(ThreadsFull);
         }
         let slot = lowest_slot(&self.list, self.allowed);
-        let stack = self.stack as usize;
-        lay_out(
-            &mut self.stacks,
-            slot as usize * stack,
-            stack,
-            closure,
-            cell,
-        );
+        lay_out(&mut self.stacks[slot as usize], closure, cell);
         self.forks += 1;
         self.list
             .push_reserved(Thread::started(self.forks, slot, first));

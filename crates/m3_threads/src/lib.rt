@@ -10,6 +10,7 @@ mod joins;
 mod list;
 mod mutexes;
 mod readers;
+mod stacks;
 mod status;
 mod threads;
 

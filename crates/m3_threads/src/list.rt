@@ -1,9 +1,9 @@
-ghost use Rattle.std.specs.Prelude.{◌≡◌, ◌+◌, ◌<◌, ◌&&◌, ◌≤◌, nat_le, nat_lt, length, map, vec_capacity, vec_len, slice_set, MatchOption, None, find};
+ghost use Rattle.std.specs.Prelude.{◌≡◌, ◌+◌, ◌<◌, ◌&&◌, ◌≤◌, nat_le, nat_lt, length, map, vec_capacity, vec_len, MatchOption, None, find};
 ghost use Rattle.m3_threads.specs.All.{HaveSlots, base_of_slot};
 ghost use Rattle.m3_threads.specs.Places.{IsPlaceOf, IsNobody, IsOwnerAt};
 ghost use Rattle.m3_threads.specs.Spaces.{covers};
 ghost use Rattle.std.specs.List.{list_any};
-ghost use Rattle.m3_threads.specs.Actions.{longest, longer, is_before, woken_on, IsLowestFree, uses, cleared, framed};
+ghost use Rattle.m3_threads.specs.Actions.{longest, longer, is_before, woken_on, IsLowestFree, uses};
 
 use crate::status::Thread;
 
@@ -120,38 +120,4 @@ fn is_used(threads: &[Thread], slot: u32) -> bool
     ensures { result ≡ list_any (uses slot) threads.now }
 {
     threads.iter().any(|t| t.slot == slot)
-}
-
-/// Sets n words from a place on to 0.
-fn clear(words: &mut Vec<u64>, place: usize, n: usize)
-    requires { place + n ≤ vec_len words.old }
-    ensures words { words.new.items ≡ cleared place words.old.items n }
-    ensures length { vec_len words.new ≡ vec_len words.old }
-{
-    for k in 0..n {
-        words[place + k] = 0;
-    }
-}
-
-/// Writes the first frame of a thread.
-pub fn frame(words: &mut Vec<u64>, place: usize, cell: u64)
-    requires { place + 2 < vec_len words.old }
-    ensures words { words.new.items ≡ framed place cell words.old.items }
-    ensures length { vec_len words.new ≡ vec_len words.old }
-{
-    words[place] = u64::MAX;
-    words[place + 1] = 0;
-    words[place + 2] = cell;
-}
-
-/// Clears a stack of n words and writes the first frame of a forked thread.
-pub fn lay_out(words: &mut Vec<u64>, place: usize, n: usize, closure: u64, cell: u64)
-    requires room { place + n ≤ vec_len words.old }
-    requires large { 8 ≤ n }
-    ensures words { words.new.items ≡ slice_set (framed place cell (cleared place words.old.items n)) (place + 6) closure }
-    ensures length { vec_len words.new ≡ vec_len words.old }
-{
-    clear(words, place, n);
-    frame(words, place, cell);
-    words[place + 6] = closure;
 }

@@ -9,7 +9,7 @@ impl Threads {
     ghost use Rattle.m3_threads.specs.All.{thread_named};
     ghost use Rattle.m3_threads.specs.Going.{IsAwake};
     ghost use Rattle.m3_threads.specs.declared.status.Thread.{Thread as OneThread};
-    ghost use Rattle.m3_threads.specs.Actions.{IsAfter, frees, sleeps, acquires, releases, waits, signals, broadcasts};
+    ghost use Rattle.m3_threads.specs.Actions.{IsAfter, frees, sleeps, acquires, releases, waits, signals, broadcasts, longest, SleepsLongest};
     ghost use Rattle.m3_isa.specs.declared.instructions.Op.TheVariants.{Acq, Rel, Wait, Sig, Bca};
 
     /// ACQ: the thread becomes the holder of the mutex in register a.
@@ -98,6 +98,7 @@ impl Threads {
         requires awake { (t : OneThread) → thread_named self.old thread ≡ Some t → IsAwake t }
         ensures after { (t : OneThread) → thread_named self.old thread ≡ Some t
             → IsAfter (signals t i self.old (W.holds mem.old)) result self.new (W.holds mem.new) }
+        ensures longest { (at : ℕ) → SleepsLongest at self.old.threads (longest at self.old.threads) }
         ensures writable { (x : ℕ) → W.writable mem.new x ≡ W.writable mem.old x }
         ensures counts { self.new.forks + self.new.waits ≤ self.old.forks + self.old.waits + 1 }
     {

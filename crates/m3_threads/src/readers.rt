@@ -3,16 +3,18 @@ use crate::threads::Threads;
 use m3_isa::Regs;
 
 impl Threads {
-    ghost use Rattle.std.specs.Prelude.{◌≡◌, slice_get};
+    ghost use Rattle.std.specs.Prelude.{◌≡◌, ◌<◌, IsSome, Some, slice_get};
     ghost use Rattle.std.specs.Option.{option_copied, option_copied_mut};
     ghost use Rattle.std.specs.Borrow.{sem};
-    ghost use Rattle.m3_threads.specs.Lending.{LendsRegs};
-    ghost use Rattle.m3_threads.specs.All.{thread_named, base_of, words_of};
+    ghost use Rattle.m3_threads.specs.Lending.{LendsRegs, LendsWords, LendsStack};
+    ghost use Rattle.m3_threads.specs.All.{thread_named, base_of, words_of, stack_in, IsSound};
     ghost use Rattle.m3_threads.specs.Going.{of_thread};
 
-    /// The number of the thread at a place of the list, from 0, and none exactly past the list.
+    /// The number of the thread at a place of the list, from 0, and none exactly past the list. The list
+    /// is in the order of the numbers, and each thread has a slot of its own.
     pub fn number(&self, place: u32) -> Option<u64>
-        ensures { result ≡ of_thread (λ t. t.number) (slice_get self.now.threads place) }
+        ensures number { result ≡ of_thread (λ t. t.number) (slice_get self.now.threads place) }
+        ensures sound { IsSound self.now.allowed self.now.stack self.now.forks self.now.threads self.now.stacks }
     {
         if (place as usize) < self.list.len() {
             Some(self.list[place as usize].number)
@@ -46,10 +48,7 @@ impl Threads {
         ensures { option_copied result ≡ of_thread (words_of self.now) (thread_named self.now thread) }
     {
         match self.find(thread) {
-            Some(t) => {
-                let place = t.slot as usize * self.stack as usize;
-                Some(&self.stacks[place..place + self.stack as usize])
-            }
+            Some(t) => Some(&self.stacks[t.slot as usize]),
             None => None,
         }
     }
@@ -71,17 +70,33 @@ impl Threads {
     }
 
     /// The words of a thread's stack, to be changed, and none exactly where no thread of that number is
-    /// there.
+    /// there. What is written stays, as at `stack_mut`; the clause that says so stands there.
     pub fn words_mut(&mut self, thread: u64) -> Option<&mut [u64]>
         ensures { option_copied_mut result ≡ of_thread (words_of self.old) (thread_named self.old thread) }
     {
         match self.find(thread) {
-            Some(t) => {
-                let stack = self.stack as usize;
-                let place = t.slot as usize * stack;
-                Some(&mut self.stacks[place..place + stack])
-            }
+            Some(t) => Some(self.words_in_mut(t.slot)),
             None => None,
         }
+    }
+
+    /// The words of the stack of a thread that is there, to be changed. After the loan they are what was
+    /// written, and everything else is as it was.
+    pub fn stack_mut(&mut self, thread: u64) -> &mut [u64]
+        requires { IsSome (thread_named self.old thread) }
+        ensures* writes_back { sem 𝓛 (LendsWords self.entry thread result) }
+        ensures value { Some result.now ≡ of_thread (words_of self.old) (thread_named self.old thread) }
+    {
+        let t = self.thread(thread);
+        self.words_in_mut(t.slot)
+    }
+
+    // The words of the stack in a slot, to be changed.
+    fn words_in_mut(&mut self, slot: u32) -> &mut [u64]
+        requires { slot < self.old.allowed }
+        ensures* writes_back { sem 𝓛 (LendsStack self.entry slot result) }
+        ensures value { result.now ≡ stack_in self.old slot }
+    {
+        &mut self.stacks[slot as usize]
     }
 }

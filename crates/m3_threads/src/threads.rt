@@ -14,18 +14,18 @@ pub struct Threads {
     pub(crate) forks: u64,
     pub(crate) waits: u64,
     pub(crate) list: Vec<Thread>,
-    pub(crate) stacks: Vec<u64>,
+    pub(crate) stacks: Vec<Vec<u64>>,
 }
 
 impl Model for Threads {
-    ghost use Rattle.std.specs.Prelude.{◌≤◌, vec_capacity};
+    ghost use Rattle.std.specs.Prelude.{◌≤◌, map, vec_capacity};
     ghost use Rattle.m3_threads.specs.All.{Everyone, IsSound};
 
     ghost Value = { Everyone };
 
-    ghost view = { λ t. record { allowed = t.allowed; stack = t.stack; forks = t.forks; waits = t.waits; threads = t.list.items; stacks = t.stacks.items } };
+    ghost view = { λ t. record { allowed = t.allowed; stack = t.stack; forks = t.forks; waits = t.waits; threads = t.list.items; stacks = map (λ v. v.items) t.stacks.items } };
 
-    ghost invariant = { λ t. IsSound t.allowed t.stack t.forks t.list.items t.stacks.items × (t.allowed ≤ vec_capacity t.list) };
+    ghost invariant = { λ t. IsSound t.allowed t.stack t.forks t.list.items (map (λ v. v.items) t.stacks.items) × (t.allowed ≤ vec_capacity t.list) };
 }
 
 impl Threads {
@@ -40,7 +40,11 @@ impl Threads {
         ensures { result ≡ held self.now (W.holds mem.now) at }
     {
         match owner_of(&self.list, self.stack, at) {
-            Some(k) => Some(self.stacks[place_in(self.list[k].slot, self.stack, at)]),
+            Some(k) => {
+                let slot = self.list[k].slot;
+                let words = &self.stacks[slot as usize];
+                Some(words[place_in(slot, self.stack, at)])
+            }
             None => mem.load(at),
         }
     }
@@ -59,8 +63,9 @@ impl Threads {
     {
         match owner_of(&self.list, self.stack, at) {
             Some(k) => {
-                let place = place_in(self.list[k].slot, self.stack, at);
-                self.stacks[place] = word;
+                let slot = self.list[k].slot;
+                let words = &mut self.stacks[slot as usize];
+                words[place_in(slot, self.stack, at)] = word;
                 true
             }
             None => mem.store(at, word),
@@ -74,6 +79,7 @@ impl Threads {
         ensures named { thread_named self.now result.number ≡ Some result }
         ensures number { result.number ≡ number }
         ensures given_out { result.number ≤ self.now.forks }
+        ensures slot { result.slot < self.now.allowed }
     {
         match place_of(&self.list, number) {
             Some(k) => self.list[k],
@@ -237,13 +243,13 @@ impl Threads {
     }
 }
 
-// The place of an address of a slot's stack among the words of all stacks.
+// The place of an address in a slot's stack.
 fn place_in(slot: u32, stack: u64, at: u64) -> usize
     requires slot { slot < 64 }
     requires stack { stack ≤ 2 ^ 20 }
     requires below { base_of_slot slot ≤ at }
     requires above { at < base_of_slot slot + stack }
-    ensures { result ≡ slot * stack + (at - base_of_slot slot) }
+    ensures { result ≡ at - base_of_slot slot }
 {
-    (u64::from(slot) * stack + (at - base_of_slot(slot))) as usize
+    (at - base_of_slot(slot)) as usize
 }

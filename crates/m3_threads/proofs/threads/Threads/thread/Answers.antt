@@ -15,6 +15,13 @@ returns-clause-given_out c =
     let e = ap (λ v. v.forks) c.self.view_is in
     omega arith
 
+pub returns-clause-slot : goal.returns-clause-slot
+returns-clause-slot c =
+    let p = place_got c.args.number c.self.inside.list.items c.deref.result.now c.in-Some.k c.index.result.now c.deref.ensures.value c.in-Some.ensures c.index.ensures in
+    let h = c.self.invariant.0.slots c.in-Some.k c.index.result.now p.got in
+    let e = ap (λ v. v.allowed) c.self.view_is in
+    omega arith
+
 pub returns-clause-named : goal.returns-clause-named
 returns-clause-named c =
     let t = c.index.result.now in
