@@ -1,15 +1,16 @@
 -- The table of words stays right, and is full where no type can be added to it.
-use Rattle.std.proofs.Common.{◌≡◌, ◌≢◌, ℕ, zero, suc, ◌+◌, ◌*◌, ◌<◌, ◌≤◌, List, [], ◌∷◌, length, get_or, Option, Some, None, refl, sym, ◌∙◌, ap, subst, arith, ⊎_elim, add-zero, add-suc, add_comm}
+use Rattle.std.proofs.Common.{◌≡◌, ◌≢◌, ℕ, zero, suc, ◌+◌, ◌-◌, ◌*◌, ◌<◌, ◌≤◌, Bool, false, List, [], ◌∷◌, length, get_or, Option, Some, None, refl, sym, ◌∙◌, ap, subst, arith, ⊎_elim, add-zero, add-suc, add_comm}
 use Rattle.std.proofs.Math.Logic.{∥∥₁_elim, ∥∥₁_prop}
-use Rattle.std.specs.Prelude.{IsSome, slice_get, slice_set}
-use Rattle.std.specs.Option.{option_map_or, option_and_then, unwrap_or}
+use Rattle.std.specs.Coded.{×_prop, Unit-prop, le_prop}
+use Rattle.std.specs.Prelude.{IsTrue, IsSome, slice_get, slice_set}
+use Rattle.std.specs.Option.{option_map_or, option_and_then, unwrap_or, is_some}
 use Rattle.std.proofs.lemmas.Bool.{cases_eq}
 use Rattle.m3_types.specs.declared.nodes.Field.{Field}
 use Rattle.m3_types.specs.declared.nodes.TypeNode.{TypeNode}
 use Rattle.m3_types.specs.declared.nodes.TypeNode.TheVariants.{Integer, Boolean, Character, Enumeration, Subrange, FixedArray, OpenArray, Fields, SetOf, RefTo, Object, Procedure, Opaque, Null, RefAny, Text, Mutex, Root}
 use Rattle.m3_types.specs.Definitions.{node_at, head_at}
 use Rattle.m3_types.specs.Subtypes.{size_of}
-use Rattle.m3_types.specs.Sizes.{most_words, field_words, words_of_node, words_to_depth, EachField, EachPart, HasParts, IsSized, known_at, Known, known_words, IsRight, IsSound, HasSize, IsLow, IsFull, IsReady, IsSettled}
+use Rattle.m3_types.specs.Sizes.{most_words, field_words, words_of_node, words_to_depth, EachField, EachPart, HasParts, IsSized, known_at, Known, known_words, IsRight, IsSound, having, HasSize, IsLow, IsFull, IsReady, IsSettled}
 
 each_field : (P Q : ℕ → Type 0) → ((j : ℕ) → P j → Q j) → (fs : List Field) → EachField P fs → EachField Q fs
 each_field P Q h [] p = tt
@@ -140,6 +141,31 @@ past_settled (x ∷ xs) table (suc i) l n h none r = past (slice_get xs i) (past
     past : (o : Option TypeNode) → o ≡ None → o ≡ Some n → ⊥
     past o p q = let e : None ≡ Some n = sym p ∙ q in let z : ⊥ = cc in z
 
+having_low : (table : List (Option ℕ)) → having table ≤ length table
+having_low [] = omega arith
+having_low (None ∷ xs) = omega (arith, having_low xs)
+having_low (Some w ∷ xs) = omega (arith, having_low xs)
+
+one_more : (table : List (Option ℕ)) (i w : ℕ) → i < length table → known_at table i ≡ None → having (slice_set table i (Some w)) ≡ suc (having table)
+one_more [] i w l e = absurd (omega arith)
+one_more (None ∷ xs) zero w l e = refl
+one_more (Some v ∷ xs) zero w l e = let z : ⊥ = cc in absurd z
+one_more (None ∷ xs) (suc i) w l e = let r = one_more xs i w (omega arith) e in omega (arith, r)
+one_more (Some v ∷ xs) (suc i) w l e = let r = one_more xs i w (omega arith) e in omega (arith, r)
+
+pub none_here : (table : List (Option ℕ)) (i : ℕ) (b : Bool) → b ≡ is_some (get_or table i None) → b ≡ false → known_at table i ≡ None
+none_here [] i b e f = refl
+none_here (None ∷ xs) zero b e f = refl
+none_here (Some w ∷ xs) zero b e f = let z : ⊥ = cc in absurd z
+none_here (x ∷ xs) (suc i) b e f = none_here xs i b e f
+
+some_known : (o : Option ℕ) → (o ≡ None → ⊥) → IsSome o
+some_known None h = absurd (h refl)
+some_known (Some w) h = refl
+
+absurd_prop : (x y : ⊥) → x ≡ y
+absurd_prop x y = absurd x
+
 -- ---- types in the table have a size
 
 module _ (nodes : List TypeNode) where
@@ -163,28 +189,71 @@ module _ (nodes : List TypeNode) where
   sized_below zero depth i s = subst (λ k. IsSized nodes k i) (sym (add-zero depth)) s
   sized_below (suc more) depth i s = subst (λ k. IsSized nodes k i) (sym (add-suc depth more)) (sized_deeper (depth + more) i (sized_below more depth i s))
 
-  -- one depth for all fields
-  fields_sized : (fs : List Field) → EachField (HasSize nodes) fs → ∥ ((depth : ℕ) × EachField (IsSized nodes depth) fs) ∥₁
-  fields_sized [] p = ∣ (0, tt) ∣₁
-  fields_sized (f ∷ fs) p =
-      ∥∥₁_elim p.0 ∥∥₁_prop (λ a.
-      ∥∥₁_elim (fields_sized fs p.1) ∥∥₁_prop (λ b.
-      ∣ (a.0 + b.0, (sized_below b.0 a.0 f.kind.0 a.1, each_field (IsSized nodes b.0) (IsSized nodes (a.0 + b.0)) (λ j s. subst (λ k. IsSized nodes k j) (add_comm b.0 a.0) (sized_below a.0 b.0 j s)) fs b.1)) ∣₁))
+  fields_sized : (depth : ℕ) (fs : List Field) → EachField (λ j. ∥ IsSized nodes depth j ∥₁) fs → ∥ EachField (IsSized nodes depth) fs ∥₁
+  fields_sized depth [] p = ∣ tt ∣₁
+  fields_sized depth (f ∷ fs) p =
+      ∥∥₁_elim p.0 ∥∥₁_prop (λ a. ∥∥₁_elim (fields_sized depth fs p.1) ∥∥₁_prop (λ b. ∣ (a, b) ∣₁))
 
-  parts_sized : (n : TypeNode) → EachPart (HasSize nodes) n → ∥ ((depth : ℕ) × EachPart (IsSized nodes depth) n) ∥₁
-  parts_sized (Fields fields) p = fields_sized fields.items p
-  parts_sized (FixedArray index element) p = p
-  parts_sized (OpenArray element) p = absurd p
-  parts_sized _ p = ∣ (0, tt) ∣₁
+  parts_sized : (depth : ℕ) (n : TypeNode) → EachPart (λ j. ∥ IsSized nodes depth j ∥₁) n → ∥ EachPart (IsSized nodes depth) n ∥₁
+  parts_sized depth (Fields fields) p = fields_sized depth fields.items p
+  parts_sized depth (FixedArray index element) p = p
+  parts_sized depth (OpenArray element) p = absurd p
+  parts_sized depth _ p = ∣ tt ∣₁
 
-  pub settled_size : (table : List (Option ℕ)) (i : ℕ) (n : TypeNode) (words : ℕ) → IsRight nodes table → IsSound nodes table → node_at nodes i ≡ Some n → words ≡ words_of_node nodes (known_words table) n → words ≤ most_words → EachPart (Known table) n → HasSize nodes i
+  pub settled_size : (table : List (Option ℕ)) (i : ℕ) (n : TypeNode) (words : ℕ) → IsRight nodes table → IsSound nodes table → node_at nodes i ≡ Some n → words ≡ words_of_node nodes (known_words table) n → words ≤ most_words → EachPart (Known table) n → ∥ IsSized nodes (suc (having table)) i ∥₁
   settled_size table i n words right sound e w low known =
-      let parts = each_part (Known table) (HasSize nodes) (λ j k. sound j (known_words table j) (known_some (known_at table j) k)) n known in
-      ∥∥₁_elim (parts_sized n parts) ∥∥₁_prop (λ d.
-      let now : words_to_depth nodes (suc d.0) i ≡ words_of_node nodes (words_to_depth nodes d.0) n = ap (λ (o : Option TypeNode). option_map_or (words_of_node nodes (words_to_depth nodes d.0)) o 0) e in
-      let is : words ≡ words_to_depth nodes (suc d.0) i = w ∙ same_words nodes table d.0 n right known d.1 ∙ sym now in
-      ∣ (suc d.0, (subst (HasParts (IsSized nodes d.0)) (sym e) d.1, subst (λ k. k ≤ most_words) is low)) ∣₁)
+      let depth = having table in
+      let parts = each_part (Known table) (λ j. ∥ IsSized nodes depth j ∥₁) (λ j k. sound j (known_words table j) (known_some (known_at table j) k)) n known in
+      ∥∥₁_elim (parts_sized depth n parts) ∥∥₁_prop (λ d.
+      let now : words_to_depth nodes (suc depth) i ≡ words_of_node nodes (words_to_depth nodes depth) n = ap (λ (o : Option TypeNode). option_map_or (words_of_node nodes (words_to_depth nodes depth)) o 0) e in
+      let is : words ≡ words_to_depth nodes (suc depth) i = w ∙ same_words nodes table depth n right known d ∙ sym now in
+      ∣ (subst (HasParts (IsSized nodes depth)) (sym e) d, subst (λ k. k ≤ most_words) is low) ∣₁)
 
-  pub sound_added : (table : List (Option ℕ)) (i words : ℕ) → IsSound nodes table → HasSize nodes i → IsSound nodes (slice_set table i (Some words))
-  sound_added table i words sound here j w k =
-      ⊎_elim (λ e. subst (HasSize nodes) (sym e) here) (λ ne. sound j w (sym (known_other table i j (Some words) ne) ∙ k)) (cases_eq j i)
+  pub sound_added : (table : List (Option ℕ)) (i words : ℕ) → i < length table → known_at table i ≡ None → IsSound nodes table → ∥ IsSized nodes (suc (having table)) i ∥₁ → IsSound nodes (slice_set table i (Some words))
+  sound_added table i words l none sound here j w k =
+      subst (λ (depth : ℕ). ∥ IsSized nodes depth j ∥₁) (sym (one_more table i words l none))
+      (⊎_elim
+      (λ e. subst (λ m. ∥ IsSized nodes (suc (having table)) m ∥₁) (sym e) here)
+      (λ ne. ∥∥₁_elim (sound j w (sym (known_other table i j (Some words) ne) ∙ k)) ∥∥₁_prop (λ s. ∣ sized_deeper (having table) j s ∣₁))
+      (cases_eq j i))
+
+  -- a type that is in the table has a size, and is nested no deeper than the table is long
+  pub sound_size : (table : List (Option ℕ)) (i w : ℕ) → IsSound nodes table → known_at table i ≡ Some w → HasSize nodes i
+  sound_size table i w sound k = ∥∥₁_elim (sound i w k) ∥∥₁_prop (λ s. ∣ (having table, s) ∣₁)
+
+  pub sound_shallow : (table : List (Option ℕ)) (i w n : ℕ) → IsSound nodes table → length table ≡ n → known_at table i ≡ Some w → ∥ IsSized nodes n i ∥₁
+  sound_shallow table i w n sound e k =
+      ∥∥₁_elim (sound i w k) ∥∥₁_prop (λ s.
+      let l : having table + (n - having table) ≡ n = omega (arith, having_low table) in
+      ∣ subst (λ d. IsSized nodes d i) l (sized_below (n - having table) (having table) i s) ∣₁)
+
+  -- a type that has a size is in a full table
+  pub full_known : (table : List (Option ℕ)) (i : ℕ) → IsFull nodes table → HasSize nodes i → Known table i
+  full_known table i full h =
+      some_known (known_at table i) (λ none. ∥∥₁_elim h absurd_prop (λ s. full i s.0 s.1 none))
+
+  -- whether a table that is sound and full has a type says whether the type has a size
+  pub sized_if : (table : List (Option ℕ)) (i : ℕ) (b : Bool) (o : Option ℕ) → o ≡ known_at table i → b ≡ is_some o → IsSound nodes table → IsFull nodes table → (IsTrue b → HasSize nodes i) × (HasSize nodes i → IsTrue b)
+  sized_if table i b o e f sound full =
+      (λ t. sound_size table i (known_words table i) sound (known_some (known_at table i) (ap is_some (sym e) ∙ sym f ∙ t)), λ h. f ∙ ap is_some e ∙ full_known table i full h)
+
+  fields_prop : (P : ℕ → Type 0) → ((j : ℕ) → IsProp (P j)) → (fs : List Field) → IsProp (EachField P fs)
+  fields_prop P h [] = Unit-prop
+  fields_prop P h (f ∷ fs) = ×_prop (h f.kind.0) (fields_prop P h fs)
+
+  part_prop : (P : ℕ → Type 0) → ((j : ℕ) → IsProp (P j)) → (n : TypeNode) → IsProp (EachPart P n)
+  part_prop P h (Fields fields) = fields_prop P h fields.items
+  part_prop P h (FixedArray index element) = h element.0
+  part_prop P h (OpenArray element) = absurd_prop
+  part_prop P h _ = Unit-prop
+
+  node_prop : (P : ℕ → Type 0) → ((j : ℕ) → IsProp (P j)) → (o : Option TypeNode) → IsProp (HasParts P o)
+  node_prop P h None = absurd_prop
+  node_prop P h (Some n) = part_prop P h n
+
+  sized_prop : (depth i : ℕ) → IsProp (IsSized nodes depth i)
+  sized_prop zero i = absurd_prop
+  sized_prop (suc depth) i = ×_prop (node_prop (IsSized nodes depth) (sized_prop depth) (node_at nodes i)) le_prop
+
+  pub shallow_if : (table : List (Option ℕ)) (i n : ℕ) → IsSound nodes table → IsFull nodes table → length table ≡ n → HasSize nodes i → IsSized nodes n i
+  shallow_if table i n sound full l h = ∥∥₁_elim (sound_shallow table i (known_words table i) n sound l (known_some (known_at table i) (full_known table i full h))) (sized_prop n i) (λ s. s)

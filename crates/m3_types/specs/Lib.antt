@@ -6,4 +6,5 @@ pub mod Subtypes
 pub mod Reaching
 pub mod Assignments
 pub mod Ranges
+pub mod Reveals
 pub mod Sizes

@@ -61,6 +61,10 @@ IsSized nodes (suc depth) i = HasParts (IsSized nodes depth) (node_at nodes i) �
 abbrev pub HasSize : List TypeNode → ℕ → Type 0
 HasSize nodes i = ∥ ((depth : ℕ) × IsSized nodes depth i) ∥₁
 
+-- A type that has a size doesn't contain itself, and so its parts are nested less deep than there are types.
+abbrev pub IsShallow : List TypeNode → Type 0
+IsShallow nodes = (i : ℕ) → HasSize nodes i → ∥ IsSized nodes (length nodes) i ∥₁
+
 -- ---- the table of words
 
 -- what the table has for a type: nothing where the type has no size
@@ -90,9 +94,15 @@ IsFull nodes table = (i depth : ℕ) → IsSized nodes depth i → known_at tabl
 abbrev pub IsReady : List TypeNode → List (Option ℕ) → TypeNode → Type 0
 IsReady nodes table node = EachPart (Known table) node × (words_of_node nodes (known_words table) node ≤ most_words)
 
--- the types that are in the table have a size
+-- how many types the table has
+abbrev pub having : List (Option ℕ) → ℕ
+having [] = 0
+having (None ∷ table) = having table
+having (Some words ∷ table) = suc (having table)
+
+-- The types that are in the table have a size: their parts are nested no deeper than the table has types.
 abbrev pub IsSound : List TypeNode → List (Option ℕ) → Type 0
-IsSound nodes table = (i w : ℕ) → known_at table i ≡ Some w → HasSize nodes i
+IsSound nodes table = (i w : ℕ) → known_at table i ≡ Some w → ∥ IsSized nodes (having table) i ∥₁
 
 -- how many types the table lacks
 abbrev pub lacking : List (Option ℕ) → ℕ

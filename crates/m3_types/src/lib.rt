@@ -14,6 +14,7 @@ mod nodes;
 mod partition;
 mod parts;
 mod reached;
+mod reveals;
 mod same;
 mod upward;
 mod words;

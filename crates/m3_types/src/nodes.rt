@@ -1,6 +1,9 @@
-ghost use Rattle.std.specs.Prelude.{◌≡◌, ◌↔◌, ℕ, IfOk, IsTrue};
-ghost use Rattle.m3_types.specs.Sizes.{IsRight, IsSound, IsFull, IsSized, HasSize, words_to_depth};
+ghost use Rattle.std.specs.Prelude.{◌≡◌, ◌↔◌, ℕ, length, IfOk, IsTrue};
+ghost use Rattle.m3_types.specs.Sizes.{IsRight, IsSound, IsFull, IsShallow, IsSized, HasSize, words_to_depth};
+ghost use Rattle.m3_types.specs.Reveals.{IsIndex};
 
+use crate::arrays::size_at;
+use crate::reveals::index_of_reveals;
 use crate::words::{known, table_of_words};
 use m3_base::{Bytes, NoMemory};
 use std::alloc::Global;
@@ -146,12 +149,22 @@ pub struct TypeGraph {
     pub reveals: Vec<Reveal>,
     pub constants: Vec<ConstValue>,
     words: Vec<Option<u64>>,
+    fully: Vec<Option<u32>>,
+    ghost behind: { IsIndex reveals.items (length nodes.items) fully.items },
+    ghost alike: { length words.items ≡ length nodes.items },
     ghost right: { IsRight nodes.items words.items },
     ghost sound: { IsSound nodes.items words.items },
     ghost full: { IsFull nodes.items words.items },
+    pub ghost shallow: { IsShallow nodes.items },
 }
 
 impl TypeGraph {
+    ghost use Rattle.m3_types.specs.Definitions.{head_at};
+    ghost use Rattle.m3_types.specs.Subtypes.{size_of};
+    ghost use Rattle.m3_types.specs.Reveals.{full_reveal};
+    ghost use Rattle.std.specs.Prelude.{◌<◌};
+    ghost use Rattle.std.specs.Option.{option_map};
+
     /// The graph of these definitions, reveals and constants.
     pub fn new(
         alloc: Global,
@@ -164,11 +177,13 @@ impl TypeGraph {
         ensures constants { IfOk result (λ graph. graph.constants.items ≡ constants.items) }
     {
         let words = table_of_words(alloc, &nodes)?;
+        let fully = index_of_reveals(alloc, nodes.len(), &reveals)?;
         Ok(TypeGraph {
             nodes,
             reveals,
             constants,
             words,
+            fully,
         })
     }
 
@@ -184,8 +199,26 @@ impl TypeGraph {
     /// of a set's base and at least a word, and for a record or fixed array the sum of its parts.
     pub fn words_of(&self, t: TypeId) -> u64
         requires { HasSize self.now.nodes.items t.0 }
-        ensures { (depth : ℕ) → IsSized self.now.nodes.items depth t.0 → result ≡ words_to_depth self.now.nodes.items depth t.0 }
+        ensures words { (depth : ℕ) → IsSized self.now.nodes.items depth t.0 → result ≡ words_to_depth self.now.nodes.items depth t.0 }
+        // a type that doesn't contain itself is nested less deep than there are types
+        ensures shallow { IsSized self.now.nodes.items (length self.now.nodes.items) t.0 }
     {
         known(&self.words, t.0 as usize).unwrap_or(0)
+    }
+
+    /// The type that fully reveals an opaque type; none where no reveal of the program does.
+    pub fn full_reveal(&self, t: TypeId) -> Option<TypeId>
+        requires { t.0 < length self.now.nodes.items }
+        ensures { option_map (λ u. u.0) result ≡ full_reveal self.now.reveals.items t.0 }
+    {
+        let behind = self.fully.get(t.0 as usize).copied()?;
+        behind.map(TypeId)
+    }
+
+    /// The number of members of an ordinal type, and 0 where a type isn't one.
+    pub fn member_count(&self, t: TypeId) -> u128
+        ensures { result ≡ size_of (head_at self.now.nodes.items t.0) }
+    {
+        size_at(&self.nodes, t.0 as usize)
     }
 }

@@ -204,6 +204,7 @@ pub(crate) fn table_of_words(
     alloc: Global,
     nodes: &[TypeNode],
 ) -> Result<Vec<Option<u64>>, NoMemory>
+    ensures alike { IfOk result (λ table. length table.items ≡ length nodes.now) }
     ensures right { IfOk result (λ table. IsRight nodes.now table.items) }
     ensures sound { IfOk result (λ table. IsSound nodes.now table.items) }
     ensures full { IfOk result (λ table. IsFull nodes.now table.items) }

@@ -1,6 +1,6 @@
 use Rattle.std.proofs.Common.{◌<◌, length, arith, sym, subst}
 use Rattle.m3_types.specs.Sizes.{IsReady}
-use Rattle.m3_types.proofs.Measuring.{settled_right, right_added, low_added, node_here, one_node, settled_size, sound_added}
+use Rattle.m3_types.proofs.Measuring.{settled_right, right_added, low_added, node_here, one_node, settled_size, sound_added, none_here}
 use Rattle.m3_types.proofs.words.settle.Goals as goal
 
 pub returns-in-Some-clause-right : goal.returns-in-Some-clause-right
@@ -30,4 +30,5 @@ returns-in-Some-clause-sound c =
     let i = c.args.i in
     let n = c.index-nodes-i.result in
     let e = c.in-Some.ensures.some in
-    sound_added nodes table i c.in-Some.words c.requires.sound (settled_size nodes table i n c.in-Some.words c.requires.right c.requires.sound (node_here nodes i n c.requires.place c.index-nodes-i.is) e.0 e.1 e.2)
+    let l : i < length table = omega arith in
+    sound_added nodes table i c.in-Some.words l (none_here table i c.is_some.result c.is_some.ensures c.if-is_some.false) c.requires.sound (settled_size nodes table i n c.in-Some.words c.requires.right c.requires.sound (node_here nodes i n c.requires.place c.index-nodes-i.is) e.0 e.1 e.2)

@@ -1,0 +1,11 @@
+pub mod Depths
+pub mod Rising
+pub mod Shifting
+pub mod Walks
+pub mod Copying
+pub mod Telling
+pub mod Noting
+pub mod Lineage
+pub mod Opening
+pub mod InOrder
+pub mod Choosing

@@ -1,0 +1,33 @@
+use Rattle.std.proofs.Common.{◌≡◌, ◌+◌, ◌++◌, length, drop, ap, ◌∙◌, arith}
+use Rattle.m3_layout.specs.Pointers.{value_words, value_pointers, field_pointers}
+use Rattle.m3_layout.proofs.Lineage.{field_step, offsets_on}
+use Rattle.m3_layout.proofs.walk.Walk.add_fields.Goals as goal
+
+pub add_value-requires-clause-sized : goal.add_value-requires-clause-sized
+add_value-requires-clause-sized c =
+    (field_step c.args.types.now.nodes.items c.args.fields.now c.loop-field.field-index c.loop-field.next c.field-item.result c.loop-field-test.true c.field-item.is).size c.loop-field.invariant.sized
+
+pub add_value-requires-clause-fits : goal.add_value-requires-clause-fits
+add_value-requires-clause-fits c =
+    let s = field_step c.args.types.now.nodes.items c.args.fields.now c.loop-field.field-index c.loop-field.next c.field-item.result c.loop-field-test.true c.field-item.is in
+    omega (arith, s.words, c.loop-field.invariant.after, c.requires.fits)
+
+pub words_of-next-requires : goal.words_of-next-requires
+words_of-next-requires c =
+    (field_step c.args.types.now.nodes.items c.args.fields.now c.loop-field.field-index c.loop-field.next c.field-item.result c.loop-field-test.true c.field-item.is).size c.loop-field.invariant.sized
+
+pub loop-field-preserved : goal.loop-field-preserved
+loop-field-preserved c =
+    let nodes = c.args.types.now.nodes.items in
+    let next = c.loop-field.next in
+    let f = c.field-item.result in
+    let rest = drop (c.loop-field.field-index + 1) c.args.fields.now in
+    let s = field_step nodes c.args.fields.now c.loop-field.field-index next f c.loop-field-test.true c.field-item.is in
+    let words : c.words_of-next.result ≡ value_words nodes f.kind.0 = c.words_of-next.ensures.words (length nodes) c.words_of-next.ensures.shallow in
+    record {
+      known = c.in_ok-add_value.ensures.known;
+      idle = c.in_ok-add_value.ensures.idle;
+      sized = s.left c.loop-field.invariant.sized;
+      offsets = ap (λ n. c.add_value.new.self.offsets.items ++ field_pointers (value_words nodes) (value_pointers nodes) (next + n) rest) words ∙ offsets_on c.add_value.new.self.offsets.items c.loop-field.self.offsets.items (value_pointers nodes next f.kind.0) (field_pointers (value_words nodes) (value_pointers nodes) (next + value_words nodes f.kind.0) rest) (field_pointers (value_words nodes) (value_pointers nodes) next (drop c.loop-field.field-index c.args.fields.now)) _ c.in_ok-add_value.ensures.offsets s.pointers c.loop-field.invariant.offsets;
+      after = omega (arith, s.words, c.loop-field.invariant.after, words);
+    }

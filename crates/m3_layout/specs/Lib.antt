@@ -1,0 +1,4 @@
+pub mod Pointers
+pub mod Cells
+pub mod Walking
+pub mod Shapes

@@ -1,0 +1,54 @@
+-- Which words of a value are pointers to cells.
+use Rattle.std.specs.Prelude.{ℕ, zero, suc, ◌+◌, ◌≤◌, List, [], ◌∷◌, ◌++◌, length}
+use Rattle.std.specs.Option.{option_map_or}
+use Rattle.m3_types.specs.declared.nodes.Field.{Field}
+use Rattle.m3_types.specs.declared.nodes.TypeNode.{TypeNode}
+use Rattle.m3_types.specs.declared.nodes.TypeNode.TheVariants.{FixedArray, Fields, RefTo, Object, Opaque, Null, RefAny, Text, Mutex, Root}
+use Rattle.m3_types.specs.Definitions.{node_at, head_at}
+use Rattle.m3_types.specs.Subtypes.{size_of}
+use Rattle.m3_types.specs.Sizes.{words_to_depth}
+
+-- The words of a value of a type. The parts of a type that has a size are nested less deep than there
+-- are types.
+abbrev pub value_words : List TypeNode → ℕ → ℕ
+value_words nodes i = words_to_depth nodes (length nodes) i
+
+-- The pointers of fields that follow one another from a word on, where w has the words of their types
+-- and p the pointers of a value that begins at a word.
+abbrev pub field_pointers : (ℕ → ℕ) → (ℕ → ℕ → List ℕ) → ℕ → List Field → List ℕ
+field_pointers w p at [] = []
+field_pointers w p at (f ∷ fs) = p at f.kind.0 ++ field_pointers w p (at + w f.kind.0) fs
+
+-- The pointers of so many elements of so many words each that follow one another from a word on.
+abbrev pub element_pointers : ℕ → (ℕ → List ℕ) → ℕ → ℕ → List ℕ
+element_pointers words p at zero = []
+element_pointers words p at (suc count) = p at ++ element_pointers words p (at + words) count
+
+-- The pointers of a value that begins at a word: the word itself where it is a reference, those of the
+-- fields of a record and of the elements of a fixed array, and none else. A procedure value has none.
+abbrev pub pointers_of_node : List TypeNode → (ℕ → ℕ) → (ℕ → ℕ → List ℕ) → ℕ → TypeNode → List ℕ
+pointers_of_node nodes w p at (Fields fields) = field_pointers w p at fields.items
+pointers_of_node nodes w p at (FixedArray index element) = element_pointers (w element.0) (λ k. p k element.0) at (size_of (head_at nodes index.0))
+pointers_of_node nodes w p at (RefTo brand target) = at ∷ []
+pointers_of_node nodes w p at (Object brand parent fields methods overrides) = at ∷ []
+pointers_of_node nodes w p at (Opaque bound secret) = at ∷ []
+pointers_of_node nodes w p at Null = at ∷ []
+pointers_of_node nodes w p at RefAny = at ∷ []
+pointers_of_node nodes w p at Text = at ∷ []
+pointers_of_node nodes w p at Mutex = at ∷ []
+pointers_of_node nodes w p at Root = at ∷ []
+pointers_of_node nodes w p at _ = []
+
+-- the pointers of a value of a type whose parts are nested less than so deep
+abbrev pub pointers_to_depth : List TypeNode → ℕ → ℕ → ℕ → List ℕ
+pointers_to_depth nodes zero at i = []
+pointers_to_depth nodes (suc depth) at i = option_map_or (pointers_of_node nodes (value_words nodes) (pointers_to_depth nodes depth) at) (node_at nodes i) []
+
+-- the words that are pointers of a value of a type, where its first word has the number `at`
+abbrev pub value_pointers : List TypeNode → ℕ → ℕ → List ℕ
+value_pointers nodes at i = pointers_to_depth nodes (length nodes) at i
+
+-- the numbers rise strictly, from low on, and stay below high
+abbrev pub RisesWithin : ℕ → ℕ → List ℕ → Type 0
+RisesWithin low high [] = low ≤ high
+RisesWithin low high (x ∷ xs) = (low ≤ x) × RisesWithin (suc x) high xs
