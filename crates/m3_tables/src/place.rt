@@ -10,7 +10,7 @@ impl Location {
     ghost use Rattle.m3_tables.specs.Places.{location_of, number_of};
 
     /// The place that a number stands for.
-    pub(crate) fn from_number(number: u32) -> Location
+    pub fn from_number(number: u32) -> Location
         ensures { result ≡ location_of number }
     {
         if number < 16 {

@@ -1,0 +1,6 @@
+pub mod ListLemmas
+pub mod FirstLemmas
+pub mod CodeLemmas
+pub mod ProcLemmas
+pub mod RowLemmas
+pub mod ShapeLemmas

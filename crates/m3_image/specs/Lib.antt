@@ -1,0 +1,10 @@
+pub mod Fields
+pub mod Parts
+pub mod Sections
+pub mod Forms
+pub mod Programs
+pub mod Images
+pub mod PartViews
+pub mod ProgramViews
+pub mod Views
+pub mod Shapes

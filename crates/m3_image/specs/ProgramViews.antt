@@ -1,0 +1,38 @@
+-- What the sections and the program of the code stand for.
+use Rattle.std.specs.Option.{option_map}
+use Rattle.m3_image.specs.declared.program.Places as code_places
+use Rattle.m3_image.specs.declared.program.Program as code_program
+use Rattle.m3_image.specs.declared.sections.Sections as code_sections
+use Rattle.m3_image.specs.Parts.{Places, Program}
+use Rattle.m3_image.specs.Sections.{Sections}
+use Rattle.m3_image.specs.PartViews.{longs_of, pairs_of, names_of, procs_of, types_of, globals_of, code_list}
+
+abbrev pub places_of : code_places.Places → Places
+places_of p = record { files = names_of p.files; places = pairs_of p.places }
+
+abbrev pub program_view : code_program.Program → Program
+program_view p = record {
+  code = code_list p.code;
+  procs = procs_of p.procs;
+  types = types_of p.types;
+  globals = globals_of p.globals;
+  constants = longs_of p.constants;
+  files = names_of p.files;
+  places = pairs_of p.places;
+  exceptions = names_of p.exceptions;
+  tables = p.tables.now;
+}
+
+abbrev pub sections_view : code_sections.Sections → Sections
+sections_view s = record {
+  version = s.version;
+  code = s.code.now;
+  procs = s.procs.now;
+  types = s.types.now;
+  globals = s.globals.now;
+  constants = s.constants.now;
+  places = s.places.now;
+  exceptions = s.exceptions.now;
+  tables = s.tables.now;
+  variables = option_map (λ x. x.now) s.variables;
+}

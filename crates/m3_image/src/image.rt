@@ -1,0 +1,171 @@
+ghost use Rattle.std.specs.Prelude.{◌≡◌, None, IsTrue};
+ghost use Rattle.std.specs.List.{list_all};
+ghost use Rattle.m3_tables.specs.Numbers.{word_in};
+ghost use Rattle.m3_tables.specs.Tables.{section_of, row_count};
+ghost use Rattle.m3_image.specs.Programs.{fault_of, variable_fits};
+ghost use Rattle.m3_image.specs.PartViews.{variables_list};
+ghost use Rattle.m3_image.specs.ProgramViews.{program_view};
+
+use crate::procs::ProcPart;
+use crate::program::Program;
+use crate::refusal::ImageRefusal;
+use crate::sections::Sections;
+use crate::types::TypeView;
+use crate::variables::{VarView, Variables};
+use m3_heap::Maps;
+use m3_isa::Instr;
+use m3_tables::TableView;
+
+/// An image, as it stands in its bytes. A view takes no memory.
+#[derive(Clone, Copy)]
+pub struct ImageView<'a> {
+    version: u32,
+    program: Program<'a>,
+    tables: TableView<'a>,
+    variables: Variables<'a>,
+    ghost tabled: { section_of tables ≡ program.tables.now },
+    ghost counted: { row_count tables ≡ word_in program.tables.now },
+    ghost sound: { fault_of (program_view program) ≡ None },
+    ghost shown: { IsTrue (list_all (variable_fits (program_view program)) (variables_list variables)) },
+}
+
+impl<'a> ImageView<'a> {
+    ghost use Rattle.std.specs.Option.{option_map};
+    ghost use Rattle.std.specs.List.{slice_get};
+    ghost use Rattle.std.specs.Prelude.{IfSome};
+    ghost use Rattle.m3_isa.specs.Instructions.{IsInstruction};
+    ghost use Rattle.m3_image.specs.Images.{seen, read_of, IsImage};
+    ghost use Rattle.m3_image.specs.Programs.{containing};
+    ghost use Rattle.m3_image.specs.Views.{image_view, type_of, variable_of};
+
+    /// The image that bytes are. The error is the first condition that the bytes meet, in the order in which the
+    /// conditions are tested.
+    #[tactic(auto, unfolding(crate::specs::Images::read_of))]
+    pub fn read(bytes: &'a [u8]) -> Result<ImageView<'a>, ImageRefusal>
+        ensures { seen image_view result ≡ read_of bytes.now }
+    {
+        let sections = Sections::of(bytes)?;
+        let program = Program::of(&sections)?;
+        let tables = program.sound()?;
+        let variables = program.variables(sections.variables)?;
+        Ok(ImageView {
+            version: sections.version,
+            program,
+            tables,
+            variables,
+        })
+    }
+
+    /// What every image keeps: it holds of each view, however it was come by.
+    pub fn keeps_its_form(&self)
+        ensures { IsImage (image_view self.now) }
+    {}
+
+    /// The version, 1 or 2.
+    pub fn version(&self) -> u32
+        ensures { result ≡ (image_view self.now).version }
+    {
+        self.version
+    }
+
+    /// The instruction of a number, from 0. None exactly past the code.
+    pub fn code(&self, n: u32) -> Option<Instr>
+        ensures value { result ≡ slice_get (image_view self.now).program.code n }
+        ensures good { IfSome result (λ i. IsInstruction i) }
+    {
+        self.program.code.get(n)
+    }
+
+    /// The procedure of a number, from 0. None exactly past the last.
+    pub fn proc(&self, n: u32) -> Option<ProcPart>
+        ensures { result ≡ slice_get (image_view self.now).program.procs n }
+    {
+        self.program.procs.get(n)
+    }
+
+    /// The procedure that an instruction is in. None exactly past the code.
+    pub fn containing(&self, instr: u32) -> Option<ProcPart>
+        ensures { result ≡ containing (image_view self.now).program.procs instr }
+    {
+        self.program.procs.containing(instr)
+    }
+
+    /// The type of a number, from 0. None exactly past the last. It goes over the types before it.
+    pub fn shape(&self, n: u32) -> Option<TypeView<'a>>
+        ensures { option_map type_of result ≡ slice_get (image_view self.now).program.types n }
+    {
+        self.program.types.get(n)
+    }
+
+    /// How many words the globals have, from 4 on.
+    pub fn global_words(&self) -> u32
+        ensures { result ≡ (image_view self.now).program.globals.words }
+    {
+        self.program.globals.words
+    }
+
+    /// The number of a global word that is a pointer. None exactly past the last.
+    pub fn global_pointer(&self, n: u32) -> Option<u32>
+        ensures { result ≡ slice_get (image_view self.now).program.globals.pointers n }
+    {
+        self.program.globals.pointers.get(n as usize)
+    }
+
+    /// The constant of a number, from 0. None exactly past the last.
+    pub fn constant(&self, n: u32) -> Option<u64>
+        ensures { result ≡ slice_get (image_view self.now).program.constants n }
+    {
+        self.program.constants.get(n)
+    }
+
+    /// The name of a file. None exactly past the last.
+    pub fn file(&self, n: u32) -> Option<&'a [u8]>
+        ensures { option_map (λ x. x.now) result ≡ slice_get (image_view self.now).program.files n }
+    {
+        self.program.files.get(n)
+    }
+
+    /// A place in the sources: the number of its file, and the line. None exactly past the last.
+    pub fn place(&self, n: u32) -> Option<(u32, u32)>
+        ensures { result ≡ slice_get (image_view self.now).program.places n }
+    {
+        self.program.places.get(n)
+    }
+
+    /// The name of an exception, with its unit before it. None exactly past the last.
+    pub fn exception(&self, n: u32) -> Option<&'a [u8]>
+        ensures { option_map (λ x. x.now) result ≡ slice_get (image_view self.now).program.exceptions n }
+    {
+        self.program.exceptions.get(n)
+    }
+
+    /// The tables of the point instructions.
+    pub fn tables(&self) -> TableView<'a>
+        ensures section { section_of result ≡ (image_view self.now).program.tables }
+        ensures rows { row_count result ≡ word_in (image_view self.now).program.tables }
+    {
+        self.tables
+    }
+
+    /// The shown variable of a number, from 0. None exactly past the last, and always in version 1.
+    pub fn variable(&self, n: u32) -> Option<VarView<'a>>
+        ensures { option_map variable_of result ≡ slice_get (image_view self.now).variables n }
+    {
+        self.variables.get(n)
+    }
+}
+
+impl<'a> Maps for ImageView<'a> {
+    ghost use Rattle.std.specs.Prelude.{map};
+    ghost use Rattle.m3_image.specs.Views.{image_view};
+    ghost use Rattle.m3_image.specs.Shapes.{shape_of};
+
+    ghost shapes = { λ v. map shape_of (image_view v).program.types };
+
+    fn is_pointer(&self, kind: u32, at: u64) -> bool {
+        match self.shape(kind) {
+            Some(shape) => shape.is_pointer(at),
+            None => false,
+        }
+    }
+}

@@ -1,0 +1,23 @@
+//! The image: how a program stands in bytes, the reader that refuses all else, and views of its parts.
+#![tactic(auto)]
+
+mod code;
+mod image;
+mod lists;
+mod procs;
+mod program;
+mod refusal;
+mod rows;
+mod sections;
+mod targets;
+mod types;
+mod variables;
+
+pub use image::ImageView;
+pub use procs::ProcPart;
+pub use refusal::ImageRefusal;
+pub use types::TypeView;
+pub use variables::VarView;
+
+#[cfg(test)]
+mod tests;

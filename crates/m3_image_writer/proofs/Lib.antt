@@ -1,0 +1,7 @@
+pub mod Lengths
+pub mod Joined
+pub mod Again
+pub mod AgainParts
+pub mod AgainImage
+pub mod ViewBytes
+pub mod Samples
