@@ -1,7 +1,8 @@
 ghost use Rattle.std.specs.Prelude.{◌≡◌, ◌≢◌, ◌<◌, ◌≤◌, Bool, Some, IsTrue, IfOk, IfErr, length, drop};
-ghost use Rattle.m3_syntax.specs.declared.tokens.TokenKind.TheVariants.{Ident, Keyword, Symbol};
+ghost use Rattle.m3_syntax.specs.declared.tokens.TokenKind.TheVariants.{Ident, Keyword, TextLit, Symbol};
+ghost use Rattle.m3_base.specs.declared.refusals.Refused.TheVariants.{Rule};
 ghost use Rattle.m3_phrases.specs.Cursors as spec;
-ghost use Rattle.m3_phrases.specs.Cursors.{kind_at, place_at, breaks};
+ghost use Rattle.m3_phrases.specs.Cursors.{kind_at, place_at, broken};
 
 use m3_base::{Pos, Refusal, Refused};
 use m3_syntax::{Lexed, Name, Sign, Token, TokenKind, Word};
@@ -94,6 +95,14 @@ impl<'t, 'a> Cursor<'t, 'a> {
         }
     }
 
+    /// Whether the token here is an identifier.
+    pub fn is_name(&self) -> bool
+        ensures yes { IsTrue result → kind_at self.now.rest.now ≡ Some Ident }
+        ensures no { result ≡ Bool.false → kind_at self.now.rest.now ≢ Some Ident }
+    {
+        self.kind() == Some(TokenKind::Ident)
+    }
+
     /// Goes past the token here, if it is this keyword, and tells whether it is.
     pub fn skip_word(&mut self, word: Word) -> bool
         ensures yes { IsTrue result → kind_at self.old.rest.now ≡ Some (Keyword word) }
@@ -128,7 +137,7 @@ impl<'t, 'a> Cursor<'t, 'a> {
     /// `unexpected` and stays.
     pub fn take_word(&mut self, word: Word) -> Result<Pos, Refused>
         ensures ok { IfOk result (λ pos. (kind_at self.old.rest.now ≡ Some (Keyword word)) × (pos ≡ place_at self.old.end self.old.rest.now) × (self.new.rest.now ≡ drop 1 self.old.rest.now)) }
-        ensures err { IfErr result (λ e. (kind_at self.old.rest.now ≢ Some (Keyword word)) × (e ≡ spec.unexpected self.old.end self.old.rest.now) × (self.new.rest.now ≡ self.old.rest.now)) }
+        ensures err { IfErr result (λ e. (kind_at self.old.rest.now ≢ Some (Keyword word)) × (e ≡ Rule (spec.unexpected self.old.end self.old.rest.now)) × (self.new.rest.now ≡ self.old.rest.now)) }
         ensures end { self.new.end ≡ self.old.end }
     {
         let pos = self.pos();
@@ -143,7 +152,7 @@ impl<'t, 'a> Cursor<'t, 'a> {
     /// `unexpected` and stays.
     pub fn take_sign(&mut self, sign: Sign) -> Result<Pos, Refused>
         ensures ok { IfOk result (λ pos. (kind_at self.old.rest.now ≡ Some (Symbol sign)) × (pos ≡ place_at self.old.end self.old.rest.now) × (self.new.rest.now ≡ drop 1 self.old.rest.now)) }
-        ensures err { IfErr result (λ e. (kind_at self.old.rest.now ≢ Some (Symbol sign)) × (e ≡ spec.unexpected self.old.end self.old.rest.now) × (self.new.rest.now ≡ self.old.rest.now)) }
+        ensures err { IfErr result (λ e. (kind_at self.old.rest.now ≢ Some (Symbol sign)) × (e ≡ Rule (spec.unexpected self.old.end self.old.rest.now)) × (self.new.rest.now ≡ self.old.rest.now)) }
         ensures end { self.new.end ≡ self.old.end }
     {
         let pos = self.pos();
@@ -158,7 +167,7 @@ impl<'t, 'a> Cursor<'t, 'a> {
     /// and stays.
     pub fn take_name(&mut self) -> Result<Name<'a>, Refused>
         ensures ok { IfOk result (λ name. (kind_at self.old.rest.now ≡ Some Ident) × (name.pos ≡ place_at self.old.end self.old.rest.now) × (self.new.rest.now ≡ drop 1 self.old.rest.now)) }
-        ensures err { IfErr result (λ e. (kind_at self.old.rest.now ≢ Some Ident) × (e ≡ spec.unexpected self.old.end self.old.rest.now) × (self.new.rest.now ≡ self.old.rest.now)) }
+        ensures err { IfErr result (λ e. (kind_at self.old.rest.now ≢ Some Ident) × (e ≡ Rule (spec.unexpected self.old.end self.old.rest.now)) × (self.new.rest.now ≡ self.old.rest.now)) }
         ensures end { self.new.end ≡ self.old.end }
     {
         match self.rest {
@@ -173,10 +182,26 @@ impl<'t, 'a> Cursor<'t, 'a> {
         }
     }
 
+    /// Goes past the token here, which has to be a text literal, and gives it as it is written; any
+    /// other is `unexpected` and stays.
+    pub(crate) fn take_text(&mut self) -> Result<&'a [u8], Refused>
+        ensures ok { IfOk result (λ text. (kind_at self.old.rest.now ≡ Some TextLit) × (self.new.rest.now ≡ drop 1 self.old.rest.now)) }
+        ensures err { IfErr result (λ e. (kind_at self.old.rest.now ≢ Some TextLit) × (e ≡ Rule (spec.unexpected self.old.end self.old.rest.now)) × (self.new.rest.now ≡ self.old.rest.now)) }
+        ensures end { self.new.end ≡ self.old.end }
+    {
+        match self.rest {
+            [token, rest @ ..] if token.kind == TokenKind::TextLit => {
+                self.rest = rest;
+                Ok(token.text)
+            }
+            _ => Err(self.unexpected()),
+        }
+    }
+
     /// The refusal of the token here, which may not stand here, or of the end of the file, which comes
     /// too early.
     pub fn unexpected(&self) -> Refused
-        ensures { result ≡ spec.unexpected self.now.end self.now.rest.now }
+        ensures { result ≡ Rule (spec.unexpected self.now.end self.now.rest.now) }
     {
         if self.rest.is_empty() {
             self.refusal(11)
@@ -187,13 +212,13 @@ impl<'t, 'a> Cursor<'t, 'a> {
 
     /// The refusal of the token here, which lies inside too many constructs.
     pub(crate) fn too_deep(&self) -> Refused
-        ensures { result ≡ breaks 13 self.now.end self.now.rest.now }
+        ensures { result ≡ Rule (broken 13 self.now.end self.now.rest.now) }
     {
         self.refusal(13)
     }
 
     fn refusal(&self, rule: u16) -> Refused
-        ensures { result ≡ breaks rule self.now.end self.now.rest.now }
+        ensures { result ≡ Rule (broken rule self.now.end self.now.rest.now) }
     {
         Refused::Rule(Refusal {
             phase: 2,

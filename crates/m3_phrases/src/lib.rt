@@ -2,12 +2,17 @@
 #![tactic(auto)]
 
 mod cursor;
+mod kinds;
+mod levels;
+mod names;
 mod phrases;
 mod room;
+mod settings;
+mod trees;
 
 pub use cursor::Cursor;
-pub use phrases::{
-    Head, begins_expression, begins_type, expression, init, name_list, qualid, signature,
-    split_call, statement_head, type_expression,
-};
+pub use kinds::{begins_expression, begins_type};
+pub use names::{name_list, qualid};
+pub use phrases::{expression, init, signature, statement_head, type_expression};
 pub use room::Room;
+pub use trees::{Head, split_call};

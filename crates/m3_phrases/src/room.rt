@@ -1,5 +1,6 @@
-ghost use Rattle.std.specs.Prelude.{◌≡◌, ◌+◌, IfOk, IfErr};
-ghost use Rattle.m3_phrases.specs.Cursors.{breaks};
+ghost use Rattle.std.specs.Prelude.{◌≡◌, ◌+◌, ◌-◌, IfOk, IfErr};
+ghost use Rattle.m3_base.specs.declared.refusals.Refused.TheVariants.{Rule};
+ghost use Rattle.m3_phrases.specs.Cursors.{broken};
 
 use crate::cursor::Cursor;
 use m3_base::Refused;
@@ -22,7 +23,7 @@ impl Room {
     /// token lies too deep.
     pub fn open(self, cursor: &Cursor<'_, '_>) -> Result<Room, Refused>
         ensures ok { IfOk result (λ room. room.left + 1 ≡ self.left) }
-        ensures err { IfErr result (λ e. (self.left ≡ 0) × (e ≡ breaks 13 cursor.now.end cursor.now.rest.now)) }
+        ensures err { IfErr result (λ e. (self.left ≡ 0) × (e ≡ Rule (broken 13 cursor.now.end cursor.now.rest.now))) }
     {
         if self.left == 0 {
             Err(cursor.too_deep())
@@ -30,6 +31,15 @@ impl Room {
             Ok(Room {
                 left: self.left - 1,
             })
+        }
+    }
+
+    /// The room inside a construct that has been opened here.
+    pub(crate) fn inside(self) -> Room
+        ensures { result.left ≡ self.left - 1 }
+    {
+        Room {
+            left: self.left.saturating_sub(1),
         }
     }
 
