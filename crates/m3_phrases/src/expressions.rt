@@ -1,4 +1,4 @@
-ghost use Rattle.std.specs.Prelude.{◌≡◌, ◌<◌, ◌≤◌, IfErr, OnOk, OnSome, length};
+ghost use Rattle.std.specs.Prelude.{◌≡◌, ◌<◌, ◌≤◌, IfOk, IfErr, OnOk, OnSome, length};
 ghost use Rattle.m3_phrases.specs.Cursors.{IsRefusalAt};
 ghost use Rattle.m3_phrases.specs.Nests.{Nests};
 
@@ -144,21 +144,39 @@ impl<'a, F: Fn(Global, &mut Cursor<'_, 'a>, Room, Want) -> Result<Found<'a>, Ref
         ensures refused { IfErr result (IsRefusalAt cursor.new.end cursor.new.rest.now) }
     {
         let mut selectors = Vec::new(self.alloc);
-        loop {
-            let pos = cursor.pos();
-            if cursor.skip_sign(Sign::Caret) {
-                selectors.push(Selector::Dereference(pos))?;
-            } else if cursor.skip_sign(Sign::Dot) {
-                selectors.push(Selector::Member(cursor.take_name()?))?;
-            } else if cursor.skip_sign(Sign::OpenBracket) {
-                let indexes = self.indexes(cursor, setting.inside())?;
-                selectors.push(Selector::Index(pos, indexes))?;
-            } else if cursor.skip_sign(Sign::OpenParen) {
-                let actuals = self.actuals(cursor, setting.room)?;
-                selectors.push(Selector::Call(pos, actuals))?;
-            } else {
-                return Ok(with_selectors(self.alloc, operand, selectors)?);
-            }
+        while let Some(selector) = self.selector(cursor, setting)? {
+            selectors.push(selector)?;
+        }
+        Ok(with_selectors(self.alloc, operand, selectors)?)
+    }
+
+    /// The selector that is here, if one is.
+    fn selector(
+        &self,
+        cursor: &mut Cursor<'_, 'a>,
+        setting: Setting,
+    ) -> Result<Option<Selector<'a>>, Refused>
+        requires nests { Nests self.now.most.left (F.pre self.now.nested) (F.post self.now.nested) }
+        requires room { setting.room.left ≤ self.now.most.left }
+        ensures shrinks { IfOk result (λ found. OnSome found (length cursor.new.rest.now < length cursor.old.rest.now)) }
+        ensures within { length cursor.new.rest.now ≤ length cursor.old.rest.now }
+        ensures end { cursor.new.end ≡ cursor.old.end }
+        ensures refused { IfErr result (IsRefusalAt cursor.new.end cursor.new.rest.now) }
+    {
+        let pos = cursor.pos();
+        if cursor.skip_sign(Sign::Caret) {
+            Ok(Some(Selector::Dereference(pos)))
+        } else if cursor.skip_sign(Sign::Dot) {
+            let name = cursor.take_name()?;
+            Ok(Some(Selector::Member(name)))
+        } else if cursor.skip_sign(Sign::OpenBracket) {
+            let indexes = self.indexes(cursor, setting.inside())?;
+            Ok(Some(Selector::Index(pos, indexes)))
+        } else if cursor.skip_sign(Sign::OpenParen) {
+            let actuals = self.actuals(cursor, setting.room)?;
+            Ok(Some(Selector::Call(pos, actuals)))
+        } else {
+            Ok(None)
         }
     }
 

@@ -225,15 +225,16 @@ fn extended<'a>(
             operator,
             pos,
         }),
-        Some(mut row) => {
-            row.rest.push(Operation {
+        Some(row) => {
+            let mut rest = row.rest;
+            rest.push(Operation {
                 operator: row.operator,
                 pos: row.pos,
                 right: operand,
             })?;
             Ok(Row {
                 first: row.first,
-                rest: row.rest,
+                rest,
                 operator,
                 pos,
             })

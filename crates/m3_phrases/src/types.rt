@@ -100,16 +100,15 @@ impl<'a, F: Fn(Global, &mut Cursor<'_, 'a>, Room, Want) -> Result<Found<'a>, Ref
                     self.reference(cursor, room, pos, true, brand)
                 }
             }
-            Word::Ref => self.reference(cursor, room, pos, false, None),
-            Word::Branded => {
+            Word::Ref | Word::Branded | Word::Object => {
                 let brand = self.brand(cursor, room)?;
                 if cursor.is_word(Word::Ref) {
-                    self.reference(cursor, room, pos, false, brand)
-                } else {
-                    self.object_type(cursor, room, pos, None, brand)
+                    return self.reference(cursor, room, pos, false, brand);
                 }
+                let parts = self.object_parts(cursor, room, brand)?;
+                let parent = None;
+                Ok(TypeExp::Object { pos, parent, parts })
             }
-            Word::Object => self.object_type(cursor, room, pos, None, None),
             _ => self.structured_type(cursor, room, word),
         }
     }
@@ -235,21 +234,24 @@ impl<'a, F: Fn(Global, &mut Cursor<'_, 'a>, Room, Want) -> Result<Found<'a>, Ref
     {
         if begins_object(cursor) {
             let brand = self.brand(cursor, room)?;
-            self.object_type(cursor, room, place_of_name(name), Some(name), brand)
+            let parts = self.object_parts(cursor, room, brand)?;
+            Ok(TypeExp::Object {
+                pos: place_of_name(name),
+                parent: Some(name),
+                parts,
+            })
         } else {
             Ok(TypeExp::Named(name))
         }
     }
 
-    /// The parts of an object type, given its parent and the brand of the first part.
-    pub fn object_type(
+    /// The parts of an object type, given the brand of the first.
+    fn object_parts(
         &self,
         cursor: &mut Cursor<'_, 'a>,
         room: Room,
-        pos: Pos,
-        parent: Option<TypeName<'a>>,
         brand_of_first: Option<Brand<'a>>,
-    ) -> Result<TypeExp<'a>, Refused>
+    ) -> Result<Vec<ObjectPart<'a>>, Refused>
         requires nests { Nests self.now.most.left (F.pre self.now.nested) (F.post self.now.nested) }
         requires room { room.left ≤ self.now.most.left }
         ensures shrinks { OnOk result (length cursor.new.rest.now < length cursor.old.rest.now) }
@@ -258,12 +260,14 @@ impl<'a, F: Fn(Global, &mut Cursor<'_, 'a>, Room, Want) -> Result<Found<'a>, Ref
         ensures refused { IfErr result (IsRefusalAt cursor.new.end cursor.new.rest.now) }
     {
         let mut parts = Vec::new(self.alloc);
-        parts.push(self.object_part(cursor, room, brand_of_first)?)?;
-        while begins_object(cursor) {
-            let brand = self.brand(cursor, room)?;
+        let mut brand = brand_of_first;
+        loop {
             parts.push(self.object_part(cursor, room, brand)?)?;
+            if !begins_object(cursor) {
+                return Ok(parts);
+            }
+            brand = self.brand(cursor, room)?;
         }
-        Ok(TypeExp::Object { pos, parent, parts })
     }
 
     /// A brand, where one is here. Its text begins with an identifier, a text literal or a parenthesis.
