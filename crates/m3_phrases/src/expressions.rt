@@ -64,24 +64,72 @@ impl<'a, F: Fn(Global, &mut Cursor<'_, 'a>, Room, Want) -> Result<Found<'a>, Ref
         ensures end { cursor.new.end ≡ cursor.old.end }
         ensures refused { IfErr result (IsRefusalAt cursor.new.end cursor.new.rest.now) }
     {
-        let found = match self.primary(cursor, setting)? {
-            Found::Value(expr) => {
-                let expr = self.selected(cursor, setting, expr)?;
-                if goes_on_as_object(cursor, setting.want) {
-                    let Some(parent) = qualid_of(&expr) else {
-                        return Err(cursor.unexpected());
-                    };
-                    let room = setting.inside_type(cursor)?;
-                    Found::Type(self.named_type(cursor, room, TypeName::Named(parent))?)
-                } else {
-                    Found::Value(expr)
-                }
-            }
-            Found::Type(kind) => Found::Type(kind),
-        };
-        if !cursor.is_sign(Sign::OpenBrace) {
-            return Ok(found);
+        let found = self.without_brace(cursor, setting)?;
+        if cursor.is_sign(Sign::OpenBrace) {
+            self.constructed(cursor, setting, found)
+        } else {
+            Ok(found)
         }
+    }
+
+    /// An operand up to the brace of a constructor, or a type.
+    fn without_brace(
+        &self,
+        cursor: &mut Cursor<'_, 'a>,
+        setting: Setting,
+    ) -> Result<Found<'a>, Refused>
+        requires nests { Nests self.now.most.left (F.pre self.now.nested) (F.post self.now.nested) }
+        requires room { setting.room.left ≤ self.now.most.left }
+        ensures shrinks { OnOk result (length cursor.new.rest.now < length cursor.old.rest.now) }
+        ensures within { length cursor.new.rest.now ≤ length cursor.old.rest.now }
+        ensures end { cursor.new.end ≡ cursor.old.end }
+        ensures refused { IfErr result (IsRefusalAt cursor.new.end cursor.new.rest.now) }
+    {
+        match self.primary(cursor, setting)? {
+            Found::Value(expr) => self.value_or_object(cursor, setting, expr),
+            Found::Type(kind) => Ok(Found::Type(kind)),
+        }
+    }
+
+    /// What begins with an expression: that with its selectors, or an object type of which it is the
+    /// parent.
+    fn value_or_object(
+        &self,
+        cursor: &mut Cursor<'_, 'a>,
+        setting: Setting,
+        expr: Expr<'a>,
+    ) -> Result<Found<'a>, Refused>
+        requires nests { Nests self.now.most.left (F.pre self.now.nested) (F.post self.now.nested) }
+        requires room { setting.room.left ≤ self.now.most.left }
+        ensures within { length cursor.new.rest.now ≤ length cursor.old.rest.now }
+        ensures end { cursor.new.end ≡ cursor.old.end }
+        ensures refused { IfErr result (IsRefusalAt cursor.new.end cursor.new.rest.now) }
+    {
+        let expr = self.selected(cursor, setting, expr)?;
+        if !goes_on_as_object(cursor, setting.want) {
+            return Ok(Found::Value(expr));
+        }
+        let Some(parent) = qualid_of(&expr) else {
+            return Err(cursor.unexpected());
+        };
+        let room = setting.inside_type(cursor)?;
+        let kind = self.named_type(cursor, room, TypeName::Named(parent))?;
+        Ok(Found::Type(kind))
+    }
+
+    /// The constructor of what was found, with its selectors.
+    fn constructed(
+        &self,
+        cursor: &mut Cursor<'_, 'a>,
+        setting: Setting,
+        found: Found<'a>,
+    ) -> Result<Found<'a>, Refused>
+        requires nests { Nests self.now.most.left (F.pre self.now.nested) (F.post self.now.nested) }
+        requires room { setting.room.left ≤ self.now.most.left }
+        ensures within { length cursor.new.rest.now ≤ length cursor.old.rest.now }
+        ensures end { cursor.new.end ≡ cursor.old.end }
+        ensures refused { IfErr result (IsRefusalAt cursor.new.end cursor.new.rest.now) }
+    {
         let constructor = self.constructor(cursor, setting, found)?;
         let expr = self.selected(cursor, setting, constructor)?;
         Ok(Found::Value(expr))
@@ -318,16 +366,43 @@ impl<'a, F: Fn(Global, &mut Cursor<'_, 'a>, Room, Want) -> Result<Found<'a>, Ref
             let value = self.expression(cursor, room)?;
             return Ok(Element::Named(name, value));
         }
-        let first = match lone_name(cursor, room)? {
-            Some(name) => Expr::Name(name),
-            None => self.expression(cursor, room)?,
-        };
-        if cursor.skip_sign(Sign::DotDot) {
-            let last = self.expression(cursor, room)?;
-            Ok(Element::Range(first, last))
-        } else {
-            Ok(Element::Value(first))
+        let first = self.first_value(cursor, room)?;
+        self.element_from(first, cursor, room)
+    }
+
+    /// The value that begins an element: a name alone, or an expression.
+    fn first_value(&self, cursor: &mut Cursor<'_, 'a>, room: Room) -> Result<Expr<'a>, Refused>
+        requires nests { Nests self.now.most.left (F.pre self.now.nested) (F.post self.now.nested) }
+        requires room { room.left ≤ self.now.most.left }
+        ensures shrinks { OnOk result (length cursor.new.rest.now < length cursor.old.rest.now) }
+        ensures within { length cursor.new.rest.now ≤ length cursor.old.rest.now }
+        ensures end { cursor.new.end ≡ cursor.old.end }
+        ensures refused { IfErr result (IsRefusalAt cursor.new.end cursor.new.rest.now) }
+    {
+        match lone_name(cursor, room)? {
+            Some(name) => Ok(Expr::Name(name)),
+            None => self.expression(cursor, room),
         }
+    }
+
+    /// The element that begins with a value: a range where `..` follows.
+    fn element_from(
+        &self,
+        first: Expr<'a>,
+        cursor: &mut Cursor<'_, 'a>,
+        room: Room,
+    ) -> Result<Element<'a>, Refused>
+        requires nests { Nests self.now.most.left (F.pre self.now.nested) (F.post self.now.nested) }
+        requires room { room.left ≤ self.now.most.left }
+        ensures within { length cursor.new.rest.now ≤ length cursor.old.rest.now }
+        ensures end { cursor.new.end ≡ cursor.old.end }
+        ensures refused { IfErr result (IsRefusalAt cursor.new.end cursor.new.rest.now) }
+    {
+        if !cursor.skip_sign(Sign::DotDot) {
+            return Ok(Element::Value(first));
+        }
+        let last = self.expression(cursor, room)?;
+        Ok(Element::Range(first, last))
     }
 }
 

@@ -9,7 +9,7 @@ use crate::room::Room;
 use crate::settings::Want;
 use m3_base::{Pos, Refused};
 use m3_syntax::{
-    Field, Formal, Init, Method, Mode, Override, Raises, Sign, Signature, TypeExp, Word,
+    Expr, Field, Formal, Init, Method, Mode, Override, Raises, Sign, Signature, TypeExp, Word,
 };
 use std::alloc::Global;
 
@@ -48,23 +48,46 @@ impl<'a, F: Fn(Global, &mut Cursor<'_, 'a>, Room, Want) -> Result<Found<'a>, Ref
     {
         let mut methods = Vec::new(self.alloc);
         while cursor.is_name() {
-            let name = cursor.take_name()?;
-            let signature = self.signature(cursor, room)?;
-            let default = if cursor.skip_sign(Sign::Assign) {
-                Some(self.expression(cursor, room)?)
-            } else {
-                None
-            };
-            methods.push(Method {
-                name,
-                signature,
-                default,
-            })?;
+            methods.push(self.method(cursor, room)?)?;
             if !cursor.skip_sign(Sign::Semicolon) {
                 return Ok(methods);
             }
         }
         Ok(methods)
+    }
+
+    /// One method, with its default where one is given.
+    fn method(&self, cursor: &mut Cursor<'_, 'a>, room: Room) -> Result<Method<'a>, Refused>
+        requires nests { Nests self.now.most.left (F.pre self.now.nested) (F.post self.now.nested) }
+        requires room { room.left ≤ self.now.most.left }
+        ensures shrinks { OnOk result (length cursor.new.rest.now < length cursor.old.rest.now) }
+        ensures within { length cursor.new.rest.now ≤ length cursor.old.rest.now }
+        ensures end { cursor.new.end ≡ cursor.old.end }
+        ensures refused { IfErr result (IsRefusalAt cursor.new.end cursor.new.rest.now) }
+    {
+        let name = cursor.take_name()?;
+        let signature = self.signature(cursor, room)?;
+        let default = self.assigned(cursor, room)?;
+        Ok(Method {
+            name,
+            signature,
+            default,
+        })
+    }
+
+    /// The value behind `:=`, if it is here.
+    fn assigned(&self, cursor: &mut Cursor<'_, 'a>, room: Room) -> Result<Option<Expr<'a>>, Refused>
+        requires nests { Nests self.now.most.left (F.pre self.now.nested) (F.post self.now.nested) }
+        requires room { room.left ≤ self.now.most.left }
+        ensures within { length cursor.new.rest.now ≤ length cursor.old.rest.now }
+        ensures end { cursor.new.end ≡ cursor.old.end }
+        ensures refused { IfErr result (IsRefusalAt cursor.new.end cursor.new.rest.now) }
+    {
+        if !cursor.skip_sign(Sign::Assign) {
+            return Ok(None);
+        }
+        let value = self.expression(cursor, room)?;
+        Ok(Some(value))
     }
 
     /// Overrides, with semicolons between them and maybe behind the last.
@@ -103,11 +126,7 @@ impl<'a, F: Fn(Global, &mut Cursor<'_, 'a>, Room, Want) -> Result<Found<'a>, Ref
     {
         if cursor.skip_sign(Sign::Colon) {
             let kind = self.type_expression(cursor, room)?;
-            let value = if cursor.skip_sign(Sign::Assign) {
-                Some(self.expression(cursor, room)?)
-            } else {
-                None
-            };
+            let value = self.assigned(cursor, room)?;
             Ok(Init::Typed(kind, value))
         } else {
             cursor.take_sign(Sign::Assign)?;
@@ -128,26 +147,53 @@ impl<'a, F: Fn(Global, &mut Cursor<'_, 'a>, Room, Want) -> Result<Found<'a>, Ref
         ensures end { cursor.new.end ≡ cursor.old.end }
         ensures refused { IfErr result (IsRefusalAt cursor.new.end cursor.new.rest.now) }
     {
-        let pos = cursor.take_sign(Sign::OpenParen)?;
-        let formals = self.formals(cursor, room)?;
-        cursor.take_sign(Sign::CloseParen)?;
-        let result = if cursor.skip_sign(Sign::Colon) {
-            let kind = self.type_expression(cursor, room)?;
-            Some(Box::new(self.alloc, kind)?)
-        } else {
-            None
-        };
-        let raises = if cursor.skip_word(Word::Raises) {
-            raises(self.alloc, cursor)?
-        } else {
-            Raises::Only(Vec::new(self.alloc))
-        };
+        let (pos, formals) = self.formal_part(cursor, room)?;
+        let result = self.result_part(cursor, room)?;
+        let raises = raises_part(self.alloc, cursor)?;
         Ok(Signature {
             pos,
             formals,
             result,
             raises,
         })
+    }
+
+    /// The formals in their parentheses, with the place of the first.
+    fn formal_part(
+        &self,
+        cursor: &mut Cursor<'_, 'a>,
+        room: Room,
+    ) -> Result<(Pos, Vec<Formal<'a>>), Refused>
+        requires nests { Nests self.now.most.left (F.pre self.now.nested) (F.post self.now.nested) }
+        requires room { room.left ≤ self.now.most.left }
+        ensures shrinks { OnOk result (length cursor.new.rest.now < length cursor.old.rest.now) }
+        ensures within { length cursor.new.rest.now ≤ length cursor.old.rest.now }
+        ensures end { cursor.new.end ≡ cursor.old.end }
+        ensures refused { IfErr result (IsRefusalAt cursor.new.end cursor.new.rest.now) }
+    {
+        let pos = cursor.take_sign(Sign::OpenParen)?;
+        let formals = self.formals(cursor, room)?;
+        cursor.take_sign(Sign::CloseParen)?;
+        Ok((pos, formals))
+    }
+
+    /// The type of the result, if one is given here.
+    fn result_part(
+        &self,
+        cursor: &mut Cursor<'_, 'a>,
+        room: Room,
+    ) -> Result<Option<Box<TypeExp<'a>>>, Refused>
+        requires nests { Nests self.now.most.left (F.pre self.now.nested) (F.post self.now.nested) }
+        requires room { room.left ≤ self.now.most.left }
+        ensures within { length cursor.new.rest.now ≤ length cursor.old.rest.now }
+        ensures end { cursor.new.end ≡ cursor.old.end }
+        ensures refused { IfErr result (IsRefusalAt cursor.new.end cursor.new.rest.now) }
+    {
+        if !cursor.skip_sign(Sign::Colon) {
+            return Ok(None);
+        }
+        let kind = self.type_expression(cursor, room)?;
+        Ok(Some(Box::new(self.alloc, kind)?))
     }
 
     /// Formals, with semicolons between them and maybe behind the last.
@@ -196,5 +242,18 @@ fn formal_mode(cursor: &mut Cursor<'_, '_>) -> Option<(Pos, Mode)>
         Some((pos, Mode::Value))
     } else {
         None
+    }
+}
+
+/// The exceptions of a procedure, or none of them where no RAISES is here.
+fn raises_part<'a>(alloc: Global, cursor: &mut Cursor<'_, 'a>) -> Result<Raises<'a>, Refused>
+    ensures within { length cursor.new.rest.now ≤ length cursor.old.rest.now }
+    ensures end { cursor.new.end ≡ cursor.old.end }
+    ensures refused { IfErr result (IsRefusalAt cursor.new.end cursor.new.rest.now) }
+{
+    if cursor.skip_word(Word::Raises) {
+        raises(alloc, cursor)
+    } else {
+        Ok(Raises::Only(Vec::new(alloc)))
     }
 }

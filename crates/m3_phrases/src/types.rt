@@ -88,11 +88,11 @@ impl<'a, F: Fn(Global, &mut Cursor<'_, 'a>, Room, Want) -> Result<Found<'a>, Ref
         let pos = cursor.pos();
         match word {
             Word::Root => {
-                cursor.step();
+                cursor.take_word(Word::Root)?;
                 self.named_type(cursor, room, TypeName::Root(pos))
             }
             Word::Untraced => {
-                cursor.step();
+                cursor.take_word(Word::Untraced)?;
                 if cursor.skip_word(Word::Root) {
                     self.named_type(cursor, room, TypeName::UntracedRoot(pos))
                 } else {
