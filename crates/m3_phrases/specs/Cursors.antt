@@ -1,5 +1,5 @@
 -- Tokens that are still to be read, and what is answered where they go wrong.
-use Rattle.std.specs.Prelude.{ℕ, ◌≡◌, ◌⊎◌, ◌<◌, ◌≤◌, Option, None, Some, List, [], ◌∷◌, length}
+use Rattle.std.specs.Prelude.{ℕ, ◌≡◌, ◌⊎◌, Option, None, Some, List, [], ◌∷◌}
 use Rattle.m3_base.specs.declared.places.Pos.{Pos}
 use Rattle.m3_base.specs.declared.refusals.Refusal.{Refusal}
 use Rattle.m3_base.specs.declared.refusals.Refused.{Refused}

@@ -1,4 +1,4 @@
-use Rattle.std.proofs.Common.{rules, ◌≡◌, IsTrue, sym, ◌∙◌}
+use Rattle.std.proofs.Common.{rules, ◌≡◌, sym, ◌∙◌}
 use denote.Enum.Bare.{same_true}
 use Rattle.m3_syntax.specs.contracts.tokens.Word.{the_type}
 use Rattle.m3_phrases.proofs.cursor.Cursor.is_word.Goals as goal
