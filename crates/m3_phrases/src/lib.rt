@@ -1,0 +1,18 @@
+//! The phrases of Modula-3: names, expressions, types and signatures, read off the tokens of a file.
+#![tactic(auto)]
+
+mod cursor;
+mod kinds;
+mod levels;
+mod names;
+mod phrases;
+mod room;
+mod settings;
+mod trees;
+
+pub use cursor::Cursor;
+pub use kinds::{begins_expression, begins_type};
+pub use names::{name_list, qualid};
+pub use phrases::{expression, init, signature, statement_head, type_expression};
+pub use room::Room;
+pub use trees::{Head, split_call};
