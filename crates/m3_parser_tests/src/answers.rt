@@ -1,5 +1,5 @@
 use crate::sheets::FILE;
-use crate::trees::text_of_tree;
+use crate::units::text_of_tree;
 use m3_base::{Refusal, Refused};
 use m3_lexer::lex;
 use m3_parser::parse;

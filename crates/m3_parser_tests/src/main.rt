@@ -12,14 +12,13 @@ mod answers;
 mod bytes;
 mod cases;
 mod declarations;
+mod expressions;
 mod frames;
-mod kinds;
-mod parts;
-mod phrases;
 mod repeats;
 mod sheets;
 mod statements;
-mod trees;
+mod types;
+mod units;
 
 fn run(rt: &(impl Print + Env + Files + AllocGlobal)) -> io::Result<()> {
     for word in env::args(rt)?.skip(1) {
