@@ -1,6 +1,8 @@
+ghost use Rattle.std.specs.Prelude.{◌≡◌, ◌≤◌, length};
+
 use crate::cursor::Cursor;
 use crate::trees::place_of;
-use m3_base::{NoMemory, Pos, Refused};
+use m3_base::{NoMemory, Pos};
 use m3_syntax::{Expr, Operation, Operator, PrefixSign, Sign, Word};
 use std::alloc::Global;
 
@@ -82,14 +84,20 @@ impl<'a> Levels<'a> {
     }
 
     /// Reads the NOTs, where they may stand, and the signs before an operand.
-    pub fn prefixes(&mut self, cursor: &mut Cursor<'_, 'a>) -> Result<(), Refused> {
+    pub fn prefixes(&mut self, cursor: &mut Cursor<'_, 'a>) -> Result<(), NoMemory>
+        ensures within { length cursor.new.rest.now ≤ length cursor.old.rest.now }
+        ensures end { cursor.new.end ≡ cursor.old.end }
+    {
         if self.takes_not() {
             self.read_nots(cursor)?;
         }
         self.read_signs(cursor)
     }
 
-    fn read_nots(&mut self, cursor: &mut Cursor<'_, 'a>) -> Result<(), Refused> {
+    fn read_nots(&mut self, cursor: &mut Cursor<'_, 'a>) -> Result<(), NoMemory>
+        ensures within { length cursor.new.rest.now ≤ length cursor.old.rest.now }
+        ensures end { cursor.new.end ≡ cursor.old.end }
+    {
         while cursor.is_word(Word::Not) {
             self.nots.push(cursor.pos())?;
             cursor.step();
@@ -97,7 +105,10 @@ impl<'a> Levels<'a> {
         Ok(())
     }
 
-    fn read_signs(&mut self, cursor: &mut Cursor<'_, 'a>) -> Result<(), Refused> {
+    fn read_signs(&mut self, cursor: &mut Cursor<'_, 'a>) -> Result<(), NoMemory>
+        ensures within { length cursor.new.rest.now ≤ length cursor.old.rest.now }
+        ensures end { cursor.new.end ≡ cursor.old.end }
+    {
         while cursor.is_sign(Sign::Plus) || cursor.is_sign(Sign::Minus) {
             self.signs.push(PrefixSign {
                 pos: cursor.pos(),
@@ -214,15 +225,16 @@ fn extended<'a>(
             operator,
             pos,
         }),
-        Some(mut row) => {
-            row.rest.push(Operation {
+        Some(row) => {
+            let mut rest = row.rest;
+            rest.push(Operation {
                 operator: row.operator,
                 pos: row.pos,
                 right: operand,
             })?;
             Ok(Row {
                 first: row.first,
-                rest: row.rest,
+                rest,
                 operator,
                 pos,
             })

@@ -2,17 +2,20 @@
 #![tactic(auto)]
 
 mod cursor;
+mod expressions;
+mod grammar;
 mod kinds;
 mod levels;
+mod members;
 mod names;
-mod phrases;
 mod room;
 mod settings;
 mod trees;
+mod types;
 
 pub use cursor::Cursor;
+pub use grammar::{expression, init, signature, statement_head, type_expression};
 pub use kinds::{begins_expression, begins_type};
 pub use names::{name_list, qualid};
-pub use phrases::{expression, init, signature, statement_head, type_expression};
 pub use room::Room;
 pub use trees::{Head, split_call};

@@ -1,31 +1,35 @@
-ghost use Rattle.std.specs.Prelude.{◌≡◌, ◌+◌, ◌-◌, ◌≤◌, IfOk, IfErr};
+ghost use Rattle.std.specs.Prelude.{◌≡◌, ◌+◌, ◌<◌, ◌≤◌, IfOk, IfErr, OnSome, length};
 ghost use Rattle.m3_phrases.specs.Cursors.{IsRefusalAt};
 
 use crate::cursor::Cursor;
 use crate::kinds::{begins_expression, begins_type, goes_on};
 use crate::room::Room;
 use m3_base::Refused;
-use m3_syntax::{Name, TokenKind};
+use m3_syntax::Name;
 
-/// What surrounds an expression.
+/// What is wanted of a construct that begins.
 #[derive(Clone, Copy, PartialEq, Eq)]
-pub enum Role {
-    /// What wants a value.
+pub enum Want {
+    /// An expression.
     Value,
-    /// An actual, which may be a type as well.
+    /// An actual: an expression, or a type.
     Actual,
-    /// The text of BRANDED, behind which the branded OBJECT may stand.
+    /// The text of BRANDED: an expression, behind which the branded OBJECT may stand.
     Brand,
-    /// A statement, which a call may be.
-    Statement,
+    /// A type.
+    Type,
 }
 
-/// What surrounds an expression or a type that has been opened, and the room: that inside it, but at the
-/// beginning of a statement the room of the statement, where the actuals of its call lie.
+/// How an expression stands in what surrounds it.
 #[derive(Clone, Copy)]
 pub struct Setting {
+    /// The room inside the expression, or where it begins a statement the room of the statement, in which
+    /// the actuals of its calls lie.
     pub room: Room,
-    pub role: Role,
+    /// Whether it begins a statement.
+    pub is_head: bool,
+    /// What is wanted.
+    pub want: Want,
 }
 
 impl Setting {
@@ -33,44 +37,46 @@ impl Setting {
     pub fn inside(self) -> Room
         ensures { result.left ≤ self.room.left }
     {
-        match self.role {
-            Role::Statement => self.room.inside(),
-            _ => self.room,
+        if self.is_head {
+            self.room.inside()
+        } else {
+            self.room
         }
     }
 
-    /// The room inside a type that begins here. An actual may be the type itself.
+    /// The room inside a type that begins with the expression. An actual may be the type itself.
     pub fn inside_type(self, cursor: &Cursor<'_, '_>) -> Result<Room, Refused>
         ensures ok { IfOk result (λ room. room.left ≤ self.room.left) }
         ensures refused { IfErr result (IsRefusalAt cursor.now.end cursor.now.rest.now) }
     {
-        match cursor.kind() {
-            Some(kind) if begins_type(kind) => match self.role {
-                Role::Actual => Ok(self.room),
-                _ => self.inside().open(cursor),
+        match self.want {
+            Want::Actual => match cursor.kind() {
+                Some(kind) if begins_type(kind) => Ok(self.room),
+                _ => Err(cursor.unexpected()),
             },
-            _ => Err(cursor.unexpected()),
+            _ => open_type(cursor, self.inside()),
         }
     }
 
-    /// The setting of an operand that is not the first: what it is in isn't a type.
+    /// The setting of an operand that is not the first, with which no type begins.
     pub fn behind_operator(self) -> Setting
         ensures { result.room ≡ self.room }
     {
-        match self.role {
-            Role::Actual => Setting {
+        match self.want {
+            Want::Actual => Setting {
                 room: self.room,
-                role: Role::Value,
+                is_head: self.is_head,
+                want: Want::Value,
             },
             _ => self,
         }
     }
 
-    /// What is wanted inside a parenthesis that begins here.
-    pub fn role_in_parenthesis(self) -> Role {
-        match self.role {
-            Role::Actual => Role::Actual,
-            _ => Role::Value,
+    /// What is wanted in a parenthesis with which the expression begins.
+    pub fn want_in_parenthesis(self) -> Want {
+        match self.want {
+            Want::Actual => Want::Actual,
+            _ => Want::Value,
         }
     }
 }
@@ -99,7 +105,12 @@ pub fn open_type(cursor: &Cursor<'_, '_>, room: Room) -> Result<Room, Refused>
 
 /// A name that begins an actual or an element where no construct can be opened any more: it needs none
 /// yet, as it may stand before `:=`. What goes on with it lies too deep.
-pub fn lone_name<'a>(cursor: &mut Cursor<'_, 'a>, room: Room) -> Result<Option<Name<'a>>, Refused> {
+pub fn lone_name<'a>(cursor: &mut Cursor<'_, 'a>, room: Room) -> Result<Option<Name<'a>>, Refused>
+    ensures shrinks { IfOk result (λ found. OnSome found (length cursor.new.rest.now < length cursor.old.rest.now)) }
+    ensures within { length cursor.new.rest.now ≤ length cursor.old.rest.now }
+    ensures end { cursor.new.end ≡ cursor.old.end }
+    ensures refused { IfErr result (IsRefusalAt cursor.new.end cursor.new.rest.now) }
+{
     if room.left() > 0 || !cursor.is_name() {
         return Ok(None);
     }

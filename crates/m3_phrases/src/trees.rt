@@ -1,5 +1,5 @@
 use m3_base::{NoMemory, Pos};
-use m3_syntax::{Actual, Expr, Operation, Qualid, Selector, TypeExp, TypeName};
+use m3_syntax::{Actual, Expr, Name, Operation, Qualid, Selector, TypeExp, TypeName};
 use std::alloc::Global;
 
 /// The place of an expression's first token.
@@ -29,9 +29,20 @@ pub fn qualid_of<'a>(expr: &Expr<'a>) -> Option<Qualid<'a>> {
             operand,
             selectors,
             ..
-        } => match (&**operand, selectors.as_slice()) {
-            (Expr::Name(first), [Selector::Member(second)]) => Some(Qualid {
-                first: *first,
+        } => match &**operand {
+            Expr::Name(first) => member_of(*first, selectors.as_slice()),
+            _ => None,
+        },
+        _ => None,
+    }
+}
+
+/// A name with one selector, where that is a name too.
+fn member_of<'a>(first: Name<'a>, selectors: &[Selector<'a>]) -> Option<Qualid<'a>> {
+    match selectors {
+        [selector] => match selector {
+            Selector::Member(second) => Some(Qualid {
+                first,
                 second: Some(*second),
             }),
             _ => None,
