@@ -1,3 +1,5 @@
+ghost use Rattle.std.specs.Prelude.{◌≡◌, ◌↔◌, IsNone, IfSome};
+
 use m3_base::Pos;
 use m3_syntax::{Arm, Block, CaseBranch, Decl, Handler, Name, Stmt, TypeBranch, Unit, UnitKind};
 
@@ -12,8 +14,11 @@ pub fn first_wrong_closing(unit: &Unit) -> Option<Pos> {
 }
 
 /// The place of a closing name, where it differs from the name that it is to close.
-fn wrong_closing(name: &Name, closing: &Name) -> Option<Pos> {
-    if name.text == closing.text {
+fn wrong_closing(name: &Name, closing: &Name) -> Option<Pos>
+    ensures same { IsNone result ↔ (closing.now.text.now ≡ name.now.text.now) }
+    ensures place { IfSome result (λ pos. pos ≡ closing.now.pos) }
+{
+    if closing.text == name.text {
         None
     } else {
         Some(closing.pos)

@@ -1,12 +1,13 @@
-ghost use Rattle.std.specs.Prelude.{◌≡◌, ◌<◌, ◌≤◌, IfErr, OnOk, length};
-ghost use Rattle.m3_phrases.specs.Cursors.{IsRefusalAt};
+ghost use Rattle.std.specs.Prelude.{◌≡◌, ◌<◌, ◌≤◌, IfOk, IfErr, OnOk, length};
+ghost use Rattle.m3_phrases.specs.Cursors.{IsRefusalAt, place_at};
+ghost use Rattle.m3_parser.specs.Refusals.{IsRefusal};
 
 use crate::blocks::{block, procedure};
 use crate::closings::first_wrong_closing;
 use crate::declarations::{Declared, declaration};
 use m3_base::{Pos, Refusal, Refused};
 use m3_phrases::{Cursor, Room, name_list};
-use m3_syntax::{Decl, Import, ImportItem, Lexed, Name, Sign, Unit, UnitKind, Word};
+use m3_syntax::{Decl, Import, ImportItem, Lexed, Name, Sign, Token, Unit, UnitKind, Word};
 use std::alloc::Global;
 
 /// How many tokens a file may have.
@@ -22,34 +23,66 @@ const TOO_MANY_TOKENS: u16 = 14;
 /// the tokens.
 ///
 /// An `Err` is the first broken rule of 10 to 14: of phase 2, with its place, and with the file of
-/// `lexed.end` as its unit. Want of memory is the other `Err`.
-pub fn parse<'a>(alloc: Global, lexed: &Lexed<'a>) -> Result<Unit<'a>, Refused> {
+/// `lexed.end` as its unit. Rule 12 is judged only where no other is broken. Want of memory is the other
+/// `Err`.
+pub fn parse<'a>(alloc: Global, lexed: &Lexed<'a>) -> Result<Unit<'a>, Refused>
+    ensures tokens { IfOk result (λ unit. unit.tokens ≡ length lexed.now.tokens.items) }
+    ensures within_limit { OnOk result (length lexed.now.tokens.items ≤ 500000) }
+    ensures refused { IfErr result (IsRefusal lexed.now.end lexed.now.tokens.items) }
+{
     let mut cursor = Cursor::new(lexed);
     let outcome = unit(alloc, &mut cursor);
     let count = lexed.tokens.len();
     if count - cursor.remaining() > MAX_TOKENS {
-        return Err(broken(lexed, lexed.tokens[MAX_TOKENS].pos, TOO_MANY_TOKENS));
+        return Err(too_many_tokens(lexed));
     }
     let mut unit = outcome?;
     unit.tokens = count as u32;
     match first_wrong_closing(&unit) {
-        Some(pos) => Err(broken(lexed, pos, END_NAME_DIFFERS)),
+        Some(pos) => Err(end_name_differs(lexed, pos)),
         None => Ok(unit),
     }
 }
 
-/// A rule of the grammar that is broken at a place of a file.
-fn broken(lexed: &Lexed, pos: Pos, rule: u16) -> Refused {
+/// The refusal of a closing name that is another than the one that it closes.
+fn end_name_differs(lexed: &Lexed, pos: Pos) -> Refused
+    ensures { IsRefusal lexed.now.end lexed.now.tokens.items result }
+{
     Refused::Rule(Refusal {
         phase: 2,
         unit: lexed.end.file,
         pos,
-        rule,
+        rule: END_NAME_DIFFERS,
     })
+}
+
+/// The refusal of token 500,001.
+fn too_many_tokens(lexed: &Lexed) -> Refused
+    requires { 500000 < length lexed.now.tokens.items }
+    ensures { IsRefusal lexed.now.end lexed.now.tokens.items result }
+{
+    let rest = &lexed.tokens.as_slice()[MAX_TOKENS..];
+    Refused::Rule(Refusal {
+        phase: 2,
+        unit: lexed.end.file,
+        pos: first_place(rest, lexed.end),
+        rule: TOO_MANY_TOKENS,
+    })
+}
+
+/// The place of the first token, or the end of the file.
+fn first_place(tokens: &[Token], end: Pos) -> Pos
+    ensures { result ≡ place_at end tokens.now }
+{
+    match tokens {
+        [] => end,
+        [token, ..] => token.pos,
+    }
 }
 
 /// The unit that all tokens make. The number of tokens is left at 0.
 fn unit<'a>(alloc: Global, cursor: &mut Cursor<'_, 'a>) -> Result<Unit<'a>, Refused>
+    ensures all { OnOk result (length cursor.new.rest.now ≡ 0) }
     ensures shrinks { OnOk result (length cursor.new.rest.now < length cursor.old.rest.now) }
     ensures within { length cursor.new.rest.now ≤ length cursor.old.rest.now }
     ensures end { cursor.new.end ≡ cursor.old.end }
@@ -60,7 +93,7 @@ fn unit<'a>(alloc: Global, cursor: &mut Cursor<'_, 'a>) -> Result<Unit<'a>, Refu
     let (name, kind) = opened(alloc, cursor, is_unsafe)?;
     let closing = cursor.take_name()?;
     cursor.take_sign(Sign::Dot)?;
-    if cursor.kind().is_some() {
+    if cursor.remaining() > 0 {
         return Err(cursor.unexpected());
     }
     Ok(Unit {
