@@ -35,11 +35,7 @@ fn line_of(line: &str) -> Line<'_> {
 }
 
 /// Tries each case of a file, and shows those that come out otherwise.
-pub fn try_cases(
-    rt: &(impl Print + AllocGlobal),
-    name: &str,
-    content: &str,
-) -> io::Result<Tally> {
+pub fn try_cases(rt: &(impl Print + AllocGlobal), name: &str, content: &str) -> io::Result<Tally> {
     let mut tally = Tally {
         cases: 0,
         differing: 0,

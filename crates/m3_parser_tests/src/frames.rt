@@ -22,12 +22,7 @@ pub const WHOLE: Frame = Frame {
 pub fn frame_of(name: &str) -> Option<Frame> {
     match name {
         "unit" => Some(WHOLE),
-        "interface" => Some(plain(
-            "INTERFACE M;\n",
-            "\nEND M.",
-            "(INTERFACE M",
-            " END M)",
-        )),
+        "interface" => Some(plain("INTERFACE M;\n", "\nEND M.", "(INTERFACE M", " END M)")),
         "declarations" => Some(plain(
             "MODULE M;\n",
             "\nBEGIN END M.",

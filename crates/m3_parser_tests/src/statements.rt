@@ -37,7 +37,9 @@ fn show_statement(statement: &Stmt, sheet: &mut Sheet) {
             sheet.close();
         }
         Stmt::If {
-            arms, otherwise, ..
+            arms,
+            otherwise,
+            ..
         } => {
             show_head(statement, sheet);
             show_arms(arms, sheet);
@@ -75,7 +77,9 @@ fn show_statement(statement: &Stmt, sheet: &mut Sheet) {
             sheet.close();
         }
         Stmt::Repeat {
-            body, condition, ..
+            body,
+            condition,
+            ..
         } => {
             show_head(statement, sheet);
             show_statements(body, sheet);

@@ -63,7 +63,14 @@ pub fn show_type(kind: &TypeExp, sheet: &mut Sheet) {
             brand,
             target,
         } => {
-            sheet.open(if *is_untraced { b"UNTRACED-REF" } else { b"REF" }, *pos);
+            sheet.open(
+                if *is_untraced {
+                    b"UNTRACED-REF"
+                } else {
+                    b"REF"
+                },
+                *pos,
+            );
             show_brand(brand, sheet);
             show_type(target, sheet);
             sheet.close();
