@@ -33,7 +33,9 @@ fn show_statement(statement: &Stmt, sheet: &mut Sheet) {
         } => {
             show_head(statement, sheet);
             show_branches(branches, sheet);
-            show_otherwise(otherwise, sheet);
+            if let Some(last) = otherwise {
+                show_otherwise(last, sheet);
+            }
             sheet.close();
         }
         Stmt::If {
@@ -43,7 +45,9 @@ fn show_statement(statement: &Stmt, sheet: &mut Sheet) {
         } => {
             show_head(statement, sheet);
             show_arms(arms, sheet);
-            show_otherwise(otherwise, sheet);
+            if let Some(last) = otherwise {
+                show_otherwise(last, sheet);
+            }
             sheet.close();
         }
         Stmt::TypeCase {
@@ -53,7 +57,9 @@ fn show_statement(statement: &Stmt, sheet: &mut Sheet) {
         } => {
             show_head(statement, sheet);
             show_type_branches(branches, sheet);
-            show_otherwise(otherwise, sheet);
+            if let Some(last) = otherwise {
+                show_otherwise(last, sheet);
+            }
             sheet.close();
         }
         Stmt::TryExcept {
@@ -66,7 +72,9 @@ fn show_statement(statement: &Stmt, sheet: &mut Sheet) {
             show_statements(body, sheet);
             sheet.word(b"EXCEPT");
             show_handlers(handlers, sheet);
-            show_otherwise(otherwise, sheet);
+            if let Some(last) = otherwise {
+                show_otherwise(last, sheet);
+            }
             sheet.close();
         }
         Stmt::TryFinally { body, last, .. } => {
@@ -204,11 +212,9 @@ fn show_bindings(bindings: &[Binding], sheet: &mut Sheet) {
 }
 
 #[cycle(statements)]
-fn show_otherwise(otherwise: &Option<Vec<Stmt>>, sheet: &mut Sheet) {
-    if let Some(statements) = otherwise {
-        sheet.word(b"ELSE");
-        show_statements(statements, sheet);
-    }
+fn show_otherwise(statements: &Vec<Stmt>, sheet: &mut Sheet) {
+    sheet.word(b"ELSE");
+    show_statements(statements, sheet);
 }
 
 #[cycle(statements)]

@@ -71,7 +71,9 @@ pub fn show_type(kind: &TypeExp, sheet: &mut Sheet) {
                 },
                 *pos,
             );
-            show_brand(brand, sheet);
+            if let Some(brand) = brand {
+                show_brand(brand, sheet);
+            }
             show_type(target, sheet);
             sheet.close();
         }
@@ -98,21 +100,21 @@ fn show_type_name(name: &TypeName, sheet: &mut Sheet) {
 }
 
 #[cycle(phrases)]
-fn show_brand(brand: &Option<Brand>, sheet: &mut Sheet) {
-    if let Some(brand) = brand {
-        sheet.open(b"BRANDED", brand.pos);
-        if let Some(text) = &brand.text {
-            show_expr(text, sheet);
-        }
-        sheet.close();
+fn show_brand(brand: &Brand, sheet: &mut Sheet) {
+    sheet.open(b"BRANDED", brand.pos);
+    if let Some(text) = &brand.text {
+        show_expr(text, sheet);
     }
+    sheet.close();
 }
 
 #[cycle(phrases)]
 fn show_object_parts(parts: &Vec<ObjectPart>, sheet: &mut Sheet) {
     for part in parts {
         sheet.open(b"part", part.pos);
-        show_brand(&part.brand, sheet);
+        if let Some(brand) = &part.brand {
+            show_brand(brand, sheet);
+        }
         show_fields(&part.fields, sheet);
         show_methods(&part.methods, sheet);
         for one in &part.overrides {
