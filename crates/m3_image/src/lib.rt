@@ -18,6 +18,3 @@ pub use procs::ProcPart;
 pub use refusal::ImageRefusal;
 pub use types::TypeView;
 pub use variables::VarView;
-
-#[cfg(test)]
-mod tests;

@@ -4,4 +4,3 @@ pub mod Again
 pub mod AgainParts
 pub mod AgainImage
 pub mod ViewBytes
-pub mod Samples

@@ -9,6 +9,3 @@ mod variables;
 
 pub use image::write_image;
 pub use parts::{GlobalPart, ImageParts, PlacePart, TypePart, VarPart};
-
-#[cfg(test)]
-mod tests;

@@ -18,6 +18,3 @@ pub use instructions::{Instr, Op};
 pub use memory::Words;
 pub use registers::Regs;
 pub use steps::step;
-
-#[cfg(test)]
-mod tests;

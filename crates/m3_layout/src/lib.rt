@@ -10,6 +10,3 @@ mod values;
 mod walk;
 
 pub use cells::{Shape, cell_shape, has_cell};
-
-#[cfg(test)]
-mod tests;

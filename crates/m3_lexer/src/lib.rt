@@ -15,6 +15,3 @@ mod tokens;
 pub use laws::{one_list, one_refusal, tokens_or_refusal};
 pub use m3_syntax::Lexed;
 pub use tokens::lex;
-
-#[cfg(test)]
-mod tests;

@@ -8,4 +8,3 @@ pub mod Again
 pub mod Missing
 pub mod AgainRows
 pub mod PlainFits
-pub mod Forty

@@ -24,6 +24,3 @@ pub use plain::{DerivedPlain, RowPlain, Way};
 pub use row::Row;
 pub use table::{TableFront, TableView};
 pub use writing::write_rows;
-
-#[cfg(test)]
-mod tests;

@@ -24,6 +24,3 @@ pub use nodes::{
     Brand, ConstId, ConstValue, Field, Formal, Method, Mode, Override, Raises, Reveal, Secret,
     TypeGraph, TypeId, TypeNode,
 };
-
-#[cfg(test)]
-mod tests;

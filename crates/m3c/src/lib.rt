@@ -7,6 +7,3 @@ mod report;
 mod stack;
 
 pub use command::m3c;
-
-#[cfg(test)]
-mod tests;

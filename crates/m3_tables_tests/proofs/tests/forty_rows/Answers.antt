@@ -1,6 +1,6 @@
 use Rattle.std.proofs.Common.{◌≡◌, sym, ap, ◌∙◌, arith}
-use Rattle.m3_tables.proofs.Forty.{plain_rows, plain_rows-zero, plain_rows-more, form-more, rising, size}
-use Rattle.m3_tables.proofs.tests.forty_rows.Goals as goal
+use Rattle.m3_tables_tests.proofs.Forty.{plain_rows, plain_rows-zero, plain_rows-more, form-more, rising, size}
+use Rattle.m3_tables_tests.proofs.tests.forty_rows.Goals as goal
 
 pub loop-n-init : goal.loop-n-init
 loop-n-init c = rw c.new-rows.ensures.items (record { form = tt; plain = sym plain_rows-zero })

@@ -3,7 +3,7 @@ ghost use Rattle.m3_isa.specs.Instructions.{IsInstruction};
 ghost use Rattle.std.proofs.Common.{arith};
 ghost use Rattle.std.proofs.lemmas.Bool.Decides.{nat_tests};
 
-use super::*;
+use m3_isa::{Instr, Op, Regs, Step, Words, decode, encode, step};
 use std::process::Abort;
 
 // Sixteen words that can be replaced, and four constants.
@@ -443,7 +443,7 @@ fn comparisons(rt: HostRuntime) {
             None => (Step::Trapped(2), a),
         };
         assert_eq!(rt;
-            super::step(i, &mut regs, &mut mem),
+            m3_isa::step(i, &mut regs, &mut mem),
             step,
             "{op:?} {a} {b} {c}"
         );

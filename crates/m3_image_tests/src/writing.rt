@@ -4,9 +4,9 @@ ghost use Rattle.m3_image_writer.specs.Image.{image_bytes};
 ghost use Rattle.m3_image_writer.specs.Views.{cell_type, variable_of};
 ghost use Rattle.m3_image_writer.specs.Parts.{AreNumbered, AreParts};
 
-use super::*;
 use m3_base::{Bytes, NoMemory};
 use m3_image::{ImageView, ProcPart};
+use m3_image_writer::{GlobalPart, ImageParts, PlacePart, TypePart, VarPart, write_image};
 use m3_isa::{Instr, Op};
 use m3_tables::Location;
 use std::alloc::Global;

@@ -1,8 +1,8 @@
-use crate::{
+use m3_base::Bytes;
+use m3_types::{
     Assign, Brand, ConstId, ConstValue, Field, Formal, Mode, Raises, Reveal, Secret, TypeGraph,
     TypeId, TypeNode,
 };
-use m3_base::Bytes;
 use std::alloc::Global;
 use std::collections::BTreeSet;
 use std::process::Abort;

@@ -1,5 +1,5 @@
-use super::*;
 use m3_heap::Maps;
+use m3_image::{ImageRefusal, ImageView, ProcPart};
 use m3_isa::{Instr, Op};
 use m3_tables::Location;
 use std::test::*;

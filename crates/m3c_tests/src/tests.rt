@@ -1,5 +1,5 @@
-use crate::m3c;
 use m3_ports::{MemShelf, MemSink, Shelf};
+use m3c::m3c;
 use std::alloc::Global;
 use std::process::Abort;
 use std::test::Fail;

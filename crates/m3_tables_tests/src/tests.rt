@@ -5,8 +5,8 @@ ghost use Rattle.m3_tables.specs.Plain.{tidy_plain, contents_plain, plains_of, I
 ghost use Rattle.m3_tables.specs.Writing.{table_bytes};
 ghost use Rattle.m3_tables.specs.Rows.{nothing};
 
-use super::*;
 use m3_base::NoMemory;
+use m3_tables::{Location, RowPlain, TableView, write_rows};
 use std::alloc::Global;
 use std::test::*;
 

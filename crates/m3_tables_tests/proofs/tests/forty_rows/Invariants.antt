@@ -1,8 +1,8 @@
 use Rattle.std.proofs.Common.{◌≡◌}
 use Rattle.std.specs.List.{AllByRecursion}
 use Rattle.m3_tables.specs.Plain.{plains_of, IsRow}
-use Rattle.m3_tables.proofs.Forty.{plain_rows}
-use Rattle.m3_tables.proofs.tests.forty_rows.Given as goal
+use Rattle.m3_tables_tests.proofs.Forty.{plain_rows}
+use Rattle.m3_tables_tests.proofs.tests.forty_rows.Given as goal
 
 abbrev pub invariant-loop-n : goal.invariant-loop-n
 invariant-loop-n l = record {

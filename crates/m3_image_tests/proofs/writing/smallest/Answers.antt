@@ -1,8 +1,8 @@
 use Rattle.std.proofs.Common.{◌≡◌, ℕ, List, [], ◌∷◌, refl, ap, ◌∙◌}
 use Rattle.std.specs.Prelude.{map}
 use Rattle.m3_image_writer.specs.Views.{cell_type}
-use Rattle.m3_image_writer.proofs.Samples.{texts, smallest, globals_with, same_program, smallest_keeps, smallest_fits}
-use Rattle.m3_image_writer.proofs.tests.smallest.Goals as goal
+use Rattle.m3_image_tests.proofs.Samples.{texts, smallest, globals_with, same_program, smallest_keeps, smallest_fits}
+use Rattle.m3_image_tests.proofs.writing.smallest.Goals as goal
 
 pub returns-clause-form : goal.returns-clause-form
 returns-clause-form c =

@@ -1,6 +1,6 @@
 use Rattle.std.proofs.Common.{◌≡◌, ℕ, List, refl, ap}
-use Rattle.m3_image_writer.proofs.Samples.{rich, globals_with, same_program, rich_keeps, rich_fits}
-use Rattle.m3_image_writer.proofs.tests.rich.Goals as goal
+use Rattle.m3_image_tests.proofs.Samples.{rich, globals_with, same_program, rich_keeps, rich_fits}
+use Rattle.m3_image_tests.proofs.writing.rich.Goals as goal
 
 pub returns-clause-form : goal.returns-clause-form
 returns-clause-form c =

@@ -1,5 +1,5 @@
-use crate::{Shape, cell_shape, has_cell};
 use m3_base::Bytes;
+use m3_layout::{Shape, cell_shape, has_cell};
 use m3_types::{Field, Raises, Reveal, Secret, TypeGraph, TypeId, TypeNode};
 use std::alloc::Global;
 use std::process::Abort;

@@ -1,5 +1,5 @@
-use super::lex;
 use m3_base::{Pos, Refusal, Refused};
+use m3_lexer::lex;
 use m3_syntax::{Sign, TokenKind, Word};
 use std::alloc::Global;
 use std::process::Abort;

@@ -1,0 +1,5 @@
+//! The tests of the instructions.
+#![tactic(auto)]
+
+#[cfg(test)]
+mod tests;

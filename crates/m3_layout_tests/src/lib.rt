@@ -1,0 +1,5 @@
+//! The tests of the layouts.
+#![tactic(auto)]
+
+#[cfg(test)]
+mod tests;

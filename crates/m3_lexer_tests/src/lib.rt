@@ -1,0 +1,5 @@
+//! The tests of the lexer.
+#![tactic(auto)]
+
+#[cfg(test)]
+mod tests;

@@ -1,0 +1,5 @@
+//! The tests of the tables.
+#![tactic(auto)]
+
+#[cfg(test)]
+mod tests;

@@ -1,0 +1,5 @@
+//! The tests of the types.
+#![tactic(auto)]
+
+#[cfg(test)]
+mod tests;

@@ -1,0 +1,5 @@
+//! The tests of the command.
+#![tactic(auto)]
+
+#[cfg(test)]
+mod tests;
