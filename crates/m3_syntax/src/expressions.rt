@@ -58,6 +58,24 @@ pub enum Expr<'a> {
     },
 }
 
+impl Expr<'_> {
+    /// The place of its first token.
+    pub fn pos(&self) -> Pos {
+        match self {
+            Expr::Name(name) => name.pos,
+            Expr::Operations { pos, .. }
+            | Expr::Not { pos, .. }
+            | Expr::Signed { pos, .. }
+            | Expr::Selected { pos, .. }
+            | Expr::Number { pos, .. }
+            | Expr::CharLit { pos, .. }
+            | Expr::TextLit { pos, .. }
+            | Expr::Parenthesis { pos, .. }
+            | Expr::Constructor { pos, .. } => *pos,
+        }
+    }
+}
+
 /// The operators between two operands.
 #[derive(Clone, Copy, Debug, PartialEq, Eq)]
 pub enum Operator {
@@ -182,6 +200,25 @@ pub enum TypeExp<'a> {
         first: Box<Expr<'a>>,
         last: Box<Expr<'a>>,
     },
+}
+
+impl TypeExp<'_> {
+    /// The place of its first token.
+    pub fn pos(&self) -> Pos {
+        match self {
+            TypeExp::Named(name) => name.pos(),
+            TypeExp::Parenthesis { pos, .. }
+            | TypeExp::Array { pos, .. }
+            | TypeExp::Bits { pos, .. }
+            | TypeExp::Enumeration { pos, .. }
+            | TypeExp::Object { pos, .. }
+            | TypeExp::Procedure { pos, .. }
+            | TypeExp::Record { pos, .. }
+            | TypeExp::Ref { pos, .. }
+            | TypeExp::Set { pos, .. }
+            | TypeExp::Subrange { pos, .. } => *pos,
+        }
+    }
 }
 
 /// `BRANDED`, with the text that brands, where one is written.

@@ -22,6 +22,16 @@ pub enum TypeName<'a> {
     UntracedRoot(Pos),
 }
 
+impl TypeName<'_> {
+    /// The place of its first token.
+    pub fn pos(self) -> Pos {
+        match self {
+            TypeName::Named(name) => name.first.pos,
+            TypeName::Root(pos) | TypeName::UntracedRoot(pos) => pos,
+        }
+    }
+}
+
 /// The exceptions that a procedure may raise: `RAISES ANY`, or a set, which is empty where no RAISES
 /// is written.
 #[derive(Drop)]
