@@ -1,0 +1,25 @@
+-- What a file is refused for whose tokens make no unit.
+use Rattle.std.specs.Prelude.{ℕ, ◌≡◌, ◌≤◌, ◌<◌, List, length, drop}
+use Rattle.m3_base.specs.declared.places.Pos.{Pos}
+use Rattle.m3_base.specs.declared.refusals.Refusal.{Refusal}
+use Rattle.m3_base.specs.declared.refusals.Refused.{Refused}
+use Rattle.m3_base.specs.declared.refusals.Refused.TheVariants.{Rule, NoMemory}
+use Rattle.m3_cursor.specs.Cursors.{place_at}
+use Rattle.m3_syntax.specs.declared.tokens.Token.{Token}
+
+-- a rule of the grammar, broken in a file of these tokens and this end
+pub record IsBroken (end : Pos) (tokens : List Token) (refusal : Refusal) : Type 0 where
+  pub phase : refusal.phase ≡ 2
+  pub unit : refusal.unit ≡ end.file
+  pub first_rule : 10 ≤ refusal.rule
+  pub last_rule : refusal.rule ≤ 14
+  -- a file that ends too early is refused at its end
+  pub at_end : refusal.rule ≡ 11 → refusal.pos ≡ end
+  -- too many tokens are refused at token 500,001
+  pub many : refusal.rule ≡ 14 → 500000 < length tokens
+  pub at_limit : refusal.rule ≡ 14 → refusal.pos ≡ place_at end (drop 500000 tokens)
+
+-- what a file of these tokens and this end may be refused for: a rule of the grammar, or want of memory
+abbrev pub IsRefusal : Pos → List Token → Refused → Type 0
+IsRefusal end tokens (Rule refusal) = IsBroken end tokens refusal
+IsRefusal end tokens NoMemory = Unit {0}

@@ -1,0 +1,139 @@
+use crate::answers::answer_to;
+use crate::frames::{Frame, WHOLE, frame_of};
+use crate::repeats::expanded;
+use std::alloc::{AllocError, Global};
+use std::io;
+
+/// How many cases were tried, and how many of them came out otherwise.
+#[derive(Clone, Copy, Debug)]
+pub struct Tally {
+    pub cases: u32,
+    pub differing: u32,
+}
+
+/// What a line of a file of cases is.
+#[derive(Clone, Copy, Debug)]
+enum Line<'s> {
+    Remark,
+    /// The frame of the cases from here on.
+    Frame(&'s str),
+    /// What the text before it is to give.
+    Answer(&'s str),
+    Text(&'s str),
+}
+
+fn line_of(line: &str) -> Line<'_> {
+    if line.starts_with("--") {
+        Line::Remark
+    } else if let Some(name) = line.strip_prefix("@") {
+        Line::Frame(name)
+    } else if line == "+" || line == "=" || line.starts_with("= ") || line.starts_with("! ") {
+        Line::Answer(line)
+    } else {
+        Line::Text(line)
+    }
+}
+
+/// Tries each case of a file, and shows those that come out otherwise.
+pub fn try_cases(rt: &(impl Print + AllocGlobal), name: &str, content: &str) -> io::Result<Tally> {
+    let mut tally = Tally {
+        cases: 0,
+        differing: 0,
+    };
+    let mut frame = WHOLE;
+    let mut text = String::new(rt.alloc());
+    for (number, line) in content.split('\n').enumerate() {
+        match line_of(line) {
+            Line::Remark => {}
+            Line::Frame(name) => frame = frame_of(name).unwrap_or(WHOLE),
+            Line::Text(line) => add_line(&mut text, line)?,
+            Line::Answer(answer) => {
+                let case = Case {
+                    frame,
+                    text: text.as_str(),
+                    answer,
+                };
+                let is_right = try_case(rt, name, number.saturating_add(1), case)?;
+                tally.count(is_right);
+                text.clear();
+            }
+        }
+    }
+    Ok(tally)
+}
+
+/// Adds a line to a text. Empty lines before a text are no part of it.
+fn add_line(text: &mut String, line: &str) -> Result<(), AllocError> {
+    if !text.is_empty() {
+        text.push_str("\n")?;
+    }
+    text.push_str(line)
+}
+
+impl Tally {
+    pub fn count(&mut self, is_right: bool) {
+        self.cases = self.cases.saturating_add(1);
+        if !is_right {
+            self.differing = self.differing.saturating_add(1);
+        }
+    }
+}
+
+/// A text with its frame, and what it is to give.
+#[derive(Clone, Copy, Debug)]
+struct Case<'s> {
+    frame: Frame,
+    text: &'s str,
+    answer: &'s str,
+}
+
+/// Whether a case comes out as it should. Where it doesn't, what differs is printed.
+fn try_case(
+    rt: &(impl Print + AllocGlobal),
+    name: &str,
+    line: usize,
+    case: Case<'_>,
+) -> io::Result<bool> {
+    let alloc = rt.alloc();
+    let source = source_of(alloc, case)?;
+    let found = answer_to(alloc, source.as_bytes(), case.frame.has_places)?;
+    let wanted = wanted_of(alloc, case)?;
+    let is_right = if case.answer == "+" {
+        found.first().copied() == Some(b'=')
+    } else {
+        found.as_slice() == wanted.as_bytes()
+    };
+    if !is_right {
+        let text = case.text;
+        let wanted = wanted.as_str();
+        let found = str::from_utf8(found.as_slice()).unwrap_or("no text");
+        println!(rt; "{name}, line {line}: {text}\nwanted {wanted}\nfound  {found}\n")?;
+    }
+    Ok(is_right)
+}
+
+/// The whole text of a case.
+fn source_of(alloc: Global, case: Case<'_>) -> Result<String, AllocError> {
+    let mut source = String::from_str(alloc, case.frame.before)?;
+    let text = expanded(alloc, case.text)?;
+    source.push_str(text.as_str())?;
+    source.push_str(case.frame.after)?;
+    Ok(source)
+}
+
+/// The whole answer that a case is to give: a tree is put into that of the frame.
+fn wanted_of(alloc: Global, case: Case<'_>) -> Result<String, AllocError> {
+    let answer = expanded(alloc, case.answer)?;
+    let Some(tree) = answer.as_str().strip_prefix("=") else {
+        return Ok(answer);
+    };
+    let mut wanted = String::from_str(alloc, "= ")?;
+    if case.frame.tree_before.is_empty() {
+        wanted.push_str(tree.trim_start())?;
+        return Ok(wanted);
+    }
+    wanted.push_str(case.frame.tree_before)?;
+    wanted.push_str(tree)?;
+    wanted.push_str(case.frame.tree_after)?;
+    Ok(wanted)
+}
