@@ -1,12 +1,12 @@
-use Rattle.std.proofs.Common.{◌≡◌, true, false, refl}
+use Rattle.std.proofs.Common.{◌≡◌, true, false}
 use Rattle.m3_heap.specs.Moves.{kept_starts}
 use Rattle.m3_heap.specs.Reach.{HasBadPointer}
 use Rattle.m3_heap.specs.Heap.{Heap, KeepsReached, MovesCells, CostsTrace}
-use Rattle.m3_heap.specs.Semi.{semi_heap}
+use Rattle.m3_heap.specs.CollectorHalves.{semi_heap}
 use Rattle.m3_heap.proofs.SemiLemmas.{is-opened, in-motion, semi-sound}
 use Rattle.m3_heap.proofs.FinishLemmas.{semi-halves, IsFinished, finished-good, finished-reached, finished-moved, finished-cost, finished-rest, told, swapped-semi}
-use Rattle.m3_heap.proofs.semi_space.SemiSpaceStore.finish.Given as given
-use Rattle.m3_heap.proofs.semi_space.SemiSpaceStore.finish.Goals as goal
+use Rattle.m3_heap.proofs.halves.Halves.finish.Given as given
+use Rattle.m3_heap.proofs.halves.Halves.finish.Goals as goal
 
 opens : (g : given.Over) (c : goal.After-self-3-1 g) → c.self.inside.is_open ≡ true
 opens g c = is-opened c.self.inside c.args.self.now c.self.view_is c.requires.open
@@ -53,7 +53,7 @@ returns-clause-cost g c =
     (finished-cost shapes c.self.inside.here c.self.inside.there c.trace-is_traced.new.left c.trace-is_traced.new.kept c.self.inside.asked c.self.inside.fulls 0 c.one_more-self-inside.result c.args.steps.now c.trace-is_traced.new.steps (finished g c) c.if-not-is_traced.ensures.cost)
 
 pub returns-clause-sound : goal.returns-clause-sound
-returns-clause-sound g c = semi-sound _ (invariant_of-self-2 g c) refl
+returns-clause-sound g c = semi-sound _ (invariant_of-self-2 g c)
 
 pub returns-clause-halves : goal.returns-clause-halves
-returns-clause-halves g c = semi-halves _ (invariant_of-self-2 g c) refl
+returns-clause-halves g c = semi-halves _ (invariant_of-self-2 g c)

@@ -1,10 +1,10 @@
-use Rattle.std.proofs.Common.{◌≡◌, true, [], sym, ap, subst, ◌∙◌, arith, inl, inr, ⊎_elim}
-use Rattle.m3_heap.specs.Heap.{Heap, IsSound}
-use Rattle.m3_heap.specs.Semi.{Semi, first_base, second_base, AreAtRest, semi_heap}
-use Rattle.m3_heap.specs.Moves.{staying}
-use Rattle.m3_heap.specs.Tracing.{Traces}
-use Rattle.m3_heap.proofs.SemiLemmas.{told-sound, is-closed, at-rest, bases-high, begun, begun-moving, opened}
-use Rattle.m3_heap.proofs.semi_space.SemiSpaceStore.begin.Goals as goal
+use Rattle.std.proofs.Common.{◌≡◌, true, [], sym, ap, ◌∙◌, arith, inl, inr, ⊎_elim}
+use Rattle.m3_heap.specs.Semi.{Semi, first_base, second_base}
+use Rattle.m3_heap.specs.CollectorHalves.{AreAtRest, semi_heap}
+use Rattle.m3_heap.specs.CollectorTracing.{Traces}
+use Rattle.m3_heap.proofs.SemiLemmas.{semi-sound, is-closed, at-rest, bases-high, begun, begun-moving, opened}
+use Rattle.m3_heap.proofs.FinishLemmas.{semi-halves}
+use Rattle.m3_heap.proofs.halves.Halves.begin.Goals as goal
 
 rest : (c : goal.After-self-1) → AreAtRest c.self.inside.here
 rest c = at-rest c.self.inside c.self.invariant (is-closed c.self.inside c.args.self.now c.self.view_is c.requires.closed)
@@ -33,12 +33,10 @@ seen c =
     ∙ ap (λ (s : Semi). record s.heap { is_open = true; moves = [] }) c.self.view_is
 
 pub returns-clause-opened : goal.returns-clause-opened
-returns-clause-opened c =
-    let none = ap (λ (s : Semi). s.heap.tenured) c.self.view_is in
-    seen c ∙ ap (λ ts. record c.args.self.now.heap { is_open = true; moves = staying ts }) none
+returns-clause-opened c = seen c
 
 pub returns-clause-sound : goal.returns-clause-sound
-returns-clause-sound c =
-    let was = told-sound c.self.inside c.self.invariant c.args.self.now c.self.view_is c.requires.closed in
-    let P : Heap → Type 0 = λ h. IsSound h in
-    subst P (sym (seen c)) (record { cells = was.cells; free = was.free })
+returns-clause-sound c = semi-sound _ (invariant_of-self c)
+
+pub returns-clause-halves : goal.returns-clause-halves
+returns-clause-halves c = semi-halves _ (invariant_of-self c)

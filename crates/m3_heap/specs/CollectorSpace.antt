@@ -1,4 +1,4 @@
--- One half of the memory: words in a row, with a mark at the first word of each cell.
+-- For the collector alone: one half of the memory: words in a row, with a mark at the first word of each cell.
 use Rattle.std.specs.Prelude.{◌≡◌, ℕ, ◌+◌, ◌≤◌, Bool, true, false, List, [], ◌∷◌, length}
 use Rattle.m3_heap.specs.Cells.{Cell}
 

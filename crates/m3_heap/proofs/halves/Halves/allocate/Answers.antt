@@ -1,15 +1,19 @@
 use Rattle.std.proofs.Common.{◌≡◌, ◌+◌, ◌*◌, ◌-◌, ◌∷◌, ◌++◌, [], Bool, replicate, sym, ap, subst, ◌∙◌, arith, inl, inr, ⊎_elim}
 use Rattle.m3_heap.specs.Cells.{header_of, total_words}
-use Rattle.m3_heap.specs.Semi.{first_base, second_base, AreAtRest, IsAsOpen}
-use Rattle.m3_heap.specs.declared.semi_space.SemiSpace.TheInside.{Inside}
+use Rattle.m3_heap.specs.Semi.{first_base, second_base}
+use Rattle.m3_heap.specs.CollectorHalves.{IsSemi, AreAtRest, IsAsOpen}
 use Rattle.m3_heap.proofs.SemiLemmas.{is-closed, at-rest, semi-sound, rest-push}
-use Rattle.m3_heap.proofs.semi_space.SemiSpaceStore.allocate.Goals as goal
+use Rattle.m3_heap.proofs.FinishLemmas.{semi-halves}
+use Rattle.m3_heap.proofs.halves.Halves.allocate.Goals as goal
+
+after : (c : goal.After-self-1) → IsSemi (record { here = c.self.inside.here; there = c.self.inside.there; is_open = c.self.inside.is_open; asked = c.args.words; fulls = c.self.inside.fulls })
+after c = let was = c.self.invariant in record { bases = was.bases; same_size = was.same_size; small = was.small; as_open = was.as_open }
 
 pub returns-then-words-free-clause-sound : goal.returns-then-words-free-clause-sound
-returns-then-words-free-clause-sound c =
-    let was = c.self.invariant in
-    let after : Inside = record { here = c.self.inside.here; there = c.self.inside.there; is_open = c.self.inside.is_open; asked = c.args.words; fulls = c.self.inside.fulls } in
-    semi-sound after (record { bases = was.bases; same_size = was.same_size; small = was.small; as_open = was.as_open }) (is-closed c.self.inside c.args.self.now c.self.view_is c.requires.closed)
+returns-then-words-free-clause-sound c = semi-sound _ (after c)
+
+pub returns-then-words-free-clause-halves : goal.returns-then-words-free-clause-halves
+returns-then-words-free-clause-halves c = semi-halves _ (after c)
 
 rest : (c : goal.After-append_zeroed) → AreAtRest c.append_zeroed.new.self
 rest c =
@@ -39,4 +43,7 @@ invariant_of-self-2 c =
     }
 
 pub returns-clause-sound : goal.returns-clause-sound
-returns-clause-sound c = semi-sound _ (invariant_of-self-2 c) (is-closed c.self.inside c.args.self.now c.self.view_is c.requires.closed)
+returns-clause-sound c = semi-sound _ (invariant_of-self-2 c)
+
+pub returns-clause-halves : goal.returns-clause-halves
+returns-clause-halves c = semi-halves _ (invariant_of-self-2 c)

@@ -1,4 +1,4 @@
--- One bit for each word, packed into words of 64 bits.
+-- For the collector alone: one bit for each word, packed into words of 64 bits.
 use Rattle.std.specs.Prelude.{ℕ, ◌/◌, ◌%◌, Bool, ◌==◌, List, map, slice_index}
 use Rattle.std.specs.List.{range_with_len}
 use Rattle.std.specs.Int.{bit_at}

@@ -1,11 +1,13 @@
 use Rattle.std.proofs.Common.{◌≡◌, true, sym, ap, ◌∙◌, arith}
 use Rattle.m3_heap.specs.Cells.{total_words}
 use Rattle.m3_heap.specs.Moves.{kept_words, with_kept, forwarded}
-use Rattle.m3_heap.specs.Semi.{Semi, AreMoving, semi_heap, moves_seen}
-use Rattle.m3_heap.specs.Tracing.{Keeps, old_cells, moves}
-use Rattle.m3_heap.proofs.SemiLemmas.{is-opened, in-motion, visited, IsVisited, after-visit, if-both, words-told}
-use Rattle.m3_heap.proofs.semi_space.SemiSpaceStore.visit.Given as given
-use Rattle.m3_heap.proofs.semi_space.SemiSpaceStore.visit.Goals as goal
+use Rattle.m3_heap.specs.Semi.{Semi}
+use Rattle.m3_heap.specs.CollectorHalves.{IsSemi, AreMoving, semi_heap, moves_seen}
+use Rattle.m3_heap.specs.CollectorTracing.{Keeps, old_cells, moves}
+use Rattle.m3_heap.proofs.SemiLemmas.{is-opened, in-motion, visited, IsVisited, after-visit, if-both, words-told, visited-semi, semi-sound}
+use Rattle.m3_heap.proofs.FinishLemmas.{semi-halves}
+use Rattle.m3_heap.proofs.halves.Halves.visit.Given as given
+use Rattle.m3_heap.proofs.halves.Halves.visit.Goals as goal
 
 opens : (g : given.Over) (c : goal.After-forward g) → c.self.inside.is_open ≡ true
 opens g c = is-opened c.self.inside c.args.self.now c.self.view_is c.requires.open
@@ -47,3 +49,12 @@ returns-clause-cost g c =
     ap (λ cs. kept_words cs (moves_seen c.self.inside.is_open left kept)) (sym seen) ∙ ap (λ b. kept_words (old_cells here there) (moves_seen b left kept)) (opens g c)
     ∙ ap (λ cs. kept_words cs (moves left kept)) (sym (after g c).same_cells) ∙ words-told left kept (after g c).moving.tracing in
     omega (arith, c.forward.ensures.cost, c.tick.ensures)
+
+settled : (g : given.Over) (c : goal.After-forward g) → IsSemi (record { here = c.forward.new.left; there = c.forward.new.kept; is_open = c.self.inside.is_open; asked = c.self.inside.asked; fulls = c.self.inside.fulls })
+settled g c = visited-semi c.self.inside c.forward.new.left c.forward.new.kept c.self.invariant (opens g c) (after g c)
+
+pub returns-clause-sound : goal.returns-clause-sound
+returns-clause-sound g c = semi-sound _ (settled g c)
+
+pub returns-clause-halves : goal.returns-clause-halves
+returns-clause-halves g c = semi-halves _ (settled g c)

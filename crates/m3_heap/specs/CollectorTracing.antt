@@ -2,14 +2,14 @@
 -- was copied gives way to the new start. Both halves together tell which cells stood there before.
 use Rattle.std.specs.Prelude.{◌≡◌, ◌≢◌, ℕ, ◌+◌, ◌<◌, ◌≤◌, true, nat_lt, ◌==◌, ◌||◌, if◌then◌else◌, List, [], ◌∷◌, ◌++◌, length, Option, Some, None, unwrap_or}
 use Rattle.std.specs.List.{AllByRecursion}
-use Rattle.m3_heap.specs.Cells.{Cell, heap_base, header, is_start, words_from, word_at, total_words, IsHeaded}
+use Rattle.m3_heap.specs.Cells.{Cell, heap_base, header, is_start, words_from, cell_word_at, total_words, IsHeaded}
 use Rattle.m3_heap.specs.Moves.{Move, new_start, is_kept}
-use Rattle.m3_heap.specs.Space.{Space, AreLaid}
+use Rattle.m3_heap.specs.CollectorSpace.{Space, AreLaid}
 
 -- a cell's words with the header that it had: a word where heaps lie stands for the copy's header
 abbrev pub restored : List Cell → List ℕ → List ℕ
 restored copies [] = []
-restored copies (first ∷ rest) = (if nat_lt first heap_base then first else unwrap_or (word_at copies first) 0) ∷ rest
+restored copies (first ∷ rest) = (if nat_lt first heap_base then first else unwrap_or (cell_word_at copies first) 0) ∷ rest
 
 -- the cells that stood in the half that is left
 abbrev pub standing : List Cell → List Cell → List Cell

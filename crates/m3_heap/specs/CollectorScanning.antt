@@ -5,9 +5,9 @@ use Rattle.std.specs.List.{AllByRecursion}
 use Rattle.m3_heap.specs.Cells.{Cell, heap_base, is_start, words_from, total_words}
 use Rattle.m3_heap.specs.Shapes.{Shape, is_pointer_word}
 use Rattle.m3_heap.specs.Moves.{Move, forwarded, is_kept}
-use Rattle.m3_heap.specs.Reach.{IsReached}
-use Rattle.m3_heap.specs.Space.{Space}
-use Rattle.m3_heap.specs.Tracing.{old_cells, copies, moves}
+use Rattle.m3_heap.specs.Reach.{IsReachable}
+use Rattle.m3_heap.specs.CollectorSpace.{Space}
+use Rattle.m3_heap.specs.CollectorTracing.{old_cells, copies, moves}
 
 -- the words from the place `at` on, the pointers below the limit forwarded
 abbrev pub scanned_words : (ℕ → Bool) → List Move → ℕ → ℕ → List ℕ → List ℕ
@@ -16,14 +16,14 @@ scanned_words is_pointer moves limit at (word ∷ words) =
     (if is_pointer at && nat_lt at limit then forwarded moves word else word) ∷ scanned_words is_pointer moves limit (at + 1) words
 
 -- a word that is no reference, or one to a kept cell
-abbrev pub IsSettled : List Move → ℕ → Type 0
-IsSettled moves word = (word < heap_base) ⊎ (is_kept moves word ≡ true)
+abbrev pub PointsToKept : List Move → ℕ → Type 0
+PointsToKept moves word = (word < heap_base) ⊎ (is_kept moves word ≡ true)
 
 -- the pointers below the limit are settled
 abbrev pub AreSettled : (ℕ → Bool) → List Move → ℕ → ℕ → List ℕ → Type 0
 AreSettled is_pointer moves limit at [] = Unit {0}
 AreSettled is_pointer moves limit at (word ∷ words) =
-    (is_pointer at ≡ true → at < limit → IsSettled moves word) × AreSettled is_pointer moves limit (at + 1) words
+    (is_pointer at ≡ true → at < limit → PointsToKept moves word) × AreSettled is_pointer moves limit (at + 1) words
 
 -- how many pointers are below the limit
 abbrev pub pointers_below : (ℕ → Bool) → ℕ → ℕ → List ℕ → ℕ
@@ -51,7 +51,7 @@ met shapes left kept limit = pointers_met shapes (old_cells left kept) limit kep
 -- a collection whose copies are scanned up to a limit, each of them reached
 pub record Scans (shapes : List Shape) (roots : List ℕ) (left kept : Space) (limit : ℕ) : Type 0 where
   pub scanned : AreScanned shapes (old_cells left kept) (moves left kept) limit kept.base (copies left kept)
-  pub reached : AllByRecursion (λ (copy : Cell). IsReached shapes (old_cells left kept) roots copy.start) (copies left kept)
+  pub reached : AllByRecursion (λ (copy : Cell). IsReachable shapes (old_cells left kept) roots copy.start) (copies left kept)
 
 -- what the scan does to the two halves
 pub record Grows (left kept left' kept' : Space) : Type 0 where
