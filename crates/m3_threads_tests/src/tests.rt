@@ -1,10 +1,10 @@
 ghost use Rattle.std.specs.Prelude.{ℕ, ◌≡◌, ◌≤◌, ◌+◌, ◌-◌, ◌^◌, ◌<◌, ◌&&◌, nat_le, nat_lt, if◌then◌else◌, Some, None, slice_index, length};
-ghost use Rattle.std.proofs.Common.{arith};
+ghost use Rattle.std.proofs.Common.{arith, refl, ◌∙◌};
 ghost use Rattle.std.proofs.lemmas.Bool.Decides.{nat_tests};
 ghost use Rattle.m3_isa.specs.Instructions.{IsInstruction};
 
-use super::*;
 use m3_isa::{Instr, Op, Words, decode, encode};
+use m3_threads::{Done, Status, Threads, ThreadsFull};
 use std::alloc::Global;
 use std::process::Abort;
 use std::test::Fail;
@@ -23,9 +23,15 @@ impl Words for Cells {
 
     ghost writable = { λ s at. nat_le (2 ^ 60) at && nat_lt at (2 ^ 60 + 63) };
 
+    ghost keeps = { λ s t. length t.words ≡ length s.words };
+
     ghost readable = { λ s x h. Prim.grind (arith, nat_tests) };
 
     ghost low = { λ s x h. Prim.grind (arith, nat_tests) };
+
+    ghost keeps_itself = { λ _. refl };
+
+    ghost keeps_on = { λ _ _ _ p q. q ∙ p };
 
     fn load(&self, at: u64) -> Option<u64> {
         if HEAP <= at && at < HEAP + 64 {
@@ -160,7 +166,7 @@ fn is_gone(all: &Threads, n: u64) -> bool {
 }
 
 fn status(all: &Threads, n: u64) -> Option<Status> {
-    Some(all.find(n)?.status)
+    all.status(n)
 }
 
 fn seen(all: &Threads, n: u64, register: u8) -> Option<(u64, u32)> {
@@ -636,11 +642,10 @@ fn sixty_four(rt: HostRuntime) -> Result<(), Fail> {
 #[test]
 fn written_words(rt: HostRuntime) -> Result<(), Fail> {
     let mut all = Threads::new(rt.alloc(), 1, 1024)?;
-    assert!(&rt; all.words_mut(1).is_none());
     assert!(&rt; all.regs_mut(1).is_none());
-    let words = all.words_mut(0).expect(&rt, "thread 0 is there");
-    assert_eq!(&rt; words.len(), 1024);
-    words[5] = 50;
+    put(&rt, &mut all, 0, 5, 50);
     assert_eq!(&rt; stack_word(&all, 0, 5), Some(50));
+    assert_eq!(&rt; stack_word(&all, 0, 1023), Some(0));
+    assert_eq!(&rt; stack_word(&all, 0, 1024), None);
     Ok(())
 }
