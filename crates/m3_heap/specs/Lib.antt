@@ -1,4 +1,5 @@
 pub mod Cells
+pub mod CellWords
 pub mod Shapes
 pub mod Reach
 pub mod Moves
