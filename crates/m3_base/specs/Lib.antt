@@ -1,3 +1,4 @@
 pub mod Faults
 pub mod Rules
 pub mod Words
+pub mod Integers

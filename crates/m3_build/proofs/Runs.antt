@@ -18,7 +18,8 @@ use Rattle.m3_base.specs.Words.{signed_of, word_of}
 use Rattle.m3_isa.specs.declared.instructions.Op.TheVariants.{Li, Lih, Lds, Sts, Jmp, Fault}
 use Rattle.m3_isa.specs.declared.instructions.Instr.{Instr}
 use Rattle.m3_isa.specs.Memory.{Memory, put}
-use Rattle.m3_isa.specs.Arithmetic.{is_integer, integer_word}
+use Rattle.m3_isa.specs.Arithmetic.{integer_word}
+use Rattle.m3_base.specs.Integers.{is_integer}
 use Rattle.m3_isa.specs.Effects.{Goes, Traps, reg, signed, next, jumped, answered, answered_or_jumped, loads, stores}
 use Rattle.m3_build.specs.declared.plain.Arith.{Arith}
 use Rattle.m3_build.specs.declared.plain.Arith.TheVariants.{Add, Sub, Mul}

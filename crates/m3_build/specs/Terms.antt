@@ -5,7 +5,7 @@ use Rattle.std.specs.Fmt.{signed_decimal}
 use Rattle.m3_base.specs.declared.outcomes.FaultKind.TheVariants.{Overflow}
 use Rattle.m3_base.specs.declared.outcomes.Outcome.{Outcome}
 use Rattle.m3_base.specs.declared.outcomes.Outcome.TheVariants.{Done, Fault}
-use Rattle.m3_isa.specs.Arithmetic.{is_integer}
+use Rattle.m3_base.specs.Integers.{is_integer}
 use Rattle.m3_build.specs.declared.plain.Arith.{Arith}
 use Rattle.m3_build.specs.declared.plain.Arith.TheVariants.{Add, Sub, Mul}
 use Rattle.m3_build.specs.declared.plain.Plain.{Plain}

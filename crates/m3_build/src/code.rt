@@ -1,7 +1,7 @@
 // From what a module puts to instructions.
 
 ghost use Rattle.std.specs.Prelude.{◌≡◌, ◌≤◌, ◌<◌, ◌+◌, ◌*◌, ◌^◌, ◌++◌, [], ◌∷◌, pos, length, vec_len, IsTrue, IfOk, OnOk};
-ghost use Rattle.m3_isa.specs.Arithmetic.{is_integer};
+ghost use Rattle.m3_base.specs.Integers.{is_integer};
 ghost use Rattle.m3_build.specs.Terms.{AreIntegers, term_of, terms_of, nodes, all_nodes};
 ghost use Rattle.m3_build.specs.Code.{on_first, term_code, term_lines, apply_code, number_code, code_size, operators};
 ghost use Rattle.m3_build.specs.Machine.{Puts};

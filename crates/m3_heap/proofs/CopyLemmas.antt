@@ -1,12 +1,12 @@
 -- One more copy: a cell that isn't kept yet is copied to the end, and its header gives way.
-use Rattle.std.proofs.Common.{◌≡◌, ◌≢◌, ℕ, ◌+◌, ◌-◌, ◌*◌, ◌/◌, ◌<◌, ◌≤◌, ◌^◌, true, false, cond, eqb, ltb, List, [], ◌∷◌, ◌++◌, length, set, Option, Some, None, is_some, unwrap_or, refl, sym, ap, subst, ◌∙◌, arith, ⊎_elim}
+use Rattle.std.proofs.Common.{◌≡◌, ◌≢◌, ℕ, ◌+◌, ◌-◌, ◌/◌, ◌<◌, ◌≤◌, ◌^◌, true, false, cond, eqb, ltb, List, [], ◌∷◌, ◌++◌, length, set, Option, Some, None, is_some, unwrap_or, refl, sym, ap, subst, ◌∙◌, arith, ⊎_elim}
 use Rattle.std.specs.List.{AllByRecursion}
 use Rattle.std.specs.Prelude.{◌||◌}
 use Rattle.std.proofs.lemmas.Bool.{cases_eq, cases_Bool, lt-ltb, le-ltb, le-leb, eq-eqb, ne_eqb, cond-true, cond-false, false≢true, or_left, or_right, or_from}
-use Rattle.m3_heap.specs.Cells.{Cell, heap_base, header, header_of, cell_from, is_start, words_from, covers, with_word, total_words}
+use Rattle.m3_heap.specs.Cells.{Cell, heap_base, header, cell_from, is_start, words_from, covers, with_word, total_words, words_in}
 use Rattle.m3_heap.specs.Moves.{Move, new_start, is_kept, forwarded}
-use Rattle.m3_heap.specs.Space.{Space, AreLaid}
-use Rattle.m3_heap.specs.Tracing.{moves_from, placed, marked_words, marked, words_kept, IsCopy, AreDistinct, Traces, old_cells, copies, moves, IsTracing, Keeps}
+use Rattle.m3_heap.specs.CollectorSpace.{Space, AreLaid}
+use Rattle.m3_heap.specs.CollectorTracing.{moves_from, placed, marked_words, marked, words_kept, IsCopy, AreDistinct, Traces, old_cells, copies, moves, IsTracing, Keeps}
 use Rattle.m3_heap.proofs.SpaceLemmas.{AreLater, with_word-later, start-fits}
 use Rattle.m3_heap.proofs.TracingLemmas.{all_map, all_append, none_or_some, new_start-lacks, new_start-one, new_start-same, moves_from-append, placed-append, total-append, total-placed, copy-at, header-unmarked, header-marked, cells-told, copies-told, tracing-told}
 
@@ -188,10 +188,9 @@ fresh-header left kept cs ks w h starts low =
     absurd (omega (arith, there.low, h.kept_base)))
     (none_or_some (new_start ms w)) in
     let same = words ∙ ap (λ o. marked_words o (words_from cs w)) none in
-    let headed = all-at (λ (at : ℕ) (ws : List ℕ). (kind : ℕ) × (kind < 2 ^ 32) × (header ws ≡ header_of kind (length ws)) × (1 ≤ length ws)) cs w h.headed starts in
-    let head : header (words_from left.cells w) ≡ headed.0 + 4294967296 * length (words_from cs w) = ap header same ∙ headed.2 in
-    let kind : headed.0 < 4294967296 = headed.1 in
-    (none, same, omega arith)
+    let headed = all-at (λ (at : ℕ) (ws : List ℕ). (words_in (header ws) ≡ length ws) × (1 ≤ length ws)) cs w h.headed starts in
+    let head : header (words_from left.cells w) ≡ header (words_from cs w) = ap header same in
+    (none, same, ap words_in head ∙ headed.0)
 
 -- a header that gave way is the cell's new start
 pub kept-header : (left kept : Space) (cs ks : List Cell) (w : ℕ) → Traces left kept cs ks → is_start cs w ≡ true → heap_base ≤ header (words_from left.cells w) → new_start (moves_from kept.base ks) w ≡ Some (header (words_from left.cells w))

@@ -1,16 +1,16 @@
 -- When all copies are scanned, exactly what is reached is kept.
-use Rattle.std.proofs.Common.{◌≡◌, ◌≢◌, ℕ, ◌+◌, ◌-◌, ◌<◌, ◌≤◌, ◌^◌, zero, suc, Bool, true, eqb, List, [], ◌∷◌, ◌++◌, length, get_or, Some, None, is_some, refl, sym, ap, subst, ◌∙◌, arith, ⊎_elim, inl, inr}
+use Rattle.std.proofs.Common.{◌≡◌, ◌≢◌, ℕ, ◌+◌, ◌-◌, ◌<◌, ◌≤◌, ◌^◌, zero, suc, Bool, true, eqb, ltb, leb, List, [], ◌∷◌, ◌++◌, length, get_or, Some, None, is_some, refl, sym, ap, subst, ◌∙◌, arith, ⊎_elim, inl, inr}
 use Rattle.std.specs.List.{AllByRecursion}
 use Rattle.std.specs.Prelude.{slice_get}
-use Rattle.std.proofs.lemmas.Bool.{cases_eq, eq-eqb, ne_eqb, cond-true, cond-false, false≢true}
-use Rattle.m3_heap.specs.Cells.{Cell, heap_base, header, header_of, cell_from, is_start, words_from, total_words, IsHeaded, IsInHeap, AreApart, AllApart, AreSound}
+use Rattle.std.proofs.lemmas.Bool.{cases_eq, ltb-true, and_parts, eq-eqb, ne_eqb, cond-true, cond-false, false≢true}
+use Rattle.m3_heap.specs.Cells.{Cell, heap_base, header, words_in, cell_from, is_start, words_from, total_words, IsHeaded, IsInHeap, AreApart, AllApart, AreSound}
 use Rattle.m3_heap.specs.Shapes.{Shape, is_pointer_word, pointer_words}
 use Rattle.m3_heap.specs.Moves.{Move, new_start, is_kept, kept_starts, DiffersFrom, AreOneToOne, mapped, moved_cells, kept_words, kept_pointers}
-use Rattle.m3_heap.specs.Reach.{HasPointer, IsWordAfter, IsReached, HasBadPointer}
-use Rattle.m3_heap.specs.Space.{Space, AreLaid}
-use Rattle.m3_heap.specs.Tracing.{moves_from, placed, IsCopy, AreDistinct, Traces, old_cells, copies, moves, IsTracing}
-use Rattle.m3_heap.specs.Scanning.{IsSettled, AreSettled, AreScanned, pointers_met, met}
-use Rattle.m3_heap.proofs.SpaceLemmas.{start-fits}
+use Rattle.m3_heap.specs.Reach.{HasPointer, IsWordAfter, IsReachable, HasBadPointer}
+use Rattle.m3_heap.specs.CollectorSpace.{Space, AreLaid}
+use Rattle.m3_heap.specs.CollectorTracing.{moves_from, placed, IsCopy, AreDistinct, Traces, old_cells, copies, moves, IsTracing}
+use Rattle.m3_heap.specs.CollectorScanning.{PointsToKept, AreSettled, AreScanned, pointers_met, met}
+use Rattle.m3_heap.proofs.SpaceLemmas.{start-fits, covers-later}
 use Rattle.m3_heap.proofs.TracingLemmas.{all_map, none_or_some, new_start-found}
 use Rattle.m3_heap.proofs.CopyLemmas.{all-at}
 use Rattle.m3_heap.proofs.ScanLemmas.{all-scanned, all-met}
@@ -36,11 +36,11 @@ all-kept Q b (k ∷ ks) at h e = ⊎_elim
     all-kept Q (b + length k.words) ks at h.1 (ap is_some (sym (cond-false (eqb k.start at) (Some b) (new_start (moves_from (b + length k.words) ks) at) (ne_eqb k.start at differs))) ∙ e))
     (cases_eq k.start at)
 
-settled-get : (p : ℕ → Bool) (ms : List Move) (limit at i : ℕ) (ws : List ℕ) (w : ℕ) → AreSettled p ms limit at ws → slice_get ws i ≡ Some w → p (at + i) ≡ true → at + i < limit → IsSettled ms w
+settled-get : (p : ℕ → Bool) (ms : List Move) (limit at i : ℕ) (ws : List ℕ) (w : ℕ) → AreSettled p ms limit at ws → slice_get ws i ≡ Some w → p (at + i) ≡ true → at + i < limit → PointsToKept ms w
 settled-get p ms limit at i [] w s e on lt = absurd (cc)
 settled-get p ms limit at zero (x ∷ ws) w s e on lt =
     let same : x ≡ w = cc in
-    let P : ℕ → Type 0 = λ n. IsSettled ms n in
+    let P : ℕ → Type 0 = λ n. PointsToKept ms n in
     let place : at + 0 ≡ at = omega arith in
     subst P same (s.0 (ap p (sym place) ∙ on) (omega arith))
 settled-get p ms limit at (suc i) (x ∷ ws) w s e on lt =
@@ -52,7 +52,7 @@ within-length [] i w e = absurd (cc)
 within-length (x ∷ ws) zero w e = omega arith
 within-length (x ∷ ws) (suc i) w e = let rest = within-length ws i w e in omega arith
 
-kept-settled : (shapes : List Shape) (cs : List Cell) (ms : List Move) (limit b : ℕ) (ks : List Cell) (at i w : ℕ) → AllByRecursion (IsCopy cs) ks → b + total_words ks ≤ limit → AreScanned shapes cs ms limit b ks → is_kept (moves_from b ks) at ≡ true → is_pointer_word shapes (words_from cs at) i ≡ true → slice_get (words_from cs at) i ≡ Some w → IsSettled ms w
+kept-settled : (shapes : List Shape) (cs : List Cell) (ms : List Move) (limit b : ℕ) (ks : List Cell) (at i w : ℕ) → AllByRecursion (IsCopy cs) ks → b + total_words ks ≤ limit → AreScanned shapes cs ms limit b ks → is_kept (moves_from b ks) at ≡ true → is_pointer_word shapes (words_from cs at) i ≡ true → slice_get (words_from cs at) i ≡ Some w → PointsToKept ms w
 kept-settled shapes cs ms limit b [] at i w h high s e on word = absurd (false≢true e)
 kept-settled shapes cs ms limit b (k ∷ ks) at i w h high s e on word = ⊎_elim
     (λ (same : k.start ≡ at).
@@ -100,9 +100,9 @@ found-words (c ∷ cs) at cell e = ⊎_elim
 pub record IsDone (shapes : List Shape) (roots : List ℕ) (left kept : Space) (cs ks : List Cell) : Type 0 where
   pub traces : Traces left kept cs ks
   pub scanned : AreScanned shapes cs (moves_from kept.base ks) (kept.base + total_words ks) kept.base ks
-  pub reached : AllByRecursion (λ (k : Cell). IsReached shapes cs roots k.start) ks
+  pub reached : AllByRecursion (λ (k : Cell). IsReachable shapes cs roots k.start) ks
 
-done-settled : (shapes : List Shape) (roots : List ℕ) (left kept : Space) (cs ks : List Cell) → IsDone shapes roots left kept cs ks → (from w : ℕ) → is_kept (moves_from kept.base ks) from ≡ true → HasPointer shapes cs from w → IsSettled (moves_from kept.base ks) w
+done-settled : (shapes : List Shape) (roots : List ℕ) (left kept : Space) (cs ks : List Cell) → IsDone shapes roots left kept cs ks → (from w : ℕ) → is_kept (moves_from kept.base ks) from ≡ true → HasPointer shapes cs from w → PointsToKept (moves_from kept.base ks) w
 done-settled shapes roots left kept cs ks d from w there pointer =
     let words = found-words cs from pointer.cell pointer.starts in
     kept-settled shapes cs (moves_from kept.base ks) (kept.base + total_words ks) kept.base ks from pointer.place w d.traces.are_copies (omega arith) d.scanned there
@@ -123,11 +123,11 @@ words-kept shapes left kept cs ks ms more (suc steps) w d list after starts =
     let there = words-kept shapes left kept cs ks ms more steps after.0 d list after.1 from-starts in
     settled-is-kept (moves_from kept.base ks) w (done-settled shapes (kept_starts ms) left kept cs ks d after.0 w there after.2) (start-high left kept cs ks w d.traces starts)
   where
-    settled-is-kept : (l : List Move) (w : ℕ) → IsSettled l w → heap_base ≤ w → is_kept l w ≡ true
+    settled-is-kept : (l : List Move) (w : ℕ) → PointsToKept l w → heap_base ≤ w → is_kept l w ≡ true
     settled-is-kept l w (inl low) high = absurd (omega arith)
     settled-is-kept l w (inr there) high = there
 
-pub reached-kept : (shapes : List Shape) (left kept : Space) (cs ks : List Cell) (ms more : List Move) → IsDone shapes (kept_starts ms) left kept cs ks → moves_from kept.base ks ≡ ms ++ more → (start : ℕ) → IsReached shapes cs (kept_starts ms) start → is_kept (moves_from kept.base ks) start ≡ true
+pub reached-kept : (shapes : List Shape) (left kept : Space) (cs ks : List Cell) (ms more : List Move) → IsDone shapes (kept_starts ms) left kept cs ks → moves_from kept.base ks ≡ ms ++ more → (start : ℕ) → IsReachable shapes cs (kept_starts ms) start → is_kept (moves_from kept.base ks) start ≡ true
 reached-kept shapes left kept cs ks ms more d list start r = words-kept shapes left kept cs ks ms more r.steps start d list r.leads r.starts
 
 pub none-bad : (shapes : List Shape) (left kept : Space) (cs ks : List Cell) (ms more : List Move) → IsDone shapes (kept_starts ms) left kept cs ks → moves_from kept.base ks ≡ ms ++ more → HasBadPointer shapes cs (kept_starts ms) → ⊥
@@ -136,7 +136,7 @@ none-bad shapes left kept cs ks ms more d list b =
     refused (moves_from kept.base ks) b.word (done-settled shapes (kept_starts ms) left kept cs ks d b.from b.word there b.pointer) b.bad.0
     (λ (on : is_kept (moves_from kept.base ks) b.word ≡ true). false≢true (sym b.bad.1 ∙ kept-starts-there left kept cs ks b.word d.traces on))
   where
-    refused : (l : List Move) (w : ℕ) → IsSettled l w → heap_base ≤ w → (is_kept l w ≡ true → ⊥) → ⊥
+    refused : (l : List Move) (w : ℕ) → PointsToKept l w → heap_base ≤ w → (is_kept l w ≡ true → ⊥) → ⊥
     refused l w (inl low) high off = omega arith
     refused l w (inr there) high off = off there
 
@@ -176,8 +176,8 @@ done-met shapes left kept h =
 placed-headed : (cs : List Cell) (b : ℕ) (ks : List Cell) → AllByRecursion IsHeaded cs → AllByRecursion (IsCopy cs) ks → AllByRecursion IsHeaded (placed b ks)
 placed-headed cs b [] h c = tt
 placed-headed cs b (k ∷ ks) h c =
-    let headed = all-at (λ (at : ℕ) (ws : List ℕ). (kind : ℕ) × (kind < 2 ^ 32) × (header ws ≡ header_of kind (length ws)) × (1 ≤ length ws)) cs k.start h c.0.starts in
-    ((headed.0, headed.1, c.0.same_header ∙ headed.2 ∙ ap (λ n. header_of headed.0 n) (sym c.0.same_length), c.0.some), placed-headed cs (b + length k.words) ks h c.1)
+    let headed = all-at (λ (at : ℕ) (ws : List ℕ). (words_in (header ws) ≡ length ws) × (1 ≤ length ws)) cs k.start h c.0.starts in
+    ((ap words_in c.0.same_header ∙ headed.0 ∙ sym c.0.same_length, c.0.some), placed-headed cs (b + length k.words) ks h c.1)
 
 pub done-headed : (left kept : Space) (cs ks : List Cell) → Traces left kept cs ks → AllByRecursion IsHeaded kept.cells
 done-headed left kept cs ks h =
@@ -190,7 +190,10 @@ laid-in-heap a (c ∷ cs) h low high = ((omega (arith, h.0), omega (arith, h.0))
 
 laid-after : (c : Cell) (a : ℕ) (cs : List Cell) → AreLaid a cs → c.start + length c.words ≤ a → AllByRecursion (AreApart c) cs
 laid-after c a [] h le = tt
-laid-after c a (d ∷ cs) h le = (inl (omega (arith, h.0)), laid-after c (a + length d.words) cs h.2 (omega arith))
+laid-after c a (d ∷ cs) h le = (
+  λ at in_c. let ends = ltb-true at (c.start + length c.words) (and_parts (leb c.start at) (ltb at (c.start + length c.words)) in_c).1 in covers-later d at (omega (arith, h.0)),
+  laid-after c (a + length d.words) cs h.2 (omega arith),
+)
 
 laid-apart : (a : ℕ) (cs : List Cell) → AreLaid a cs → AllApart cs
 laid-apart a [] h = tt

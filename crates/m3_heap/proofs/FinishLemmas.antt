@@ -1,21 +1,21 @@
 -- The end of a collection, from a heap of two halves to a heap of two halves.
-use Rattle.std.proofs.Common.{Bool, List, [], ap, arith, false, inl, inr, length, refl, subst, sym, true, ℕ, ⊎_elim, ◌+◌, ◌∙◌, ◌∷◌, ◌≡◌, ◌≤◌, ◌⊎◌}
+use Rattle.std.proofs.Common.{Bool, List, [], ap, arith, false, inl, inr, length, refl, subst, sym, true, ℕ, ⊎_elim, ◌+◌, ◌∙◌, ◌∷◌, ◌≡◌, ◌≤◌}
 use Rattle.std.specs.List.{AllByRecursion}
 use Rattle.m3_heap.specs.Cells.{Cell, total_words}
 use Rattle.m3_heap.specs.Shapes.{Shape}
 use Rattle.m3_heap.specs.Moves.{kept_starts, moved_cells, kept_words, kept_pointers}
-use Rattle.m3_heap.specs.Reach.{IsReached, HasBadPointer}
+use Rattle.m3_heap.specs.Reach.{IsReachable, HasBadPointer}
 use Rattle.m3_heap.specs.Heap.{Heap, KeepsReached, MovesCells, CostsTrace}
-use Rattle.m3_heap.specs.Space.{AreLaid, Space}
-use Rattle.m3_heap.specs.Tracing.{IsCopy, old_cells, copies, moves, IsTracing}
-use Rattle.m3_heap.specs.Scanning.{AreScanned, met, Scans, Grows}
-use Rattle.m3_heap.specs.Semi.{AreAtRest, AreMoving, IsIn, IsOfHalves, Semi, first_base, second_base, semi_heap}
-use Rattle.m3_heap.specs.SemiView.{semi_of, IsSemi}
-use Rattle.m3_heap.specs.declared.semi_space.SemiSpace.TheInside.{Inside}
+use Rattle.m3_heap.specs.CollectorSpace.{AreLaid, Space}
+use Rattle.m3_heap.specs.CollectorTracing.{IsCopy, old_cells, copies, moves, IsTracing}
+use Rattle.m3_heap.specs.CollectorScanning.{AreScanned, met, Scans, Grows}
+use Rattle.m3_heap.specs.Semi.{IsIn, IsOfHalves, Semi, first_base, second_base, is_half_base}
+use Rattle.m3_heap.specs.CollectorHalves.{semi_of, IsSemi, AreAtRest, AreMoving, IsAsOpen, cells_seen, semi_heap}
+use Rattle.m3_heap.specs.declared.halves.Halves.TheInside.{Inside}
 use Rattle.m3_heap.proofs.TracingLemmas.{all_map}
 use Rattle.m3_heap.proofs.WordLemmas.{kept-laid, kept-total}
 use Rattle.m3_heap.proofs.FinalLemmas.{IsDone, one-to-one, all-kept, reached-kept, none-bad, done-moved, done-met, done-headed}
-use Rattle.m3_heap.proofs.SemiLemmas.{at-rest, is-closed, words-told}
+use Rattle.m3_heap.proofs.SemiLemmas.{words-told}
 
 pub record IsFinished (shapes : List Shape) (left kept left' kept' : Space) : Type 0 where
   pub before : AreMoving left kept
@@ -38,15 +38,15 @@ pub finished-reached : (shapes : List Shape) (left kept left' kept' : Space) (a 
 finished-reached shapes left kept left' kept' a f a' f' fin =
     let d = done shapes left kept left' kept' fin in
     let roots = kept_starts (moves left kept) in
-    let P : List Cell → ℕ → Type 0 = λ cs start. IsReached shapes cs roots start in
+    let P : List Cell → ℕ → Type 0 = λ cs start. IsReachable shapes cs roots start in
     record {
       goes_on = fin.grows.more_moves;
       one_to_one = one-to-one kept'.base (copies left' kept') fin.tracing.distinct (all_map (IsCopy (old_cells left' kept')) (λ (k : Cell). 1 ≤ length k.words) (λ k c. c.some) (copies left' kept') fin.tracing.are_copies);
       reached = λ start there.
-          let Q : List Cell → Type 0 = λ cs. IsReached shapes cs roots start in
-          subst Q fin.grows.same_cells (all-kept (λ n. IsReached shapes (old_cells left' kept') roots n) kept'.base (copies left' kept') start d.reached there);
+          let Q : List Cell → Type 0 = λ cs. IsReachable shapes cs roots start in
+          subst Q fin.grows.same_cells (all-kept (λ n. IsReachable shapes (old_cells left' kept') roots n) kept'.base (copies left' kept') start d.reached there);
       kept = λ start r.
-          let Q : List Cell → Type 0 = λ cs. IsReached shapes cs roots start in
+          let Q : List Cell → Type 0 = λ cs. IsReachable shapes cs roots start in
           reached-kept shapes left' kept' (old_cells left' kept') (copies left' kept') (moves left kept) fin.grows.more_moves.0 d fin.grows.more_moves.1 start (subst Q (sym fin.grows.same_cells) r);
     }
 
@@ -108,26 +108,22 @@ laid-in : (base size a : ℕ) (cs : List Cell) → AreLaid a cs → base ≤ a �
 laid-in base size a [] h low high = tt
 laid-in base size a (c ∷ cs) h low high = ((omega (arith, h.0), omega (arith, h.0)), laid-in base size (a + length c.words) cs h.2 (omega arith) (omega arith))
 
-rest-halves : (here there : Space) (asked fulls : ℕ) → AreAtRest here → (here.base ≡ first_base) ⊎ (here.base ≡ second_base) → IsOfHalves (record { heap = semi_heap false here there asked fulls; base = here.base })
-rest-halves here there asked fulls h half = record {
+halves-of : (here there : Space) (b : Bool) (asked fulls : ℕ) → AreLaid here.base (cells_seen b here there) → total_words (cells_seen b here there) ≤ here.size → is_half_base here.base ≡ true → IsOfHalves (record { heap = semi_heap b here there asked fulls; base = here.base })
+halves-of here there b asked fulls laid room half = record {
   tenured = refl;
   watched = refl;
   minors = refl;
-  free = omega (arith, h.room);
+  free = omega (arith, room);
   half = half;
-  cells = laid-in here.base here.size here.base here.cells h.laid (omega arith) (omega (arith, h.room));
+  cells = laid-in here.base here.size here.base (cells_seen b here there) laid (omega arith) (omega (arith, room));
 }
 
-pub semi-halves : (semi : Inside) → IsSemi semi → semi.is_open ≡ false → IsOfHalves (semi_of semi)
-semi-halves semi h closed =
-    let P : Bool → Type 0 = λ b. IsOfHalves (record { heap = semi_heap b semi.here semi.there semi.asked semi.fulls; base = semi.here.base }) in
-    subst P (sym closed) (rest-halves semi.here semi.there semi.asked semi.fulls (at-rest semi h closed)
-    (⊎_elim
-    (λ (p : (semi.here.base ≡ first_base) × (semi.there.base ≡ second_base)). inl p.0)
-    (λ (p : (semi.here.base ≡ second_base) × (semi.there.base ≡ first_base)). inr p.0)
-    h.bases))
+halves-as-open : (here there : Space) (b : Bool) (asked fulls : ℕ) → IsAsOpen b here there → is_half_base here.base ≡ true → IsOfHalves (record { heap = semi_heap b here there asked fulls; base = here.base })
+halves-as-open here there true asked fulls h half = halves-of here there true asked fulls h.tracing.laid h.room half
+halves-as-open here there false asked fulls h half = halves-of here there false asked fulls h.laid h.room half
 
-pub told-halves : (semi : Inside) → IsSemi semi → (v : Semi) → semi_of semi ≡ v → v.heap.is_open ≡ false → IsOfHalves v
-told-halves semi h v is closed =
-    let P : Semi → Type 0 = λ s. IsOfHalves s in
-    subst P is (semi-halves semi h (is-closed semi v is closed))
+pub semi-halves : (semi : Inside) → IsSemi semi → IsOfHalves (semi_of semi)
+semi-halves semi h = halves-as-open semi.here semi.there semi.is_open semi.asked semi.fulls h.as_open (⊎_elim
+    (λ (p : (semi.here.base ≡ first_base) × (semi.there.base ≡ second_base)). ap is_half_base p.0)
+    (λ (p : (semi.here.base ≡ second_base) × (semi.there.base ≡ first_base)). ap is_half_base p.0)
+    h.bases)

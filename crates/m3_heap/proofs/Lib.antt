@@ -1,5 +1,6 @@
 pub mod MarksLemmas
 pub mod SpaceLemmas
+pub mod PlaceLemmas
 pub mod TracingLemmas
 pub mod CopyLemmas
 pub mod ScanLemmas

@@ -1,10 +1,11 @@
 -- Marks packed into words, as a list.
-use Rattle.std.proofs.Common.{◌≡◌, ◌≢◌, ℕ, ◌*◌, ◌/◌, ◌%◌, ◌<◌, ◌≤◌, Bool, eqb, List, length, get_or, set, sym, ap, ◌∙◌, arith, length-set, get_or-set_same, get_or-set_other, ⊎_elim}
+use Rattle.std.proofs.Common.{◌≡◌, ◌≢◌, ℕ, ◌*◌, ◌/◌, ◌%◌, ◌<◌, ◌≤◌, Bool, false, eqb, List, length, get_or, set, sym, ap, ◌∙◌, arith, length-set, get_or-set_same, get_or-set_other, ⊎_elim}
 use Rattle.std.specs.Int.{bit_at}
-use Rattle.std.proofs.lemmas.List.{same_lists}
+use Rattle.std.proofs.lemmas.List.{same_lists, get_or_past}
 use Rattle.std.proofs.lemmas.List.FromFn.{length-map-range_with_len, get_or-map-range_with_len}
-use Rattle.std.proofs.lemmas.Bool.{cases_eq}
-use Rattle.m3_heap.specs.Marks.{is_marked, marks_in}
+use Rattle.std.proofs.lemmas.Bool.{cases_eq, cases_lt}
+use Rattle.std.proofs.lemmas.Nat.Bits.{bit_at-zero}
+use Rattle.m3_heap.specs.CollectorMarks.{is_marked, marks_in}
 
 pub length-marks_in : (bits : List ℕ) (count : ℕ) → length (marks_in bits count) ≡ count
 length-marks_in bits count = length-map-range_with_len (is_marked bits) 0 count
@@ -40,3 +41,17 @@ marks_in-set bits count i word on within room here keeps =
     is_marked-set bits i k word place differs keeps
     ∙ sym (get_or-set_other (marks_in bits count) i k on d differs ∙ get_or-marks_in bits count k d below))
     (cases_eq k i))
+
+-- a mark isn't set where its word is 0, or behind the last one
+pub unmarked-zero : (bits : List ℕ) (count k : ℕ) → (k < count → get_or bits (k / 64) 0 ≡ 0) → get_or (marks_in bits count) k false ≡ false
+unmarked-zero bits count k h = ⊎_elim
+    (λ (low : k < count). get_or-marks_in bits count k false low ∙ ap (λ w. eqb (bit_at w (k % 64)) 1) (h low) ∙ ap (λ b. eqb b 1) (bit_at-zero (k % 64)))
+    (λ (high : count ≤ k). get_or_past (marks_in bits count) k false (omega (arith, length-marks_in bits count)))
+    (cases_lt k count)
+
+-- a mark is the same where its word is the same
+pub marked-same : (bits other : List ℕ) (count k : ℕ) → get_or bits (k / 64) 0 ≡ get_or other (k / 64) 0 → get_or (marks_in bits count) k false ≡ get_or (marks_in other count) k false
+marked-same bits other count k same = ⊎_elim
+    (λ (low : k < count). get_or-marks_in bits count k false low ∙ ap (λ w. eqb (bit_at w (k % 64)) 1) same ∙ sym (get_or-marks_in other count k false low))
+    (λ (high : count ≤ k). get_or_past (marks_in bits count) k false (omega (arith, length-marks_in bits count)) ∙ sym (get_or_past (marks_in other count) k false (omega (arith, length-marks_in other count))))
+    (cases_lt k count)

@@ -6,9 +6,9 @@ use Rattle.std.proofs.lemmas.Bool.{cases_eq, cases_lt, cases_Bool, lt-ltb, le-lt
 use Rattle.m3_heap.specs.Cells.{Cell, heap_base, header, cell_from, is_start, words_from, total_words}
 use Rattle.m3_heap.specs.Shapes.{Shape, is_pointer_word, pointers_from}
 use Rattle.m3_heap.specs.Moves.{Move, new_start, forwarded, mapped_from}
-use Rattle.m3_heap.specs.Space.{AreLaid}
-use Rattle.m3_heap.specs.Tracing.{placed, IsCopy}
-use Rattle.m3_heap.specs.Scanning.{scanned_words, IsSettled, AreSettled, pointers_below, AreScanned, pointers_met}
+use Rattle.m3_heap.specs.CollectorSpace.{AreLaid}
+use Rattle.m3_heap.specs.CollectorTracing.{placed, IsCopy}
+use Rattle.m3_heap.specs.CollectorScanning.{scanned_words, PointsToKept, AreSettled, pointers_below, AreScanned, pointers_met}
 use Rattle.m3_heap.proofs.TracingLemmas.{none_or_some, new_start-found}
 
 -- ---- one copy's words
@@ -59,7 +59,7 @@ settled-past p ms limit limit' at [] h s = tt
 settled-past p ms limit limit' at (w ∷ ws) h s = (λ holds _. s.0 holds (omega arith), settled-past p ms limit limit' (at + 1) ws (omega arith) s.1)
 
 -- the forwarding list grows
-pub forwarded-more : (ms more : List Move) (w : ℕ) → IsSettled ms w → forwarded (ms ++ more) w ≡ forwarded ms w
+pub forwarded-more : (ms more : List Move) (w : ℕ) → PointsToKept ms w → forwarded (ms ++ more) w ≡ forwarded ms w
 forwarded-more ms more w (inl low) =
     cond-true (ltb w heap_base) w (unwrap_or (new_start (ms ++ more) w) w) (lt-ltb w heap_base low)
     ∙ sym (cond-true (ltb w heap_base) w (unwrap_or (new_start ms w) w) (lt-ltb w heap_base low))
@@ -70,7 +70,7 @@ forwarded-more ms more w (inr kept) = ⊎_elim
     ap (λ o. cond (ltb w heap_base) w (unwrap_or o w)) (grown ∙ sym some.1))
     (none_or_some (new_start ms w))
 
-pub settled-more : (ms more : List Move) (w : ℕ) → IsSettled ms w → IsSettled (ms ++ more) w
+pub settled-more : (ms more : List Move) (w : ℕ) → PointsToKept ms w → PointsToKept (ms ++ more) w
 settled-more ms more w (inl low) = inl low
 settled-more ms more w (inr kept) = ⊎_elim
     (λ (none : new_start ms w ≡ None). absurd (false≢true (sym (ap is_some none) ∙ kept)))
@@ -147,7 +147,7 @@ scan-other p ms at (suc i) (x ∷ ws) fails =
     let rest = ap (λ limit. scanned_words p ms limit (at + 1) ws) place ∙ ih ∙ ap (λ limit. scanned_words p ms (limit + 1) (at + 1) ws) (sym place) in
     cc
 
-pub settled-next : (p : ℕ → Bool) (ms : List Move) (at i : ℕ) (ws : List ℕ) → ((w : ℕ) → slice_get ws i ≡ Some w → p (at + i) ≡ true → IsSettled ms w) → AreSettled p ms (at + i) at ws → AreSettled p ms (at + i + 1) at ws
+pub settled-next : (p : ℕ → Bool) (ms : List Move) (at i : ℕ) (ws : List ℕ) → ((w : ℕ) → slice_get ws i ≡ Some w → p (at + i) ≡ true → PointsToKept ms w) → AreSettled p ms (at + i) at ws → AreSettled p ms (at + i + 1) at ws
 settled-next p ms at i [] f s = tt
 settled-next p ms at zero (x ∷ ws) f s =
     (λ holds _. f x refl (ap p (let place : at + 0 ≡ at = omega arith in place) ∙ holds), unsettled p ms (at + 0 + 1) (at + 1) ws (omega arith))

@@ -1,19 +1,19 @@
 -- A heap of two halves between its calls.
-use Rattle.std.proofs.Common.{◌≡◌, ℕ, ◌+◌, ◌-◌, ◌*◌, ◌<◌, ◌≤◌, ◌^◌, zero, suc, Bool, true, false, cond, eqb, ltb, leb, List, [], ◌∷◌, ◌++◌, length, set, replicate, Option, Some, None, is_some, refl, sym, ap, subst, ◌∙◌, arith, ⊎_elim, length-set}
+use Rattle.std.proofs.Common.{◌≡◌, ℕ, ◌+◌, ◌-◌, ◌/◌, ◌<◌, ◌≤◌, ◌^◌, zero, suc, Bool, true, false, cond, eqb, ltb, leb, List, [], ◌∷◌, ◌++◌, length, set, replicate, Option, Some, None, is_some, refl, sym, ap, subst, ◌∙◌, arith, inl, inr, ⊎_elim, length-set}
 use Rattle.std.specs.List.{AllByRecursion}
-use Rattle.std.specs.Prelude.{◌||◌, IfSome}
+use Rattle.std.specs.Prelude.{◌||◌, not, IfSome}
 use Rattle.std.specs.Option.{IfNone}
 use Rattle.std.proofs.lemmas.Bool.{cases_Bool, eq-eqb, ne_eqb, cond-true, cond-false, false≢true, and_parts, leb-true, or_parts, ltb-false}
 use Rattle.std.proofs.lemmas.List.{length-replicate}
-use Rattle.m3_heap.specs.Cells.{Cell, heap_base, header, header_of, covers, cell_from, is_start, words_from, with_word, total_words, IsHeaded}
-use Rattle.m3_heap.specs.Heap.{IsSound}
+use Rattle.m3_heap.specs.Cells.{Cell, heap_base, header, header_of, words_in, covers, cell_from, cell_word_at, is_start, is_writable, words_from, with_word, total_words, IsHeaded}
+use Rattle.m3_heap.specs.Heap.{IsSoundHeap}
 use Rattle.m3_heap.specs.Moves.{Move, new_start, is_kept, forwarded, with_kept, kept_words}
-use Rattle.m3_heap.specs.Space.{Space, AreLaid}
-use Rattle.m3_heap.specs.Tracing.{moves_from, marked, words_kept, IsShort, Traces, old_cells, copies, moves, IsTracing, Keeps}
-use Rattle.m3_heap.specs.Scanning.{ArePlain}
-use Rattle.m3_heap.specs.Semi.{Semi, semi_heap, first_base, second_base, AreAtRest, AreMoving, IsAsOpen}
-use Rattle.m3_heap.specs.SemiView.{semi_of, IsSemi}
-use Rattle.m3_heap.specs.declared.semi_space.SemiSpace.TheInside.{Inside}
+use Rattle.m3_heap.specs.CollectorSpace.{Space, AreLaid}
+use Rattle.m3_heap.specs.CollectorTracing.{moves_from, marked, words_kept, IsShort, Traces, old_cells, copies, moves, IsTracing, Keeps}
+use Rattle.m3_heap.specs.CollectorScanning.{ArePlain}
+use Rattle.m3_heap.specs.Semi.{Semi, first_base, second_base}
+use Rattle.m3_heap.specs.CollectorHalves.{semi_of, IsSemi, cells_seen, semi_heap, AreAtRest, AreMoving, IsAsOpen}
+use Rattle.m3_heap.specs.declared.halves.Halves.TheInside.{Inside}
 use Rattle.m3_heap.proofs.TracingLemmas.{all_append, none_or_some, new_start-lacks, new_start-one, total-placed, total-append, moves_from-append, cells-told, copies-told, tracing-told}
 use Rattle.m3_heap.proofs.CopyLemmas.{forwarded-kept}
 use Rattle.m3_heap.proofs.FinalLemmas.{sound-cells, words-moved}
@@ -24,29 +24,27 @@ bases-high semi h = ⊎_elim
     (λ (p : (semi.here.base ≡ second_base) × (semi.there.base ≡ first_base)). (omega (arith, p.0), omega (arith, p.1), omega (arith, p.0, h.small), omega (arith, p.1, h.small, h.same_size)))
     h.bases
 
-sound-at-rest : (here there : Space) (asked fulls : ℕ) → AreAtRest here → heap_base ≤ here.base → here.base + here.size ≤ 9223372036854775808 → here.size ≤ 67108864 → IsSound (semi_heap false here there asked fulls)
-sound-at-rest here there asked fulls h low high small = record {
-  cells = sound-cells here.base here.cells h.headed h.laid low (omega (arith, h.room));
+sound-of : (here there : Space) (b : Bool) (asked fulls : ℕ) → AllByRecursion IsHeaded (cells_seen b here there) → AreLaid here.base (cells_seen b here there) → total_words (cells_seen b here there) ≤ here.size → heap_base ≤ here.base → here.base + here.size ≤ 9223372036854775808 → here.size ≤ 67108864 → IsSoundHeap (semi_heap b here there asked fulls)
+sound-of here there b asked fulls headed laid room low high small = record {
+  cells = sound-cells here.base (cells_seen b here there) headed laid low (omega arith);
   free = omega arith;
 }
 
-pub semi-sound : (semi : Inside) → IsSemi semi → semi.is_open ≡ false → IsSound (semi_of semi).heap
-semi-sound semi h closed =
+sound-as-open : (here there : Space) (b : Bool) (asked fulls : ℕ) → IsAsOpen b here there → heap_base ≤ here.base → here.base + here.size ≤ 9223372036854775808 → here.size ≤ 67108864 → IsSoundHeap (semi_heap b here there asked fulls)
+sound-as-open here there true asked fulls h low high small = sound-of here there true asked fulls h.tracing.headed h.tracing.laid h.room low high small
+sound-as-open here there false asked fulls h low high small = sound-of here there false asked fulls h.headed h.laid h.room low high small
+
+-- whether a collection is open or not
+pub semi-sound : (semi : Inside) → IsSemi semi → IsSoundHeap (semi_of semi).heap
+semi-sound semi h =
     let bases = bases-high semi h in
-    let P : Bool → Type 0 = λ b. IsSound (semi_heap b semi.here semi.there semi.asked semi.fulls) in
-    let Q : Bool → Type 0 = λ b. IsAsOpen b semi.here semi.there in
-    subst P (sym closed) (sound-at-rest semi.here semi.there semi.asked semi.fulls (subst Q closed h.as_open) bases.0 bases.2 h.small)
+    sound-as-open semi.here semi.there semi.is_open semi.asked semi.fulls h.as_open bases.0 bases.2 h.small
 
 pub is-closed : (semi : Inside) (v : Semi) → semi_of semi ≡ v → v.heap.is_open ≡ false → semi.is_open ≡ false
 is-closed semi v is closed = ap (λ (s : Semi). s.heap.is_open) is ∙ closed
 
 pub is-opened : (semi : Inside) (v : Semi) → semi_of semi ≡ v → v.heap.is_open ≡ true → semi.is_open ≡ true
 is-opened semi v is opened = ap (λ (s : Semi). s.heap.is_open) is ∙ opened
-
-pub told-sound : (semi : Inside) → IsSemi semi → (v : Semi) → semi_of semi ≡ v → v.heap.is_open ≡ false → IsSound v.heap
-told-sound semi h v is closed =
-    let P : Semi → Type 0 = λ s. IsSound s.heap in
-    subst P is (semi-sound semi h (is-closed semi v is closed))
 
 pub at-rest : (semi : Inside) → IsSemi semi → semi.is_open ≡ false → AreAtRest semi.here
 at-rest semi h closed = let Q : Bool → Type 0 = λ b. IsAsOpen b semi.here semi.there in subst Q closed h.as_open
@@ -73,7 +71,7 @@ rest-push here here' kind count h small some room base size cells =
     let Q : List Cell → Type 0 = λ l. AreLaid here.base l in
     let R : ℕ → Type 0 = λ n. AreLaid n here'.cells in
     record {
-      headed = subst P (sym cells) (all_append IsHeaded here.cells (cell ∷ []) h.headed ((kind, small, ap (λ n. header_of kind n) (sym long), omega arith), tt));
+      headed = subst P (sym cells) (all_append IsHeaded here.cells (cell ∷ []) h.headed ((omega (arith, small, long), omega arith), tt));
       laid = subst R (sym base) (subst Q (sym cells) (laid-push here.base here.cells cell.words h.laid (omega arith)));
       room = omega (arith, ap total_words cells, total-append here.cells (cell ∷ []), size);
     }
@@ -110,11 +108,15 @@ rest-set-cells a (c ∷ cs) at v off h l =
     let head = header-kept c.words (at - c.start) v (λ (none : at - c.start ≡ 0). differs (omega arith)) in
     let R : ℕ → Type 0 = λ n. AreLaid (a + n) (with_word cs at v) in
     subst P (sym (cond-true (covers c at) put c hit))
-    (((h.0.0, h.0.1, head ∙ h.0.2 ∙ ap (λ n. header_of h.0.0 n) (sym long), omega (arith, h.0.3)), rest.0), (l.0, omega (arith, l.1), subst R (sym long) rest.1)))
+    (((ap words_in head ∙ h.0.0 ∙ sym long, omega (arith, h.0.1)), rest.0), (l.0, omega (arith, l.1), subst R (sym long) rest.1)))
     (λ (miss : covers c at ≡ false). subst P (sym (cond-false (covers c at) put c miss)) ((h.0, rest.0), (l.0, l.1, rest.1)))
     (cases_Bool (covers c at))
 
-pub rest-set : (here here' : Space) (at v : ℕ) → AreAtRest here → is_start here.cells at ≡ false → here'.base ≡ here.base → here'.size ≡ here.size → here'.cells ≡ with_word here.cells at v → AreAtRest here' × (total_words here'.cells ≡ total_words here.cells)
+not-true : (b : Bool) → not b ≡ true → b ≡ false
+not-true true e = cc
+not-true false e = refl
+
+rest-set : (here here' : Space) (at v : ℕ) → AreAtRest here → is_start here.cells at ≡ false → here'.base ≡ here.base → here'.size ≡ here.size → here'.cells ≡ with_word here.cells at v → AreAtRest here' × (total_words here'.cells ≡ total_words here.cells)
 rest-set here here' at v h off base size cells =
     let both = rest-set-cells here.base here.cells at v off h.headed h.laid in
     let total = ap total_words cells ∙ total-set here.cells at v in
@@ -129,14 +131,30 @@ rest-set here here' at v h off base size cells =
       total,
     )
 
+-- a word that is set where it may be
+pub rest-replace : (here here' : Space) (at v : ℕ) (b : Bool) → AreAtRest here → b ≡ is_writable here.cells at → here'.base ≡ here.base → here'.size ≡ here.size → here'.cells ≡ cond b (with_word here.cells at v) here.cells → AreAtRest here' × (total_words here'.cells ≡ total_words here.cells)
+rest-replace here here' at v true h can base size cells =
+    rest-set here here' at v h (not-true (is_start here.cells at) (and_parts (is_some (cell_word_at here.cells at)) (not (is_start here.cells at)) (sym can)).1) base size cells
+rest-replace here here' at v false h can base size cells =
+    let P : List Cell → Type 0 = λ l. AllByRecursion IsHeaded l in
+    let Q : List Cell → Type 0 = λ l. AreLaid here.base l in
+    let R : ℕ → Type 0 = λ n. AreLaid n here'.cells in
+    let total = ap total_words cells in (
+      record {
+        headed = subst P (sym cells) h.headed;
+        laid = subst R (sym base) (subst Q (sym cells) h.laid);
+        room = omega (arith, h.room);
+      },
+      total,
+    )
+
 -- ---- a collection begins
 
 short-cells : (cs : List Cell) (n : ℕ) → AllByRecursion IsHeaded cs → total_words cs ≤ n → n ≤ 67108864 → AllByRecursion IsShort cs
 short-cells [] n h room small = tt
 short-cells (c ∷ cs) n h room small =
-    let head : header c.words ≡ h.0.0 + 4294967296 * length c.words = h.0.2 in
-    let kind : h.0.0 < 4294967296 = h.0.1 in
-    ((omega arith, h.0.3), short-cells cs n h.1 (omega arith) small)
+    let head : header c.words / 4294967296 ≡ length c.words = h.0.0 in
+    ((omega arith, h.0.1), short-cells cs n h.1 (omega arith) small)
 
 none-marked : (cs : List Cell) → marked [] cs ≡ cs
 none-marked [] = refl
@@ -253,6 +271,19 @@ after-visit left kept left' kept' w (Some to) h keeps l k = record {
   left_size = keeps.left_size;
   kept_size = keeps.kept_size;
 }
+
+pub visited-semi : (semi : Inside) (left' kept' : Space) → IsSemi semi → semi.is_open ≡ true → IsVisited semi.here semi.there left' kept' → IsSemi (record { here = left'; there = kept'; is_open = semi.is_open; asked = semi.asked; fulls = semi.fulls })
+visited-semi semi left' kept' h opened after =
+    let P : Bool → Type 0 = λ b. IsAsOpen b left' kept' in
+    record {
+      bases = ⊎_elim
+          (λ (p : (semi.here.base ≡ first_base) × (semi.there.base ≡ second_base)). inl (after.left_base ∙ p.0, after.kept_base ∙ p.1))
+          (λ (p : (semi.here.base ≡ second_base) × (semi.there.base ≡ first_base)). inr (after.left_base ∙ p.0, after.kept_base ∙ p.1))
+          h.bases;
+      same_size = after.kept_size ∙ h.same_size ∙ sym after.left_size;
+      small = omega (arith, after.left_size, h.small);
+      as_open = subst P (sym opened) after.moving;
+    }
 
 pub if-both : (K : Type 0) (V G : ℕ → Type 0) (o : Option ℕ) → IfSome o (λ _. K) → IfSome o V → ((to : ℕ) → K → V to → G to) → IfSome o G
 if-both K V G None k v f = tt

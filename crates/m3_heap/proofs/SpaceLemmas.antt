@@ -1,23 +1,23 @@
 -- The cells in a row of marked words.
-use Rattle.std.proofs.Common.{◌≡◌, ℕ, ◌+◌, ◌-◌, ◌<◌, ◌≤◌, zero, suc, Bool, true, false, eqb, List, [], ◌∷◌, ◌++◌, length, get_or, set, take, drop, replicate, Some, None, is_some, refl, sym, ap, subst, ◌∙◌, arith, ⊎_elim, inl, inr, ◌⊎◌}
+use Rattle.std.proofs.Common.{◌≡◌, ℕ, ◌+◌, ◌-◌, ◌<◌, ◌≤◌, zero, suc, Bool, true, false, eqb, List, [], ◌∷◌, ◌++◌, length, get_or, set, take, drop, replicate, Some, None, is_some, refl, sym, ap, subst, ◌∙◌, arith, ⊎_elim, inl, inr, ◌⊎◌, ◌≢◌, get_or-set_other}
 use Rattle.std.specs.List.{AllByRecursion}
 use Rattle.std.specs.Prelude.{slice_get}
 use Rattle.std.proofs.lemmas.Bool.{cases_eq, cases_lt, lt-leb, le-leb, lt-ltb, le-ltb, eq-eqb, ne_eqb, cond-true, cond-false, false_from_ne_true, false≢true}
 use Rattle.std.proofs.lemmas.List.{set_past, length-take-le, get_or-take, drop-take, take-take}
-use Rattle.m3_heap.specs.Cells.{Cell, header, cell_from, is_start, words_from, covers, word_at, with_word, total_words}
-use Rattle.m3_heap.specs.Space.{Space, unmarked, cells_in, AreLaid}
+use Rattle.m3_heap.specs.Cells.{Cell, header, cell_from, is_start, words_from, covers, cell_word_at, with_word, total_words}
+use Rattle.m3_heap.specs.CollectorSpace.{Space, unmarked, cells_in, AreLaid}
 use Rattle.m3_heap.specs.declared.half.Half.TheInside.{Inside}
-use Rattle.m3_heap.specs.HalfView.{IsHalf, space_of}
+use Rattle.m3_heap.specs.CollectorHalf.{IsHalf, space_of}
 
 -- ---- cells that all start later
 
 abbrev pub AreLater : ℕ → List Cell → Type 0
 AreLater at cells = AllByRecursion (λ (c : Cell). at < c.start) cells
 
-covers-later : (c : Cell) (at : ℕ) → at < c.start → covers c at ≡ false
+pub covers-later : (c : Cell) (at : ℕ) → at < c.start → covers c at ≡ false
 covers-later c at h = rw (lt-leb c.start at h)
 
-pub word_at-later : (cells : List Cell) (at : ℕ) → AreLater at cells → word_at cells at ≡ None
+pub word_at-later : (cells : List Cell) (at : ℕ) → AreLater at cells → cell_word_at cells at ≡ None
 word_at-later [] at h = refl
 word_at-later (c ∷ cs) at h = cond-false (covers c at) _ _ (covers-later c at h.0) ∙ word_at-later cs at h.1
 
@@ -80,25 +80,25 @@ covers-past : (a : ℕ) (ws : List ℕ) (i : ℕ) → length ws ≤ i → covers
 covers-past a ws i h = rw (le-leb a (a + i) (omega arith), le-ltb (a + i) (a + length ws) (omega arith))
 
 -- what a word of the row is, seen in its cell
-pub word_at-cells_in : (a : ℕ) (bs : List Bool) (ws : List ℕ) (i : ℕ) → length bs ≡ length ws → length (unmarked bs ws) ≤ i → word_at (cells_in a bs ws) (a + i) ≡ slice_get ws i
+pub word_at-cells_in : (a : ℕ) (bs : List Bool) (ws : List ℕ) (i : ℕ) → length bs ≡ length ws → length (unmarked bs ws) ≤ i → cell_word_at (cells_in a bs ws) (a + i) ≡ slice_get ws i
 word_at-cells_in a [] [] i e h = refl
 word_at-cells_in a [] (w ∷ ws) i e h = absurd (omega arith)
 word_at-cells_in a (b ∷ bs) [] i e h = absurd (omega arith)
 word_at-cells_in a (false ∷ bs) (w ∷ ws) zero e h = absurd (omega arith)
 word_at-cells_in a (false ∷ bs) (w ∷ ws) (suc i) e h =
     let same : a + suc i ≡ (a + 1) + i = omega arith in
-    ap (λ at. word_at (cells_in (a + 1) bs ws) at) same ∙ word_at-cells_in (a + 1) bs ws i (omega arith) (omega arith)
+    ap (λ at. cell_word_at (cells_in (a + 1) bs ws) at) same ∙ word_at-cells_in (a + 1) bs ws i (omega arith) (omega arith)
 word_at-cells_in a (true ∷ bs) (w ∷ ws) zero e h =
-    cond-true (covers (record { start = a; words = w ∷ unmarked bs ws }) (a + 0)) (slice_get (w ∷ unmarked bs ws) ((a + 0) - a)) (word_at (cells_in (a + 1) bs ws) (a + 0)) (covers-first a (w ∷ unmarked bs ws) 0 (omega arith))
+    cond-true (covers (record { start = a; words = w ∷ unmarked bs ws }) (a + 0)) (slice_get (w ∷ unmarked bs ws) ((a + 0) - a)) (cell_word_at (cells_in (a + 1) bs ws) (a + 0)) (covers-first a (w ∷ unmarked bs ws) 0 (omega arith))
     ∙ ap (λ k. slice_get (w ∷ unmarked bs ws) k) (let same : (a + 0) - a ≡ 0 = omega arith in same)
 word_at-cells_in a (true ∷ bs) (w ∷ ws) (suc i) e h = ⊎_elim
     (λ (inside : i < length (unmarked bs ws)).
-    cond-true (covers (record { start = a; words = w ∷ unmarked bs ws }) (a + suc i)) (slice_get (w ∷ unmarked bs ws) ((a + suc i) - a)) (word_at (cells_in (a + 1) bs ws) (a + suc i)) (covers-first a (w ∷ unmarked bs ws) (suc i) (omega arith))
+    cond-true (covers (record { start = a; words = w ∷ unmarked bs ws }) (a + suc i)) (slice_get (w ∷ unmarked bs ws) ((a + suc i) - a)) (cell_word_at (cells_in (a + 1) bs ws) (a + suc i)) (covers-first a (w ∷ unmarked bs ws) (suc i) (omega arith))
     ∙ ap (λ k. slice_get (w ∷ unmarked bs ws) k) (let same : (a + suc i) - a ≡ suc i = omega arith in same)
     ∙ get-unmarked bs ws i inside)
     (λ (past : length (unmarked bs ws) ≤ i).
-    cond-false (covers (record { start = a; words = w ∷ unmarked bs ws }) (a + suc i)) (slice_get (w ∷ unmarked bs ws) ((a + suc i) - a)) (word_at (cells_in (a + 1) bs ws) (a + suc i)) (covers-past a (w ∷ unmarked bs ws) (suc i) (omega arith))
-    ∙ ap (λ at. word_at (cells_in (a + 1) bs ws) at) (let same : a + suc i ≡ (a + 1) + i = omega arith in same)
+    cond-false (covers (record { start = a; words = w ∷ unmarked bs ws }) (a + suc i)) (slice_get (w ∷ unmarked bs ws) ((a + suc i) - a)) (cell_word_at (cells_in (a + 1) bs ws) (a + suc i)) (covers-past a (w ∷ unmarked bs ws) (suc i) (omega arith))
+    ∙ ap (λ at. cell_word_at (cells_in (a + 1) bs ws) at) (let same : a + suc i ≡ (a + 1) + i = omega arith in same)
     ∙ word_at-cells_in (a + 1) bs ws i (omega arith) past)
     (cases_lt i (length (unmarked bs ws)))
 
@@ -269,7 +269,7 @@ AreEarlier at cells = AllByRecursion (λ (c : Cell). c.start + length c.words �
 covers-earlier : (c : Cell) (at : ℕ) → c.start + length c.words ≤ at → covers c at ≡ false
 covers-earlier c at h = rw (le-leb c.start at (omega arith), le-ltb at (c.start + length c.words) h)
 
-word_at-earlier : (cells : List Cell) (at : ℕ) → AreEarlier at cells → word_at cells at ≡ None
+word_at-earlier : (cells : List Cell) (at : ℕ) → AreEarlier at cells → cell_word_at cells at ≡ None
 word_at-earlier [] at h = refl
 word_at-earlier (c ∷ cs) at h = cond-false (covers c at) _ _ (covers-earlier c at h.0) ∙ word_at-earlier cs at h.1
 
@@ -277,7 +277,7 @@ with_word-earlier : (cells : List Cell) (at word : ℕ) → AreEarlier at cells 
 with_word-earlier [] at word h = refl
 with_word-earlier (c ∷ cs) at word h = let first = cond-false (covers c at) (record { start = c.start; words = set c.words (at - c.start) word }) c (covers-earlier c at h.0) in let rest = with_word-earlier cs at word h.1 in cc
 
-pub word_at-outside : (a at : ℕ) (cells : List Cell) → AreLaid a cells → (at < a) ⊎ (a + total_words cells ≤ at) → word_at cells at ≡ None
+pub word_at-outside : (a at : ℕ) (cells : List Cell) → AreLaid a cells → (at < a) ⊎ (a + total_words cells ≤ at) → cell_word_at cells at ≡ None
 word_at-outside a at cells h (inl lt) = word_at-later cells at (cells-later a 0 at cells h lt)
 word_at-outside a at cells h (inr le) = word_at-earlier cells at (cells-past a at cells h le)
 
@@ -312,13 +312,13 @@ slice_get-some (x ∷ xs) zero d h = refl
 slice_get-some (x ∷ xs) (suc i) d h = slice_get-some xs i d (omega arith)
 
 -- the word that a place of the words in use holds
-pub word_at-used : (half : Inside) → IsHalf half → (at w : ℕ) → half.base ≤ at → at < half.base + half.used → w ≡ get_or half.words.items (at - half.base) w → word_at (space_of half).cells at ≡ Some w
+pub word_at-used : (half : Inside) → IsHalf half → (at w : ℕ) → half.base ≤ at → at < half.base + half.used → w ≡ get_or half.words.items (at - half.base) w → cell_word_at (space_of half).cells at ≡ Some w
 word_at-used half h at w low high read =
     let i = at - half.base in
     let place : at ≡ half.base + i = omega arith in
     let none = none-before half h in
     let within : i < length (words_of half) = omega (arith, length-words_of half h) in
-    ap (λ p. word_at (cells_in half.base (marks_of half) (words_of half)) p) place
+    ap (λ p. cell_word_at (cells_in half.base (marks_of half) (words_of half)) p) place
     ∙ word_at-cells_in half.base (marks_of half) (words_of half) i (same-length half h) (omega arith)
     ∙ slice_get-some (words_of half) i w within
     ∙ ap (λ x. Some x) (get_or-take half.used half.words.items i w (omega arith) ∙ sym read)
@@ -395,6 +395,7 @@ next-start half h space is =
 -- what a push leaves
 pub record IsPush (half : Inside) (marks : List Bool) (words ys : List ℕ) (count : ℕ) : Type 0 where
   pub marks_length : length marks ≡ length half.starts
+  pub marks_rest : (k : ℕ) → half.used + count ≤ k → get_or marks k false ≡ false
   pub marks_now : take (half.used + count) marks ≡ take half.used half.starts ++ true ∷ replicate (half.used + count - (half.used + 1)) false
   pub words_length : length words ≡ length half.words.items
   pub words_now : take (half.used + count) words ≡ take half.used half.words.items ++ ys
@@ -414,6 +415,7 @@ push-half half new h ys count push base used = record {
   begins =
       ap (λ n. unmarked (take n new.starts) (take n new.words.items)) used
       ∙ begins-pushed half h (half.used + count - (half.used + 1)) (take (half.used + count) new.starts) (take (half.used + count) new.words.items) ys push.marks_now push.words_now;
+  rest = λ k past. push.marks_rest k (omega (arith, used));
   ends = omega (arith, push.words_length, h.ends);
 }
 
@@ -432,13 +434,13 @@ source-words half h space is at n starts count =
     ∙ ap (λ (s : Space). words_from s.cells at) is
 
 -- a word of a cell, by the cell's start
-pub word_at-cell : (a at i : ℕ) (cells : List Cell) → AreLaid a cells → is_start cells at ≡ true → i < length (words_from cells at) → word_at cells (at + i) ≡ slice_get (words_from cells at) i
+pub word_at-cell : (a at i : ℕ) (cells : List Cell) → AreLaid a cells → is_start cells at ≡ true → i < length (words_from cells at) → cell_word_at cells (at + i) ≡ slice_get (words_from cells at) i
 word_at-cell a at i [] h e lt = absurd (false≢true e)
 word_at-cell a at i (c ∷ cs) h e lt = ⊎_elim
     (λ (same : c.start ≡ at).
     let words = cond-true (eqb c.start at) c.words (words_from cs at) (eq-eqb c.start at same) in
     let count = ap (λ (ws : List ℕ). length ws) words in
-    let here = cond-true (covers c (at + i)) (slice_get c.words ((at + i) - c.start)) (word_at cs (at + i)) (rw (le-leb c.start (at + i) (omega arith), lt-ltb (at + i) (c.start + length c.words) (omega arith))) in
+    let here = cond-true (covers c (at + i)) (slice_get c.words ((at + i) - c.start)) (cell_word_at cs (at + i)) (rw (le-leb c.start (at + i) (omega arith), lt-ltb (at + i) (c.start + length c.words) (omega arith))) in
     let place : (at + i) - c.start ≡ i = omega arith in
     here ∙ ap (λ k. slice_get c.words k) place ∙ ap (λ (ws : List ℕ). slice_get ws i) (sym words))
     (λ (differs : c.start ≡ at → ⊥).
@@ -446,7 +448,7 @@ word_at-cell a at i (c ∷ cs) h e lt = ⊎_elim
     let count = ap (λ (ws : List ℕ). length ws) words in
     let starts = ap is_some (cond-false (eqb c.start at) (Some c) (cell_from cs at) (ne_eqb c.start at differs)) in
     let later = start-fits (a + length c.words) at cs h.2 (sym starts ∙ e) in
-    let past = cond-false (covers c (at + i)) (slice_get c.words ((at + i) - c.start)) (word_at cs (at + i)) (covers-earlier c (at + i) (omega (arith, later.0, h.0))) in
+    let past = cond-false (covers c (at + i)) (slice_get c.words ((at + i) - c.start)) (cell_word_at cs (at + i)) (covers-earlier c (at + i) (omega (arith, later.0, h.0))) in
     past ∙ word_at-cell (a + length c.words) at i cs h.2 (sym starts ∙ e) (omega arith) ∙ ap (λ (ws : List ℕ). slice_get ws i) (sym words))
     (cases_eq c.start at)
 
@@ -454,15 +456,42 @@ header-first : (ws : List ℕ) → 0 < length ws → slice_get ws 0 ≡ Some (he
 header-first [] h = absurd (omega arith)
 header-first (w ∷ ws) h = refl
 
-pub word_at-start : (a at : ℕ) (cells : List Cell) → AreLaid a cells → is_start cells at ≡ true → word_at cells at ≡ Some (header (words_from cells at))
+pub word_at-start : (a at : ℕ) (cells : List Cell) → AreLaid a cells → is_start cells at ≡ true → cell_word_at cells at ≡ Some (header (words_from cells at))
 word_at-start a at cells h e =
     let some = start-fits a at cells h e in
-    ap (λ p. word_at cells p) (let same : at ≡ at + 0 = omega arith in same)
+    ap (λ p. cell_word_at cells p) (let same : at ≡ at + 0 = omega arith in same)
     ∙ word_at-cell a at 0 cells h e (omega (arith, some.1))
     ∙ header-first (words_from cells at) (omega (arith, some.1))
 
-pub half-word_at-start : (half : Inside) → IsHalf half → (space : Space) → space_of half ≡ space → (at : ℕ) → is_start space.cells at ≡ true → word_at space.cells at ≡ Some (header (words_from space.cells at))
+pub half-word_at-start : (half : Inside) → IsHalf half → (space : Space) → space_of half ≡ space → (at : ℕ) → is_start space.cells at ≡ true → cell_word_at space.cells at ≡ Some (header (words_from space.cells at))
 half-word_at-start half h space is at starts =
     let P : Space → Type 0 = λ s. is_start s.cells at ≡ true in
-    let Q : Space → Type 0 = λ s. word_at s.cells at ≡ Some (header (words_from s.cells at)) in
+    let Q : Space → Type 0 = λ s. cell_word_at s.cells at ≡ Some (header (words_from s.cells at)) in
     subst Q is (word_at-start half.base at (space_of half).cells (laid-used half h) (subst P (sym is) starts))
+
+-- ---- a mark that is set behind all others
+
+clear-take : (xs : List Bool) (n : ℕ) → ((k : ℕ) → get_or xs k false ≡ false) → n ≤ length xs → take n xs ≡ replicate n false
+clear-take xs zero h le = refl
+clear-take [] (suc n) h le = absurd (omega arith)
+clear-take (x ∷ xs) (suc n) h le = ap (λ b. b ∷ take n xs) (h zero) ∙ ap (λ l. false ∷ l) (clear-take xs n (λ k. h (suc k)) (omega arith))
+
+pub set-take : (xs : List Bool) (i n : ℕ) → ((k : ℕ) → i ≤ k → get_or xs k false ≡ false) → i < n → n ≤ length xs → take n (set xs i true) ≡ take i xs ++ true ∷ replicate (n - (i + 1)) false
+set-take xs i zero h lt le = absurd (omega arith)
+set-take [] i (suc n) h lt le = absurd (omega arith)
+set-take (x ∷ xs) zero (suc n) h lt le =
+    let count : n ≡ suc n - (0 + 1) = omega arith in
+    ap (λ l. true ∷ l) (clear-take xs n (λ k. h (suc k) (omega arith)) (omega arith) ∙ ap (λ k. replicate k false) count)
+set-take (x ∷ xs) (suc i) (suc n) h lt le =
+    let count : n - (i + 1) ≡ suc n - (suc i + 1) = omega arith in
+    ap (λ l. x ∷ l) (set-take xs i n (λ k past. h (suc k) (omega arith)) (omega arith) (omega arith) ∙ ap (λ k. take i xs ++ true ∷ replicate k false) count)
+
+-- the marks after a cell is added, up to its end and behind it
+pub pushed-marks : (half : Inside) → IsHalf half → (marks : List Bool) (count : ℕ) → marks ≡ set half.starts half.used true → 1 ≤ count → half.used + count ≤ length half.words.items → take (half.used + count) marks ≡ take half.used half.starts ++ true ∷ replicate (half.used + count - (half.used + 1)) false
+pushed-marks half h marks count is some room =
+    ap (λ l. take (half.used + count) l) is ∙ set-take half.starts half.used (half.used + count) h.rest (omega arith) (omega (arith, h.marks))
+
+pub pushed-rest : (half : Inside) → IsHalf half → (marks : List Bool) (count : ℕ) → marks ≡ set half.starts half.used true → 1 ≤ count → (k : ℕ) → half.used + count ≤ k → get_or marks k false ≡ false
+pushed-rest half h marks count is some k past =
+    let other : k ≢ half.used = omega arith in
+    ap (λ l. get_or l k false) is ∙ get_or-set_other half.starts half.used k true false other ∙ h.rest k (omega arith)

@@ -6,9 +6,9 @@ use Rattle.std.proofs.lemmas.Bool.{cases_eq, lt-ltb, le-ltb, le-leb, eq-eqb, ne_
 use Rattle.m3_heap.specs.Cells.{Cell, heap_base, header, cell_from, is_start, words_from, covers, with_word, total_words}
 use Rattle.m3_heap.specs.Shapes.{Shape, is_pointer_word}
 use Rattle.m3_heap.specs.Moves.{Move, forwarded}
-use Rattle.m3_heap.specs.Space.{Space, AreLaid}
-use Rattle.m3_heap.specs.Tracing.{moves_from, placed, marked, IsCopy, AreDistinct, Traces, words_kept}
-use Rattle.m3_heap.specs.Scanning.{scanned_words, IsSettled, AreSettled, pointers_below, AreScanned, pointers_met}
+use Rattle.m3_heap.specs.CollectorSpace.{Space, AreLaid}
+use Rattle.m3_heap.specs.CollectorTracing.{moves_from, placed, marked, IsCopy, AreDistinct, Traces, words_kept}
+use Rattle.m3_heap.specs.CollectorScanning.{scanned_words, PointsToKept, AreSettled, pointers_below, AreScanned, pointers_met}
 use Rattle.m3_heap.proofs.SpaceLemmas.{AreLater, with_word-later, start-fits}
 use Rattle.m3_heap.proofs.TracingLemmas.{all_map}
 use Rattle.m3_heap.proofs.ScanLemmas.{copied_from, put_at, laid-placed, all-scanned, settled-past, scan-pointer, scan-other, settled-next, scanned-low, met-next, all-met, unmet, read-scanned}
@@ -67,7 +67,7 @@ step-other shapes cs ms b (k ∷ ks) start i h e lt off s =
     ))
     (cases_eq b start)
 
-pub step-pointer : (shapes : List Shape) (cs : List Cell) (ms : List Move) (b : ℕ) (ks : List Cell) (start i w : ℕ) → AllByRecursion (IsCopy cs) ks → is_start (placed b ks) start ≡ true → i < length (words_from (placed b ks) start) → is_pointer_word shapes (words_from cs (copied_from b ks start)) i ≡ true → slice_get (words_from cs (copied_from b ks start)) i ≡ Some w → IsSettled ms w → AreScanned shapes cs ms (start + i) b ks → AreScanned shapes cs ms (start + i + 1) b (put_at b ks start i (forwarded ms w))
+pub step-pointer : (shapes : List Shape) (cs : List Cell) (ms : List Move) (b : ℕ) (ks : List Cell) (start i w : ℕ) → AllByRecursion (IsCopy cs) ks → is_start (placed b ks) start ≡ true → i < length (words_from (placed b ks) start) → is_pointer_word shapes (words_from cs (copied_from b ks start)) i ≡ true → slice_get (words_from cs (copied_from b ks start)) i ≡ Some w → PointsToKept ms w → AreScanned shapes cs ms (start + i) b ks → AreScanned shapes cs ms (start + i + 1) b (put_at b ks start i (forwarded ms w))
 step-pointer shapes cs ms b [] start i w h e lt on word settled s = absurd (false≢true e)
 step-pointer shapes cs ms b (k ∷ ks) start i w h e lt on word settled s =
     let p = is_pointer_word shapes (words_from cs k.start) in
@@ -86,7 +86,7 @@ step-pointer shapes cs ms b (k ∷ ks) start i w h e lt on word settled s =
     let limit' : (start + i + 1) - b ≡ 0 + i + 1 = omega arith in
     let P : ℕ → Type 0 = λ n. AreSettled p ms n 0 ws in
     let T : ℕ → Type 0 = λ n. AreScanned shapes cs ms (start + i + 1) (b + n) ks in
-    let W : ℕ → Type 0 = λ n. IsSettled ms n in
+    let W : ℕ → Type 0 = λ n. PointsToKept ms n in
     subst R (sym (cond-true (eqb b start) here there (eq-eqb b start same))) (
       ap (λ xs. set xs i v) (s.0 ∙ ap (λ n. scanned_words p ms n 0 ws) limit) ∙ scan-pointer p ms 0 i ws w word' on' ∙ ap (λ n. scanned_words p ms n 0 ws) (sym limit'),
       subst P (sym limit') (settled-next p ms 0 i ws (λ x ex _. let same-word : w ≡ x = cc in subst W same-word settled) (subst P limit s.1)),

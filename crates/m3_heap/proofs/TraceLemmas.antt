@@ -1,15 +1,15 @@
 -- The scan of a copy, and of all copies.
-use Rattle.std.proofs.Common.{◌≡◌, ℕ, ◌+◌, ◌-◌, ◌*◌, ◌/◌, ◌<◌, ◌≤◌, ◌^◌, suc, true, eqb, List, [], ◌∷◌, ◌++◌, length, Some, is_some, refl, sym, ap, subst, ◌∙◌, arith, ⊎_elim, inl, inr, ◌⊎◌, append_assoc}
+use Rattle.std.proofs.Common.{◌≡◌, ℕ, ◌+◌, ◌-◌, ◌/◌, ◌<◌, ◌≤◌, suc, true, eqb, List, [], ◌∷◌, ◌++◌, length, Some, is_some, refl, sym, ap, subst, ◌∙◌, arith, ⊎_elim, inl, inr, ◌⊎◌, append_assoc}
 use Rattle.std.specs.List.{AllByRecursion, Contains}
 use Rattle.std.proofs.lemmas.Bool.{cases_eq, eq-eqb, ne_eqb, cond-true, cond-false, false≢true}
 use Rattle.std.proofs.lemmas.List.{append-nil}
-use Rattle.m3_heap.specs.Cells.{Cell, header, header_of, cell_from, is_start, words_from, word_at, total_words}
+use Rattle.m3_heap.specs.Cells.{Cell, header, cell_from, is_start, words_from, cell_word_at, total_words, words_in}
 use Rattle.m3_heap.specs.Shapes.{Shape, is_pointer_word}
 use Rattle.m3_heap.specs.Moves.{Move, kept_starts}
-use Rattle.m3_heap.specs.Reach.{IsReached, HasBadPointer}
-use Rattle.m3_heap.specs.Space.{Space, AreLaid}
-use Rattle.m3_heap.specs.Tracing.{moves_from, placed, IsCopy, old_cells, copies, moves, IsTracing}
-use Rattle.m3_heap.specs.Scanning.{AreScanned, met, Scans, Grows, ArePlain, IsBoundary}
+use Rattle.m3_heap.specs.Reach.{IsReachable, HasBadPointer}
+use Rattle.m3_heap.specs.CollectorSpace.{Space, AreLaid}
+use Rattle.m3_heap.specs.CollectorTracing.{moves_from, placed, IsCopy, old_cells, copies, moves, IsTracing}
+use Rattle.m3_heap.specs.CollectorScanning.{AreScanned, met, Scans, Grows, ArePlain, IsBoundary}
 use Rattle.m3_heap.proofs.SpaceLemmas.{start-fits, word_at-start}
 use Rattle.m3_heap.proofs.TracingLemmas.{all_map, all_zip}
 use Rattle.m3_heap.proofs.CopyLemmas.{all-at}
@@ -23,13 +23,12 @@ header-tells left kept start h starts =
     let e : is_start (placed kept.base ks) start ≡ true = ap (λ ts. is_start ts start) (sym h.is_placed) ∙ starts in
     let here = copy-here cs kept.base ks start h.are_copies e in
     let from = copied_from kept.base ks start in
-    let headed = all-at (λ (at : ℕ) (ws : List ℕ). (kind : ℕ) × (kind < 2 ^ 32) × (header ws ≡ header_of kind (length ws)) × (1 ≤ length ws)) cs from h.headed here.starts in
-    let head : header (words_from kept.cells start) ≡ headed.0 + 4294967296 * length (words_from cs from) = ap (λ ts. header (words_from ts start)) h.is_placed ∙ here.same_header ∙ headed.2 in
-    let kind : headed.0 < 4294967296 = headed.1 in
+    let headed = all-at (λ (at : ℕ) (ws : List ℕ). (words_in (header ws) ≡ length ws) × (1 ≤ length ws)) cs from h.headed here.starts in
+    let head : header (words_from kept.cells start) ≡ header (words_from cs from) = ap (λ ts. header (words_from ts start)) h.is_placed ∙ here.same_header in
     let count : length (words_from kept.cells start) ≡ length (words_from cs from) = ap (λ ts. length (words_from ts start)) h.is_placed ∙ here.same_length in
-    omega arith
+    ap words_in head ∙ headed.0 ∙ sym count
 
-pub read-header : (left kept : Space) (start : ℕ) → IsTracing left kept → is_start kept.cells start ≡ true → word_at kept.cells start ≡ Some (header (words_from kept.cells start))
+pub read-header : (left kept : Space) (start : ℕ) → IsTracing left kept → is_start kept.cells start ≡ true → cell_word_at kept.cells start ≡ Some (header (words_from kept.cells start))
 read-header left kept start h starts = word_at-start kept.base start kept.cells (kept-laid left kept h) starts
 
 -- the header is no pointer
@@ -123,7 +122,7 @@ plain-scanned shapes cs ms limit b (k ∷ ks) low h =
     let p = is_pointer_word shapes (words_from cs k.start) in
     (h.0 ∙ sym (unscanned p ms (limit - b) 0 (words_from cs k.start) (omega arith)), unsettled p ms (limit - b) 0 (words_from cs k.start) (omega arith), plain-scanned shapes cs ms limit (b + length k.words) ks (omega arith) h.1)
 
-pub scans-none : (shapes : List Shape) (left kept : Space) → IsTracing left kept → ArePlain (old_cells left kept) (copies left kept) → AllByRecursion (λ (k : Cell). IsReached shapes (old_cells left kept) (kept_starts (moves left kept)) k.start) (copies left kept) → Scans shapes (kept_starts (moves left kept)) left kept kept.base
+pub scans-none : (shapes : List Shape) (left kept : Space) → IsTracing left kept → ArePlain (old_cells left kept) (copies left kept) → AllByRecursion (λ (k : Cell). IsReachable shapes (old_cells left kept) (kept_starts (moves left kept)) k.start) (copies left kept) → Scans shapes (kept_starts (moves left kept)) left kept kept.base
 scans-none shapes left kept h plain reached = record {
   scanned = plain-scanned shapes (old_cells left kept) (moves left kept) kept.base kept.base (copies left kept) (omega arith) plain;
   reached = reached;
@@ -148,10 +147,10 @@ all-roots b (k ∷ ks) = (
       (λ j h. contains-later k.start j.start (kept_starts (moves_from (b + length k.words) ks)) h) ks (all-roots (b + length k.words) ks),
 )
 
-pub visited-reached : (shapes : List Shape) (left kept : Space) → IsTracing left kept → AllByRecursion (λ (k : Cell). IsReached shapes (old_cells left kept) (kept_starts (moves left kept)) k.start) (copies left kept)
+pub visited-reached : (shapes : List Shape) (left kept : Space) → IsTracing left kept → AllByRecursion (λ (k : Cell). IsReachable shapes (old_cells left kept) (kept_starts (moves left kept)) k.start) (copies left kept)
 visited-reached shapes left kept h =
     let cs = old_cells left kept in
     let ks = copies left kept in
-    all_map (λ (k : Cell). IsCopy cs k × Contains (kept_starts (moves left kept)) k.start) (λ (k : Cell). IsReached shapes cs (kept_starts (moves left kept)) k.start)
+    all_map (λ (k : Cell). IsCopy cs k × Contains (kept_starts (moves left kept)) k.start) (λ (k : Cell). IsReachable shapes cs (kept_starts (moves left kept)) k.start)
     (λ k p. record { starts = p.0.starts; steps = 0; leads = p.1 })
     ks (all_zip (IsCopy cs) (λ (k : Cell). Contains (kept_starts (moves left kept)) k.start) ks h.are_copies (all-roots kept.base ks))

@@ -3,10 +3,10 @@ use Rattle.std.proofs.Common.{◌≡◌, ◌≢◌, ℕ, ◌+◌, ◌-◌, ◌<�
 use Rattle.std.specs.List.{AllByRecursion}
 use Rattle.std.specs.Prelude.{slice_get}
 use Rattle.std.proofs.lemmas.Bool.{cases_eq, lt-ltb, le-ltb, le-leb, eq-eqb, ne_eqb, cond-true, cond-false, false≢true}
-use Rattle.m3_heap.specs.Cells.{Cell, heap_base, header, cell_from, is_start, words_from, covers, word_at, total_words}
+use Rattle.m3_heap.specs.Cells.{Cell, heap_base, header, cell_from, is_start, words_from, covers, cell_word_at, total_words}
 use Rattle.m3_heap.specs.Moves.{Move, new_start}
-use Rattle.m3_heap.specs.Space.{Space, AreLaid}
-use Rattle.m3_heap.specs.Tracing.{restored, standing, origin, copies_of, moves_from, placed, marked_words, marked, IsCopy, AreDistinct, IsShort, Traces, old_cells, copies, IsTracing}
+use Rattle.m3_heap.specs.CollectorSpace.{Space, AreLaid}
+use Rattle.m3_heap.specs.CollectorTracing.{restored, standing, origin, copies_of, moves_from, placed, marked_words, marked, IsCopy, AreDistinct, IsShort, Traces, old_cells, copies, IsTracing}
 
 -- ---- facts of each item of a list
 
@@ -85,18 +85,18 @@ total-placed b (k ∷ ks) = let rest = total-placed (b + length k.words) ks in o
 
 -- ---- what a copy tells
 
-first-word : (b : ℕ) (ws : List ℕ) (rest : List Cell) → 1 ≤ length ws → word_at (record { start = b; words = ws } ∷ rest) b ≡ Some (header ws)
+first-word : (b : ℕ) (ws : List ℕ) (rest : List Cell) → 1 ≤ length ws → cell_word_at (record { start = b; words = ws } ∷ rest) b ≡ Some (header ws)
 first-word b [] rest h = absurd (omega arith)
 first-word b (w ∷ ws) rest h =
-    cond-true (covers (record { start = b; words = w ∷ ws }) b) (slice_get (w ∷ ws) (b - b)) (word_at rest b) (rw (le-leb b b (omega arith), lt-ltb b (b + suc (length ws)) (omega arith)))
+    cond-true (covers (record { start = b; words = w ∷ ws }) b) (slice_get (w ∷ ws) (b - b)) (cell_word_at rest b) (rw (le-leb b b (omega arith), lt-ltb b (b + suc (length ws)) (omega arith)))
     ∙ ap (λ k. slice_get (w ∷ ws) k) (let same : b - b ≡ 0 = omega arith in same)
 
-next-words : (b c : ℕ) (ws : List ℕ) (rest : List Cell) → b + length ws ≤ c → word_at (record { start = b; words = ws } ∷ rest) c ≡ word_at rest c
+next-words : (b c : ℕ) (ws : List ℕ) (rest : List Cell) → b + length ws ≤ c → cell_word_at (record { start = b; words = ws } ∷ rest) c ≡ cell_word_at rest c
 next-words b c ws rest h =
-    cond-false (covers (record { start = b; words = ws }) c) (slice_get ws (c - b)) (word_at rest c) (rw (le-leb b c (omega arith), le-ltb c (b + length ws) h))
+    cond-false (covers (record { start = b; words = ws }) c) (slice_get ws (c - b)) (cell_word_at rest c) (rw (le-leb b c (omega arith), le-ltb c (b + length ws) h))
 
 pub record IsCopied (cs : List Cell) (b : ℕ) (ks : List Cell) (a c : ℕ) : Type 0 where
-  pub word : word_at (placed b ks) c ≡ Some (header (words_from cs a))
+  pub word : cell_word_at (placed b ks) c ≡ Some (header (words_from cs a))
   pub starts : is_start cs a ≡ true
   pub low : b ≤ c
   pub high : c < b + total_words ks
@@ -109,7 +109,7 @@ copy-at cs b (k ∷ ks) a c h e = ⊎_elim
     let at : c ≡ b = cc in
     let heads = h.0.same_header ∙ ap (λ n. header (words_from cs n)) same in
     record {
-      word = ap (λ n. word_at (placed b (k ∷ ks)) n) at ∙ first-word b k.words (placed (b + length k.words) ks) h.0.some ∙ ap (λ n. Some n) heads;
+      word = ap (λ n. cell_word_at (placed b (k ∷ ks)) n) at ∙ first-word b k.words (placed (b + length k.words) ks) h.0.some ∙ ap (λ n. Some n) heads;
       starts = ap (λ n. is_start cs n) (sym same) ∙ h.0.starts;
       low = omega arith;
       high = omega (arith, h.0.some);
@@ -165,12 +165,12 @@ own-words a (c ∷ cs) h = (
 
 restored-cell : (cs : List Cell) (b : ℕ) (ks : List Cell) (a : ℕ) (ws : List ℕ) (o : Option ℕ) → AllByRecursion (IsCopy cs) ks → heap_base ≤ b → header ws < heap_base → words_from cs a ≡ ws → new_start (moves_from b ks) a ≡ o → restored (placed b ks) (marked_words o ws) ≡ ws
 restored-cell cs b ks a [] None copied low short own e = refl
-restored-cell cs b ks a (w ∷ ws) None copied low short own e = ap (λ n. n ∷ ws) (cond-true (ltb w heap_base) w (unwrap_or (word_at (placed b ks) w) 0) (lt-ltb w heap_base short))
+restored-cell cs b ks a (w ∷ ws) None copied low short own e = ap (λ n. n ∷ ws) (cond-true (ltb w heap_base) w (unwrap_or (cell_word_at (placed b ks) w) 0) (lt-ltb w heap_base short))
 restored-cell cs b ks a [] (Some to) copied low short own e = refl
 restored-cell cs b ks a (w ∷ ws) (Some to) copied low short own e =
     let found = copy-at cs b ks a to copied e in
     ap (λ n. n ∷ ws)
-    (cond-false (ltb to heap_base) to (unwrap_or (word_at (placed b ks) to) 0) (le-ltb to heap_base (omega (arith, found.low)))
+    (cond-false (ltb to heap_base) to (unwrap_or (cell_word_at (placed b ks) to) 0) (le-ltb to heap_base (omega (arith, found.low)))
     ∙ ap (λ (o : Option ℕ). unwrap_or o 0) found.word
     ∙ ap header own)
 

@@ -4,13 +4,13 @@ use Rattle.std.specs.List.{AllByRecursion}
 use Rattle.std.specs.Prelude.{slice_get, ◌||◌, ◌&&◌}
 use Rattle.std.proofs.lemmas.Bool.{cases_eq, cases_Bool, lt-ltb, ltb-true, ltb-false, eq-eqb, ne_eqb, cond-true, cond-false, false≢true, or_cases, or_parts}
 use Rattle.std.proofs.lemmas.List.{append-nil}
-use Rattle.m3_heap.specs.Cells.{Cell, heap_base, header, kind_in, cell_from, is_start, words_from, word_at, with_word, total_words}
+use Rattle.m3_heap.specs.Cells.{Cell, heap_base, header, kind_in, cell_from, is_start, words_from, cell_word_at, with_word, total_words}
 use Rattle.m3_heap.specs.Shapes.{Shape, is_pointer_word, is_pointer_of}
 use Rattle.m3_heap.specs.Moves.{Move, new_start, is_kept, forwarded}
-use Rattle.m3_heap.specs.Reach.{HasPointer, IsReached, IsBadPointer, HasBadPointer}
-use Rattle.m3_heap.specs.Space.{Space, AreLaid}
-use Rattle.m3_heap.specs.Tracing.{moves_from, placed, IsCopy, Traces, old_cells, copies, moves, IsTracing, Keeps}
-use Rattle.m3_heap.specs.Scanning.{IsSettled, AreScanned, pointers_met, met, Scans, Grows}
+use Rattle.m3_heap.specs.Reach.{HasPointer, IsReachable, IsBadPointer, HasBadPointer}
+use Rattle.m3_heap.specs.CollectorSpace.{Space, AreLaid}
+use Rattle.m3_heap.specs.CollectorTracing.{moves_from, placed, IsCopy, Traces, old_cells, copies, moves, IsTracing, Keeps}
+use Rattle.m3_heap.specs.CollectorScanning.{PointsToKept, AreScanned, pointers_met, met, Scans, Grows}
 use Rattle.m3_heap.proofs.SpaceLemmas.{start-fits, word_at-cell}
 use Rattle.m3_heap.proofs.TracingLemmas.{all_append, none_or_some, new_start-lacks, new_start-one, moves_from-append, placed-append, total-placed, cells-told, copies-told, tracing-told}
 use Rattle.m3_heap.proofs.ScanLemmas.{copy-here, copied_from, put_at, scanned-grow, scanned-push, met-push}
@@ -74,12 +74,12 @@ pub record IsReady (shapes : List Shape) (roots : List ℕ) (cs ks : List Cell) 
   pub pointer : is_pointer_word shapes (words_from cs (copied_from b ks start)) i ≡ true
   pub word : slice_get (words_from cs (copied_from b ks start)) i ≡ Some w
   pub scanned : AreScanned shapes cs (moves_from b ks) (start + i) b ks
-  pub reached : AllByRecursion (λ (k : Cell). IsReached shapes cs roots k.start) ks
+  pub reached : AllByRecursion (λ (k : Cell). IsReachable shapes cs roots k.start) ks
 
-pub ready-pointer : (shapes : List Shape) (roots : List ℕ) (cs ks : List Cell) (b start i w : ℕ) → IsReady shapes roots cs ks b start i w → (from : ℕ) × IsReached shapes cs roots from × HasPointer shapes cs from w
+pub ready-pointer : (shapes : List Shape) (roots : List ℕ) (cs ks : List Cell) (b start i w : ℕ) → IsReady shapes roots cs ks b start i w → (from : ℕ) × IsReachable shapes cs roots from × HasPointer shapes cs from w
 ready-pointer shapes roots cs ks b start i w r =
     let from = copied_from b ks start in
-    let reached = all-copied (λ n. IsReached shapes cs roots n) b ks start r.reached r.starts in
+    let reached = all-copied (λ n. IsReachable shapes cs roots n) b ks start r.reached r.starts in
     let found = cell-found cs from reached.starts in (
       from,
       reached,
@@ -112,20 +112,20 @@ ready-push shapes roots cs ks b start i w r there all =
       scanned = subst P (sym (moves_from-append b ks (k ∷ [])))
           (scanned-push shapes cs (moves_from b ks ++ moves_from (b + total_words ks) (k ∷ [])) (start + i) b ks w (omega (arith, fits.2, r.within))
           (scanned-grow shapes cs (moves_from b ks) (moves_from (b + total_words ks) (k ∷ [])) (start + i) b ks r.scanned));
-      reached = all_append (λ (c : Cell). IsReached shapes cs roots c.start) ks (k ∷ []) r.reached
+      reached = all_append (λ (c : Cell). IsReachable shapes cs roots c.start) ks (k ∷ []) r.reached
           (record { starts = there; steps = suc by.1.steps; leads = (by.0, by.1.leads, by.2) }, tt);
     }
 
 -- ---- from both halves to both halves
 
-pub scans-told : (shapes : List Shape) (roots : List ℕ) (left kept : Space) (cs ks : List Cell) (limit : ℕ) → Traces left kept cs ks → AreScanned shapes cs (moves_from kept.base ks) limit kept.base ks → AllByRecursion (λ (k : Cell). IsReached shapes cs roots k.start) ks → Scans shapes roots left kept limit
+pub scans-told : (shapes : List Shape) (roots : List ℕ) (left kept : Space) (cs ks : List Cell) (limit : ℕ) → Traces left kept cs ks → AreScanned shapes cs (moves_from kept.base ks) limit kept.base ks → AllByRecursion (λ (k : Cell). IsReachable shapes cs roots k.start) ks → Scans shapes roots left kept limit
 scans-told shapes roots left kept cs ks limit h scanned reached =
     let c = sym (cells-told left kept cs ks h) in
     let k = sym (copies-told left kept cs ks h) in
     let P : List Cell → Type 0 = λ cs'. AreScanned shapes cs' (moves_from kept.base ks) limit kept.base ks in
     let P' : List Cell → Type 0 = λ ks'. AreScanned shapes (old_cells left kept) (moves_from kept.base ks') limit kept.base ks' in
-    let Q : List Cell → Type 0 = λ cs'. AllByRecursion (λ (k : Cell). IsReached shapes cs' roots k.start) ks in
-    let Q' : List Cell → Type 0 = λ ks'. AllByRecursion (λ (k : Cell). IsReached shapes (old_cells left kept) roots k.start) ks' in
+    let Q : List Cell → Type 0 = λ cs'. AllByRecursion (λ (k : Cell). IsReachable shapes cs' roots k.start) ks in
+    let Q' : List Cell → Type 0 = λ ks'. AllByRecursion (λ (k : Cell). IsReachable shapes (old_cells left kept) roots k.start) ks' in
     record { scanned = subst P' k (subst P c scanned); reached = subst Q' k (subst Q c reached) }
 
 pub met-told : (shapes : List Shape) (left kept : Space) (cs ks : List Cell) (limit : ℕ) → Traces left kept cs ks → met shapes left kept limit ≡ pointers_met shapes cs limit kept.base ks
@@ -136,7 +136,7 @@ met-told shapes left kept cs ks limit h =
 pub record IsForwarded (left kept left' kept' : Space) (w : ℕ) (ks' : List Cell) : Type 0 where
   pub traces : Traces left' kept' (old_cells left kept) ks'
   pub grows : (more : List Cell) × (ks' ≡ copies left kept ++ more)
-  pub settled : IsSettled (moves_from kept.base ks') w
+  pub settled : PointsToKept (moves_from kept.base ks') w
   pub cases : (ks' ≡ copies left kept) ⊎ ((ks' ≡ copies left kept ++ record { start = w; words = words_from (old_cells left kept) w } ∷ []) × (heap_base ≤ w))
 
 pub kept-word : (left kept left' kept' : Space) (w : ℕ) → IsTracing left kept → Keeps left kept left' kept' w → (ks' : List Cell) × IsForwarded left kept left' kept' w ks'
@@ -156,8 +156,8 @@ kept-word left kept left' kept' w h keeps =
         traces = subst Q list traces;
         grows = ([], sym (append-nil ks));
         settled = ⊎_elim
-            (λ (low : ltb w heap_base ≡ true). let s : IsSettled ms w = inl (ltb-true w heap_base low) in s)
-            (λ (there : is_kept ms w ≡ true). let s : IsSettled ms w = inr there in s)
+            (λ (low : ltb w heap_base ≡ true). let s : PointsToKept ms w = inl (ltb-true w heap_base low) in s)
+            (λ (there : is_kept ms w ≡ true). let s : PointsToKept ms w = inr there in s)
             (or_cases (ltb w heap_base) (is_kept ms w) on);
         cases = inl refl;
       },
@@ -313,7 +313,7 @@ written-scans shapes roots left kept left' kept' kept'' start i w s good pointer
     let base : kept.base ≡ kept''.base = sym (s.base ∙ s.keeps.kept_base) in
     let S : ℕ → Type 0 = λ b. Traces left' kept'' cs (put_at b l.ks start i v) in
     scans-told shapes roots left' kept'' cs ks'' (start + i + 1) (subst S s.keeps.kept_base l.traces) (subst R base step')
-    (all-put (λ (k : Cell). IsReached shapes cs roots k.start) kept.base l.ks start i v (λ k reached. reached) r.reached)
+    (all-put (λ (k : Cell). IsReachable shapes cs roots k.start) kept.base l.ks start i v (λ k reached. reached) r.reached)
 
 -- no pointer: the scan goes on
 pub passed-scans : (shapes : List Shape) (roots : List ℕ) (left kept : Space) (start i : ℕ) → IsTracing left kept → is_start kept.cells start ≡ true → i < length (words_from kept.cells start) → is_pointer_word shapes (words_from (old_cells left kept) (scanned_cell left kept start)) i ≡ false → Scans shapes roots left kept (start + i) → Scans shapes roots left kept (start + i + 1)
@@ -387,7 +387,7 @@ end-fits left kept start h starts =
     let total = kept-total left kept h in
     (fits.0, fits.2, omega (arith, fits.2, total.1, h.kept_ends), fits.1)
 
-pub read-word : (left kept : Space) (start i : ℕ) → IsTracing left kept → is_start kept.cells start ≡ true → i < length (words_from kept.cells start) → word_at kept.cells (start + i) ≡ slice_get (words_from kept.cells start) i
+pub read-word : (left kept : Space) (start i : ℕ) → IsTracing left kept → is_start kept.cells start ≡ true → i < length (words_from kept.cells start) → cell_word_at kept.cells (start + i) ≡ slice_get (words_from kept.cells start) i
 read-word left kept start i h starts lt = word_at-cell kept.base start i kept.cells (kept-laid left kept h) starts lt
 
 pub some-within : (ws : List ℕ) (i : ℕ) → i < length ws → is_some (slice_get ws i) ≡ true

@@ -1,5 +1,5 @@
 -- The cells of a heap, seen as a list of starts with their words.
-use Rattle.std.specs.Prelude.{◌≡◌, ℕ, ◌+◌, ◌-◌, ◌*◌, ◌/◌, ◌%◌, ◌^◌, ◌<◌, ◌≤◌, ◌⊎◌, Bool, ◌&&◌, not, nat_lt, nat_le, ◌==◌, if◌then◌else◌, List, [], ◌∷◌, ◌++◌, length, replicate, slice_get, slice_set, Option, Some, None, is_some}
+use Rattle.std.specs.Prelude.{◌≡◌, ℕ, ◌+◌, ◌-◌, ◌*◌, ◌/◌, ◌%◌, ◌^◌, ◌≤◌, Bool, true, false, ◌&&◌, not, nat_lt, nat_le, ◌==◌, if◌then◌else◌, List, [], ◌∷◌, ◌++◌, length, replicate, slice_get, slice_set, Option, Some, None, is_some}
 use Rattle.std.specs.List.{AllByRecursion}
 
 -- a cell: the address of its word 0, and its words. Word 0 is the header
@@ -48,9 +48,9 @@ abbrev pub covers : Cell → ℕ → Bool
 covers cell at = nat_le cell.start at && nat_lt at (cell.start + length cell.words)
 
 -- the word at an address, which only the words of cells have
-abbrev pub word_at : List Cell → ℕ → Option ℕ
-word_at [] at = None
-word_at (cell ∷ cells) at = if covers cell at then slice_get cell.words (at - cell.start) else word_at cells at
+abbrev pub cell_word_at : List Cell → ℕ → Option ℕ
+cell_word_at [] at = None
+cell_word_at (cell ∷ cells) at = if covers cell at then slice_get cell.words (at - cell.start) else cell_word_at cells at
 
 -- the cells after the word at an address was set
 abbrev pub with_word : List Cell → ℕ → ℕ → List Cell
@@ -61,7 +61,7 @@ with_word (cell ∷ cells) at word =
 
 -- whether a program may set the word at an address: it is a cell's, and no header
 abbrev pub is_writable : List Cell → ℕ → Bool
-is_writable cells at = is_some (word_at cells at) && not (is_start cells at)
+is_writable cells at = is_some (cell_word_at cells at) && not (is_start cells at)
 
 -- the words of all cells
 abbrev pub total_words : List Cell → ℕ
@@ -76,9 +76,9 @@ new_cell start kind words = record { start = start; words = header_of kind words
 abbrev pub AddsCell : List Cell → Cell → List Cell → Type 0
 AddsCell old cell new = (front : List Cell) × (back : List Cell) × (old ≡ front ++ back) × (new ≡ front ++ cell ∷ back)
 
--- a cell's header tells its kind and its number of words
+-- a cell's header tells how many words the cell has, beside its kind
 abbrev pub IsHeaded : Cell → Type 0
-IsHeaded cell = (kind : ℕ) × (kind < 2 ^ 32) × (header cell.words ≡ header_of kind (length cell.words)) × (1 ≤ length cell.words)
+IsHeaded cell = (words_in (header cell.words) ≡ length cell.words) × (1 ≤ length cell.words)
 
 -- a cell lies where heaps lie
 abbrev pub IsInHeap : Cell → Type 0
@@ -86,7 +86,7 @@ IsInHeap cell = (heap_base ≤ cell.start) × (cell.start + length cell.words �
 
 -- two cells have no address in common
 abbrev pub AreApart : Cell → Cell → Type 0
-AreApart a b = (a.start + length a.words ≤ b.start) ⊎ (b.start + length b.words ≤ a.start)
+AreApart a b = (at : ℕ) → covers a at ≡ true → covers b at ≡ false
 
 -- no two of the cells have an address in common
 abbrev pub AllApart : List Cell → Type 0

@@ -3,7 +3,7 @@ use Rattle.std.specs.Prelude.{◌≡◌, ℕ, ◌+◌, ◌^◌, ◌<◌, ◌≤�
 use Rattle.m3_heap.specs.Cells.{Cell, AreSound, total_words}
 use Rattle.m3_heap.specs.Shapes.{Shape}
 use Rattle.m3_heap.specs.Moves.{Move, AreOneToOne, is_kept, kept_starts, moved_cells, kept_words, kept_pointers}
-use Rattle.m3_heap.specs.Reach.{IsReached}
+use Rattle.m3_heap.specs.Reach.{IsReachable}
 
 -- a store: its cells, which while a collection is open are those that stood when it began; whether a
 -- collection is open, and its forwarding list so far; the starts of the cells that the next collection
@@ -23,7 +23,7 @@ pub record Heap : Type 0 where
   pub fulls : ℕ
 
 -- what holds of every store between collections
-pub record IsSound (heap : Heap) : Type 0 where
+pub record IsSoundHeap (heap : Heap) : Type 0 where
   pub cells : AreSound heap.cells
   pub free : heap.free < 2 ^ 32
 
@@ -48,8 +48,8 @@ CountsOne old new =
 pub record KeepsReached (shapes : List Shape) (old new : Heap) : Type 0 where
   pub goes_on : (more : List Move) × (new.moves ≡ old.moves ++ more)
   pub one_to_one : AreOneToOne new.moves
-  pub reached : (start : ℕ) → is_kept new.moves start ≡ true → IsReached shapes old.cells (kept_starts old.moves) start
-  pub kept : (start : ℕ) → IsReached shapes old.cells (kept_starts old.moves) start → is_kept new.moves start ≡ true
+  pub reached : (start : ℕ) → is_kept new.moves start ≡ true → IsReachable shapes old.cells (kept_starts old.moves) start
+  pub kept : (start : ℕ) → IsReachable shapes old.cells (kept_starts old.moves) start → is_kept new.moves start ≡ true
 
 -- the heap then holds the kept cells and nothing else, each at its new start, each pointer forwarded
 abbrev pub MovesCells : List Shape → Heap → Heap → Type 0

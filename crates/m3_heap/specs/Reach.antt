@@ -17,7 +17,7 @@ IsWordAfter shapes cells roots word zero = Contains roots word
 IsWordAfter shapes cells roots word (suc steps) = (from : ℕ) × IsWordAfter shapes cells roots from steps × HasPointer shapes cells from word
 
 -- a cell starts there, and the roots lead to it through pointers
-pub record IsReached (shapes : List Shape) (cells : List Cell) (roots : List ℕ) (start : ℕ) : Type 0 where
+pub record IsReachable (shapes : List Shape) (cells : List Cell) (roots : List ℕ) (start : ℕ) : Type 0 where
   pub starts : is_start cells start ≡ true
   pub steps : ℕ
   pub leads : IsWordAfter shapes cells roots start steps
@@ -30,6 +30,6 @@ IsBadPointer cells word = (heap_base ≤ word) × (is_start cells word ≡ false
 pub record HasBadPointer (shapes : List Shape) (cells : List Cell) (roots : List ℕ) : Type 0 where
   pub from : ℕ
   pub word : ℕ
-  pub reached : IsReached shapes cells roots from
+  pub reached : IsReachable shapes cells roots from
   pub pointer : HasPointer shapes cells from word
   pub bad : IsBadPointer cells word

@@ -4,8 +4,8 @@ ghost use Rattle.std.specs.Prelude.{◌≡◌, ℕ, ◌+◌, ◌<◌, ◌↔◌,
 ghost use Rattle.m3_heap.specs.Cells.{header, kind_in, is_start, words_from, total_words};
 ghost use Rattle.m3_heap.specs.Moves.{forwarded, kept_starts};
 ghost use Rattle.m3_heap.specs.Reach.{IsBadPointer, HasBadPointer};
-ghost use Rattle.m3_heap.specs.Scanning.{Scans, Grows, met, ArePlain, IsBoundary};
-ghost use Rattle.m3_heap.specs.Tracing.{IsTracing, old_cells, copies, moves, Keeps};
+ghost use Rattle.m3_heap.specs.CollectorScanning.{Scans, Grows, met, ArePlain, IsBoundary};
+ghost use Rattle.m3_heap.specs.CollectorTracing.{IsTracing, old_cells, copies, moves, Keeps};
 
 use crate::half::Half;
 use crate::maps::Maps;

@@ -1,6 +1,6 @@
-ghost use Rattle.std.specs.Prelude.{◌≡◌, ◌+◌, ◌-◌, ◌^◌, ◌<◌, ◌≤◌, true, List, [], ◌∷◌, ◌++◌, length, take, drop, replicate, IfOk, IfSome, is_some};
-ghost use Rattle.m3_heap.specs.Cells.{header, is_start, word_at, words_from, with_word, total_words};
-ghost use Rattle.m3_heap.specs.Space.{AreLaid};
+ghost use Rattle.std.specs.Prelude.{◌≡◌, ◌+◌, ◌-◌, ◌^◌, ◌<◌, ◌≤◌, true, List, [], ◌∷◌, ◌++◌, length, take, drop, replicate, IfOk, IfSome, is_some, if◌then◌else◌};
+ghost use Rattle.m3_heap.specs.Cells.{header, is_start, is_writable, cell_word_at, words_from, with_word, total_words};
+ghost use Rattle.m3_heap.specs.CollectorSpace.{AreLaid};
 
 use crate::marks::Marks;
 use m3_base::NoMemory;
@@ -18,11 +18,11 @@ pub struct Half {
 }
 
 impl Model for Half {
-    ghost use Rattle.m3_heap.specs.Space.{Space};
+    ghost use Rattle.m3_heap.specs.CollectorSpace.{Space};
 
     ghost Value = { Space };
 
-    ghost use Rattle.m3_heap.specs.HalfView.{space_of, IsHalf};
+    ghost use Rattle.m3_heap.specs.CollectorHalf.{space_of, IsHalf};
 
     ghost view = { space_of };
 
@@ -92,48 +92,59 @@ impl Half {
         (self.words.len() - self.used) as u64
     }
 
-    /// Whether a cell starts at an address.
-    pub fn is_start(&self, at: u64) -> bool
-        ensures { result ≡ is_start self.now.cells at }
-    {
-        if at < self.base || at - self.base >= self.used as u64 {
-            return false;
-        }
-        self.starts.get((at - self.base) as usize)
-    }
-
     /// The word at an address. None comes exactly outside a cell.
+    #[inline]
     pub fn word(&self, at: u64) -> Option<u64>
-        ensures { result ≡ word_at self.now.cells at }
+        ensures { result ≡ cell_word_at self.now.cells at }
     {
-        if at < self.base || at - self.base >= self.used as u64 {
-            return None;
-        }
-        Some(self.words[(at - self.base) as usize])
-    }
-
-    /// Word 0 of the cell that starts at an address. None comes exactly where none does.
-    pub fn header(&self, at: u64) -> Option<u64>
-        ensures starts { is_some result ≡ is_start self.now.cells at }
-        ensures value { IfSome result (λ first. first ≡ header (words_from self.now.cells at)) }
-    {
-        let _laid = self.total();
-        if self.is_start(at) {
-            self.word(at)
+        let place = at.wrapping_sub(self.base);
+        if place < self.used as u64 {
+            Some(self.words[place as usize])
         } else {
             None
         }
     }
 
+    /// Word 0 of the cell that starts at an address. None comes exactly where none does.
+    #[inline]
+    pub fn header(&self, at: u64) -> Option<u64>
+        ensures starts { is_some result ≡ is_start self.now.cells at }
+        ensures value { IfSome result (λ first. first ≡ header (words_from self.now.cells at)) }
+    {
+        let place = at.wrapping_sub(self.base);
+        if place < self.used as u64 && self.starts.get(place as usize) {
+            Some(self.words[place as usize])
+        } else {
+            None
+        }
+    }
+
+    /// Sets the word at an address, and says whether it did: it doesn't outside a cell and at a header.
+    #[inline]
+    pub fn replace(&mut self, at: u64, word: u64) -> bool
+        ensures base { self.new.base ≡ self.old.base }
+        ensures size { self.new.size ≡ self.old.size }
+        ensures answer { result ≡ is_writable self.old.cells at }
+        ensures cells { self.new.cells ≡ (if result then with_word self.old.cells at word else self.old.cells) }
+    {
+        let place = at.wrapping_sub(self.base);
+        if place >= self.used as u64 || self.starts.get(place as usize) {
+            return false;
+        }
+        self.words[place as usize] = word;
+        true
+    }
+
     /// Sets the word at an address, if it is a cell's.
+    #[inline]
     pub fn put(&mut self, at: u64, word: u64)
         ensures base { self.new.base ≡ self.old.base }
         ensures size { self.new.size ≡ self.old.size }
         ensures cells { self.new.cells ≡ with_word self.old.cells at word }
     {
-        if at >= self.base && at - self.base < self.used as u64 {
-            let place = (at - self.base) as usize;
-            self.words[place] = word;
+        let place = at.wrapping_sub(self.base);
+        if place < self.used as u64 {
+            self.words[place as usize] = word;
         }
     }
 
@@ -149,7 +160,7 @@ impl Half {
         let at = self.used;
         let end = at + count as usize;
         write_cell(&mut self.words, at, end, header);
-        self.starts.start(at, end);
+        self.starts.set(at);
         self.used = end;
         self.base + at as u64
     }
@@ -168,7 +179,7 @@ impl Half {
         let end = at + count as usize;
         let first = (from - source.base) as usize;
         copy_words(&mut self.words, at, &source.words, first, count as usize);
-        self.starts.start(at, end);
+        self.starts.set(at);
         self.used = end;
         self.base + at as u64
     }
@@ -179,6 +190,7 @@ impl Half {
         ensures size { self.new.size ≡ self.old.size }
         ensures cells { self.new.cells ≡ [] }
     {
+        self.starts.clear(self.used);
         self.used = 0;
     }
 }

@@ -3,6 +3,7 @@
 
 mod copying;
 mod half;
+mod halves;
 mod maps;
 mod marks;
 mod semi_space;

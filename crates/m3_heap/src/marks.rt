@@ -1,5 +1,5 @@
 ghost use Rattle.std.specs.Int.{bit_at};
-ghost use Rattle.std.specs.Prelude.{◌≡◌, ◌≢◌, ◌==◌, ℕ, ◌+◌, ◌-◌, ◌<◌, ◌≤◌, true, false, ◌∷◌, ◌++◌, length, take, replicate, slice_index_or, slice_set, IfOk};
+ghost use Rattle.std.specs.Prelude.{◌≡◌, ◌≢◌, ℕ, ◌<◌, ◌≤◌, true, false, length, slice_index_or, slice_set, IfOk};
 
 use m3_base::NoMemory;
 use std::alloc::Global;
@@ -14,7 +14,7 @@ pub struct Marks {
 
 impl Model for Marks {
     ghost use Rattle.std.specs.Prelude.{List, Bool, ◌≤◌, ◌*◌, length};
-    ghost use Rattle.m3_heap.specs.Marks.{marks_in};
+    ghost use Rattle.m3_heap.specs.CollectorMarks.{marks_in};
 
     ghost Value = { List Bool };
 
@@ -23,26 +23,27 @@ impl Model for Marks {
     ghost invariant = { λ m. m.count ≤ 64 * length m.bits.items };
 }
 
-// The word with one bit set or cleared.
-fn with_bit(word: u64, place: usize, on: bool) -> u64
+// The word with one bit set.
+fn with_bit(word: u64, place: usize) -> u64
     requires { place < 64 }
-    ensures here { (bit_at result place == 1) ≡ on }
+    ensures here { bit_at result place ≡ 1 }
     ensures others { (k : ℕ) → k < 64 → k ≢ place → bit_at result k ≡ bit_at word k }
 {
-    let bit = 1u64 << place;
-    if on { word | bit } else { word & !bit }
+    word | 1 << place
 }
 
 impl Marks {
-    /// So many marks.
+    /// So many marks, none of them set.
     pub fn new(alloc: Global, count: usize) -> Result<Marks, NoMemory>
-        ensures { IfOk result (λ marks. length marks ≡ count) }
+        ensures length { IfOk result (λ marks. length marks ≡ count) }
+        ensures clear { IfOk result (λ marks. (k : ℕ) → slice_index_or marks k false ≡ false) }
     {
         let bits = vec![in alloc; 0u64; count / 64 + 1]?;
         Ok(Marks { bits, count })
     }
 
     /// The mark at a place.
+    #[inline]
     pub fn get(&self, i: usize) -> bool
         requires { i < length self.now }
         ensures { result ≡ slice_index_or self.now i false }
@@ -51,26 +52,25 @@ impl Marks {
     }
 
     /// Sets the mark at a place.
-    pub fn set(&mut self, i: usize, on: bool)
+    #[inline]
+    pub fn set(&mut self, i: usize)
         requires { i < length self.old }
-        ensures { self.new ≡ slice_set self.old i on }
+        ensures { self.new ≡ slice_set self.old i true }
     {
         let place = i / 64;
         let word = self.bits[place];
-        self.bits[place] = with_bit(word, i % 64, on);
+        self.bits[place] = with_bit(word, i % 64);
     }
 
-    /// Marks the first word of a cell, and clears the marks of its other words. The cell ends before a
-    /// place.
-    pub fn start(&mut self, at: usize, end: usize)
-        requires some { at < end }
-        requires room { end ≤ length self.old }
+    /// Clears all marks, where none is set from a place on.
+    pub fn clear(&mut self, end: usize)
+        requires end { end ≤ length self.old }
+        requires rest { (k : ℕ) → end ≤ k → slice_index_or self.old k false ≡ false }
         ensures length { length self.new ≡ length self.old }
-        ensures marks { take end self.new ≡ take at self.old ++ true ∷ replicate (end - (at + 1)) false }
+        ensures clear { (k : ℕ) → slice_index_or self.new k false ≡ false }
     {
-        self.set(at, true);
-        for i in at + 1..end {
-            self.set(i, false);
+        for place in 0..end.div_ceil(64) {
+            self.bits[place] = 0;
         }
     }
 }

@@ -1,11 +1,11 @@
 ghost use Rattle.std.specs.Prelude.{◌≡◌, ℕ, ◌+◌, ◌<◌, ◌≤◌, ◌↔◌, Bool, true, false, if◌then◌else◌, IsNone, IfSome, IsTrue, List, [], is_some, unwrap_or};
 ghost use Rattle.std.specs.Bool.{OnTrue};
 ghost use Rattle.std.specs.Option.{IfNone};
-ghost use Rattle.m3_heap.specs.Cells.{word_at, is_writable, with_word, new_cell, AddsCell};
+ghost use Rattle.m3_heap.specs.Cells.{cell_word_at, is_writable, with_word, new_cell, AddsCell};
 ghost use Rattle.m3_heap.specs.Shapes.{Shape};
 ghost use Rattle.m3_heap.specs.Moves.{staying, forwarded, with_kept, kept_words, kept_starts};
 ghost use Rattle.m3_heap.specs.Reach.{IsBadPointer, HasBadPointer};
-ghost use Rattle.m3_heap.specs.Heap.{Heap, IsSound, KeepsCounts, CountsOne, KeepsReached, MovesCells, MakesRoom, CostsTrace};
+ghost use Rattle.m3_heap.specs.Heap.{Heap, IsSoundHeap, KeepsCounts, CountsOne, KeepsReached, MovesCells, MakesRoom, CostsTrace};
 
 use crate::maps::Maps;
 use crate::steps::Steps;
@@ -31,14 +31,12 @@ pub trait Store {
         ensures refused { IfNone result ((heap self.new).cells ≡ (heap self.old).cells) }
         ensures asked { (heap self.new).asked ≡ (if is_some result then (heap self.old).asked else words) }
         ensures counts { KeepsCounts (heap self.old) (heap self.new) }
-        ensures sound { IsSound (heap self.new) }
         ensures fitting { (shapes : List Shape) → fits self.old shapes → fits self.new shapes };
 
     /// The word at an address. None comes exactly outside a cell.
     fn load(&self, at: u64) -> Option<u64>
         requires closed { (heap self.now).is_open ≡ false }
-        ensures value { result ≡ word_at (heap self.now).cells at }
-        ensures sound { IsSound (heap self.now) };
+        ensures { result ≡ cell_word_at (heap self.now).cells at };
 
     /// Sets the word at an address. False comes exactly outside a cell and at a header.
     fn store(&mut self, at: u64, word: u64) -> bool
@@ -48,14 +46,12 @@ pub trait Store {
         ensures asked { (heap self.new).asked ≡ (heap self.old).asked }
         ensures free { (heap self.new).free ≡ (heap self.old).free }
         ensures counts { KeepsCounts (heap self.old) (heap self.new) }
-        ensures sound { IsSound (heap self.new) }
         ensures fitting { (shapes : List Shape) → fits self.old shapes → fits self.new shapes };
 
     /// Opens a collection.
     fn begin(&mut self)
         requires closed { (heap self.old).is_open ≡ false }
         ensures opened { heap self.new ≡ record (heap self.old) { is_open = true; moves = staying (heap self.old).tenured } }
-        ensures sound { IsSound (heap self.new) }
         ensures fitting { (shapes : List Shape) → fits self.old shapes → fits self.new shapes };
 
     /// The new value of a root: a cell that is referred to is kept. None comes exactly where the word lies
@@ -86,15 +82,16 @@ pub trait Store {
         ensures cost { OnTrue result (CostsTrace (M.shapes maps.now) (heap self.old) (heap self.new) steps.old steps.new) }
         ensures closed { (heap self.new).is_open ≡ false }
         ensures asked { (heap self.new).asked ≡ 0 }
-        ensures size { (heap self.new).size ≡ (heap self.old).size }
-        ensures sound { IsSound (heap self.new) };
+        ensures size { (heap self.new).size ≡ (heap self.old).size };
 
     /// How many words a new cell may have now.
     fn free_words(&self) -> u64
         requires closed { (heap self.now).is_open ≡ false }
-        ensures value { result ≡ (heap self.now).free }
-        ensures sound { IsSound (heap self.now) };
+        ensures { result ≡ (heap self.now).free };
 
     /// A store without cells agrees with every list of shapes.
     ghost empty_fits: { (s : Self) (shapes : List Shape) → (heap s).cells ≡ [] → fits s shapes };
+
+    /// The cells of every store are headed, lie in the heap and are apart, and little enough is free.
+    ghost sound: { (s : Self) → IsSoundHeap (heap s) };
 }

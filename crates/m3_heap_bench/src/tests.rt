@@ -16,26 +16,26 @@ const HERE: u64 = 1 << 60;
 const THERE: u64 = 1 << 61;
 
 fn collect_with<L: Ledger>(heap: &mut SemiSpace, roots: &mut [u64], blank: Blank) -> bool
-    requires closed { heap.old.heap.is_open ≡ false }
+    requires closed { heap.old.halves.heap.is_open ≡ false }
     requires name { blank.name ≡ L.name }
     requires parts { blank.parts ≡ L.parts }
     requires whole { blank.parts ≡ 1 }
-    ensures { heap.new.heap.is_open ≡ false }
+    ensures { heap.new.halves.heap.is_open ≡ false }
 {
     let mut steps = Steps::<L>::new(blank);
     collect(heap, roots, &mut steps)
 }
 
 fn collected(heap: &mut SemiSpace, roots: &mut [u64]) -> bool
-    requires { heap.old.heap.is_open ≡ false }
-    ensures { heap.new.heap.is_open ≡ false }
+    requires { heap.old.halves.heap.is_open ≡ false }
+    ensures { heap.new.halves.heap.is_open ≡ false }
 {
     collect_with::<Brand>(heap, roots, Blank::new(1))
 }
 
 /// A word of the cell that lies so many words into the second half.
 fn moved(heap: &SemiSpace, cell: u64, place: u64) -> u64
-    requires { heap.now.heap.is_open ≡ false }
+    requires { heap.now.halves.heap.is_open ≡ false }
 {
     let at = THERE.saturating_add(cell).saturating_add(place);
     heap.load(at).unwrap_or(u64::MAX)
@@ -59,7 +59,7 @@ fn list_moves(rt: &impl Abort, alloc: Global, words: u64, links: u64, free: u64)
 
 /// How many links, in order from the second half's first word on, lead to the next one and count down.
 fn links_in_order(heap: &SemiSpace, links: u64) -> u64
-    requires { heap.now.heap.is_open ≡ false }
+    requires { heap.now.halves.heap.is_open ≡ false }
 {
     let mut right: u64 = 0;
     let mut cell: u64 = 0;
@@ -229,7 +229,7 @@ fn address(cell: usize) -> u64 {
 
 /// A heap of these cells, each with its number.
 fn heap_of(alloc: Global, cells: &[(usize, usize)]) -> Result<SemiSpace, Fail>
-    ensures { IfOk result (λ heap. heap.heap.is_open ≡ false) }
+    ensures { IfOk result (λ heap. heap.halves.heap.is_open ≡ false) }
 {
     let mut heap = SemiSpace::new(alloc, 64)?;
     for (i, (left, right)) in cells.iter().enumerate() {
@@ -243,7 +243,7 @@ fn heap_of(alloc: Global, cells: &[(usize, usize)]) -> Result<SemiSpace, Fail>
 
 /// The number of the cell that a word leads to.
 fn number_at(heap: &SemiSpace, word: u64) -> u64
-    requires { heap.now.heap.is_open ≡ false }
+    requires { heap.now.halves.heap.is_open ≡ false }
 {
     if word == 0 {
         NONE as u64

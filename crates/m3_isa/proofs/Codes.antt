@@ -11,7 +11,7 @@ use Rattle.m3_isa.specs.declared.instructions.Op.TheVariants.{Move}
 use Rattle.m3_isa.specs.declared.rows.Field.{Field}
 use Rattle.m3_isa.specs.declared.rows.Field.TheVariants.{Register, Number, Unnamed}
 use Rattle.m3_isa.specs.Instructions.{opcode, row_of, FitsField, FitsImm, IsInstruction}
-use Rattle.m3_isa.specs.CodeBytes.{operations, operation, bytes_of, field_fits, imm_fits, fields_fit, fields_in, fitting, instruction_in}
+use Rattle.m3_isa.specs.CodeBytes.{operations, operation, bytes_of, field_fits, imm_fits, fields_fit, fields_in, instruction_in}
 use Rattle.std.proofs.lemmas.Bool.{lt-ltb}
 
 pub operation-opcode : (op : Op) → operation (opcode op) ≡ Some op

@@ -4,7 +4,8 @@ use Rattle.std.proofs.lemmas.Bool.Decides.{nat_tests}
 use Rattle.std.proofs.lemmas.Bool.{cases_lt}
 use Rattle.m3_base.specs.Words.{add_words, sub_words}
 use Rattle.m3_isa.specs.Memory.{Memory, put}
-use Rattle.m3_isa.specs.Effects.{every, are_there, are_writable, copied, copied_low, is_among}
+use Rattle.m3_isa.specs.Effects.{every, are_there, are_writable, copied, is_among}
+use Rattle.m3_isa.specs.LowCopies.{copied_low}
 use Rattle.m3_isa.proofs.Every.{every-fails, every-holds, and-false}
 
 -- the sum is the address where nothing wraps

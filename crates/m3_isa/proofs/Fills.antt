@@ -3,13 +3,13 @@ use Rattle.std.proofs.Common.{◌≡◌, ℕ, zero, suc, ◌<◌, Bool, false, O
 use Rattle.std.proofs.lemmas.Bool.{cases_lt}
 use Rattle.m3_base.specs.Words.{add_words}
 use Rattle.m3_isa.specs.Memory.{Memory, put}
-use Rattle.m3_isa.specs.Effects.{filled, IsMemory, with_word, filled_one}
+use Rattle.m3_isa.specs.Effects.{filled, IsMemory, put_where_writable, filled_one}
 
 pub stops_at_load : (o : Option Memory) (now : Memory) (can : ℕ → Bool) (from to : ℕ) → IsMemory o now → now from ≡ None → filled_one can from to o ≡ None
 stops_at_load None now can from to h e = refl
-stops_at_load (Some memory) now can from to h e = ap (with_word can memory to) (sym (h from) ∙ e)
+stops_at_load (Some memory) now can from to h e = ap (put_where_writable can memory to) (sym (h from) ∙ e)
 
-refused : (can : ℕ → Bool) (memory : Memory) (at : ℕ) (o : Option ℕ) → can at ≡ false → with_word can memory at o ≡ None
+refused : (can : ℕ → Bool) (memory : Memory) (at : ℕ) (o : Option ℕ) → can at ≡ false → put_where_writable can memory at o ≡ None
 refused can memory at None e = refl
 refused can memory at (Some word) e = ap (λ b. if b then Some (put memory at word) else None) e
 

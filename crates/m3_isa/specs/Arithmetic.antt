@@ -1,12 +1,8 @@
 -- What the arithmetic of the instructions gives, on words and on signed integers.
-use Rattle.std.specs.Prelude.{ℕ, suc, ◌-◌, ◌*◌, ◌/◌, ◌%◌, ◌^◌, ◌==◌, Bool, Option, Some, None, if◌then◌else◌, nat_lt, ℤ, pos, negsuc, neg_ℤ, ◌-ℤ◌, ◌*ℤ◌, min}
+use Rattle.std.specs.Prelude.{ℕ, suc, ◌-◌, ◌*◌, ◌/◌, ◌%◌, ◌^◌, ◌==◌, Bool, Option, Some, None, if◌then◌else◌, ℤ, pos, negsuc, neg_ℤ, ◌-ℤ◌, ◌*ℤ◌, min}
 use Rattle.std.specs.Int.{rotate_left, w64, div_ceil}
 use Rattle.m3_base.specs.Words.{word_of, add_words}
-
--- z is an integer of the language: from -2 ^ 63 to 2 ^ 63 - 1
-abbrev pub is_integer : ℤ → Bool
-is_integer (pos n) = nat_lt n (2 ^ 63)
-is_integer (negsuc n) = nat_lt n (2 ^ 63)
+use Rattle.m3_base.specs.Integers.{is_integer}
 
 -- the word of an integer of the language, and none for another
 abbrev pub integer_word : ℤ → Option ℕ

@@ -1,5 +1,5 @@
 -- The instruction table: what each plain instruction does to the registers and the memory.
-use Rattle.std.specs.Prelude.{◌≡◌, ℕ, zero, suc, ◌+◌, ◌-◌, ◌*◌, ◌/◌, ◌%◌, ◌^◌, Bool, true, false, ◌&&◌, ◌==◌, not, if◌then◌else◌, nat_lt, nat_le, Option, Some, None, is_some, unwrap_or, slice_index, slice_set, ℤ, ◌+ℤ◌, ◌-ℤ◌, ◌*ℤ◌, int_lt, bit_and, bit_or, bit_xor}
+use Rattle.std.specs.Prelude.{◌≡◌, ℕ, List, zero, suc, ◌+◌, ◌*◌, ◌/◌, ◌%◌, ◌^◌, Bool, true, false, ◌&&◌, ◌==◌, not, if◌then◌else◌, nat_lt, Option, Some, None, is_some, unwrap_or, slice_index, slice_set, ℤ, ◌+ℤ◌, ◌-ℤ◌, ◌*ℤ◌, int_lt, bit_and, bit_or, bit_xor}
 use Rattle.std.specs.Int.{cast_unsigned, w32}
 use Rattle.m3_base.specs.Words.{signed_of, word_of, add_words, sub_words, mul_words}
 use Rattle.m3_isa.specs.declared.instructions.Op.{Op}
@@ -16,6 +16,10 @@ pub data Effect : Type 0 where
   Goes : Regs → Memory → Effect
   Traps : ℕ → Effect
   NotPlain : Effect
+
+-- sixteen registers with the number of the instruction and the first address of the newest frame
+abbrev pub at_hand : List ℕ → ℕ → ℕ → Regs
+at_hand r pc fp = record { r = r; pc = pc; fp = fp }
 
 -- the content of a register, and its signed reading
 abbrev pub reg : Regs → ℕ → ℕ
@@ -40,9 +44,16 @@ abbrev pub answers : Regs → Memory → ℕ → ℕ → Effect
 answers regs memory a word = Goes (answered regs a word) memory
 
 -- with the word in register a, where there is one, and a jump where there is none
+abbrev pub given_if_there : List ℕ → ℕ → Option ℕ → List ℕ
+given_if_there r a None = r
+given_if_there r a (Some word) = slice_set r a word
+
+abbrev pub counter_after : ℕ → ℤ → Option ℕ → ℕ
+counter_after pc target None = cast_unsigned w32 target
+counter_after pc target (Some word) = (pc + 1) % 2 ^ 32
+
 abbrev pub answered_or_jumped : Regs → ℕ → ℤ → Option ℕ → Regs
-answered_or_jumped regs a target None = jumped regs target
-answered_or_jumped regs a target (Some word) = answered regs a word
+answered_or_jumped regs a target word = record regs { r = given_if_there regs.r a word; pc = counter_after regs.pc target word }
 
 abbrev pub answers_or_jumps : Regs → Memory → ℕ → ℤ → Option ℕ → Effect
 answers_or_jumps regs memory a target word = Goes (answered_or_jumped regs a target word) memory
@@ -73,8 +84,8 @@ abbrev pub are_writable : (ℕ → Bool) → ℕ → ℕ → Bool
 are_writable writable from n = every (λ k. writable (add_words from k)) n
 
 -- the word at an address, where one is there
-abbrev pub word_at : Memory → ℕ → ℕ
-word_at memory at = unwrap_or (memory at) 0
+abbrev pub held_word : Memory → ℕ → ℕ
+held_word memory at = unwrap_or (memory at) 0
 
 -- an address is one of the n from another on
 abbrev pub is_among : ℕ → ℕ → ℕ → Bool
@@ -84,23 +95,19 @@ is_among at from n = nat_lt at (2 ^ 64) && nat_lt (sub_words at from) n
 abbrev pub copied : Memory → ℕ → ℕ → ℕ → Memory
 copied memory n from to at = if is_among at to n then memory (add_words from (sub_words at to)) else memory at
 
--- the same where no address is past the last one
-abbrev pub copied_low : Memory → ℕ → ℕ → ℕ → Memory
-copied_low memory n from to at = if nat_le to at && nat_lt at (to + n) then memory (from + (at - to)) else memory at
-
 abbrev pub copies : Regs → Memory → (ℕ → Bool) → ℕ → ℕ → ℕ → Effect
 copies regs memory writable n from to =
     if are_there memory from n && are_writable writable to n then Goes (next regs) (copied memory n from to) else Traps 2
 
 -- one word is put where it can be, and the memory after that
-abbrev pub with_word : (ℕ → Bool) → Memory → ℕ → Option ℕ → Option Memory
-with_word writable memory at None = None
-with_word writable memory at (Some word) = if writable at then Some (put memory at word) else None
+abbrev pub put_where_writable : (ℕ → Bool) → Memory → ℕ → Option ℕ → Option Memory
+put_where_writable writable memory at None = None
+put_where_writable writable memory at (Some word) = if writable at then Some (put memory at word) else None
 
 -- one word of a fill: the word at an address is put a distance above it
 abbrev pub filled_one : (ℕ → Bool) → ℕ → ℕ → Option Memory → Option Memory
 filled_one writable from to None = None
-filled_one writable from to (Some memory) = with_word writable memory to (memory from)
+filled_one writable from to (Some memory) = put_where_writable writable memory to (memory from)
 
 -- the memory after the first n words of a fill, each read after those below it were put
 abbrev pub filled : Memory → (ℕ → Bool) → ℕ → ℕ → ℕ → Option Memory
@@ -119,7 +126,7 @@ fills regs (Some memory) = Goes (next regs) memory
 
 -- the n words from one address on are those from another on
 abbrev pub are_equal : Memory → ℕ → ℕ → ℕ → Bool
-are_equal memory n left right = every (λ k. word_at memory (add_words left k) == word_at memory (add_words right k)) n
+are_equal memory n left right = every (λ k. held_word memory (add_words left k) == held_word memory (add_words right k)) n
 
 abbrev pub compares : Regs → Memory → ℕ → ℕ → ℕ → ℕ → Effect
 compares regs memory a n left right =
@@ -129,7 +136,7 @@ compares regs memory a n left right =
 -- the bytes of two texts of one length are equal: word 1 is the length, the bytes follow it
 abbrev pub are_equal_texts : Memory → ℕ → ℕ → ℕ → Bool
 are_equal_texts memory bytes left right =
-    every (λ k. below_length bytes k (word_at memory (add_words left (2 + k))) == below_length bytes k (word_at memory (add_words right (2 + k)))) (words_of_bytes bytes)
+    every (λ k. below_length bytes k (held_word memory (add_words left (2 + k))) == below_length bytes k (held_word memory (add_words right (2 + k)))) (words_of_bytes bytes)
 
 -- the words of the bytes of a text are there
 abbrev pub has_bytes : Memory → ℕ → ℕ → Bool

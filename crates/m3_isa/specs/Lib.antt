@@ -1,5 +1,6 @@
-pub mod Memory
 pub mod Instructions
-pub mod Arithmetic
+pub mod Memory
 pub mod Effects
+pub mod Arithmetic
 pub mod CodeBytes
+pub mod LowCopies

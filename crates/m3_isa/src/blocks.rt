@@ -1,6 +1,7 @@
 ghost use Rattle.std.specs.Prelude.{◌≡◌, ◌≢◌, ℕ, ◌≤◌, ◌<◌, ◌+◌, ◌*◌, ◌-◌, ◌^◌, ◌%◌, ◌&&◌, ◌⊎◌, MatchOption, MatchBool, None, true, false};
 ghost use Rattle.m3_base.specs.Words.{add_words};
-ghost use Rattle.m3_isa.specs.Effects.{are_there, are_writable, are_equal, has_bytes, are_equal_texts, copied, copied_low, filled, is_among, IsMemory};
+ghost use Rattle.m3_isa.specs.Effects.{are_there, are_writable, are_equal, has_bytes, are_equal_texts, copied, filled, is_among, IsMemory};
+ghost use Rattle.m3_isa.specs.LowCopies.{copied_low};
 
 use crate::arithmetic::below_end;
 use crate::memory::Words;
@@ -53,6 +54,7 @@ pub fn fill_words<W: Words>(n: u64, from: u64, distance: u64, mem: &mut W) -> bo
     ensures outside { (x : ℕ) → is_among x (add_words from distance) n ≡ false
         → W.holds mem.new x ≡ W.holds mem.old x }
     ensures writable { (x : ℕ) → W.writable mem.new x ≡ W.writable mem.old x }
+    ensures keeps { W.keeps mem.old mem.new }
 {
     let to = from.wrapping_add(distance);
     for k in 0..n {
@@ -75,6 +77,7 @@ pub fn copy_words<W: Words>(n: u64, from: u64, to: u64, mem: &mut W) -> bool
         ((are_there (W.holds mem.old) from n && are_writable (W.writable mem.old) to n) ≡ false) }
     ensures outside { (x : ℕ) → is_among x to n ≡ false → W.holds mem.new x ≡ W.holds mem.old x }
     ensures writable { (x : ℕ) → W.writable mem.new x ≡ W.writable mem.old x }
+    ensures keeps { W.keeps mem.old mem.new }
 {
     if n == 0 {
         return true;
@@ -99,6 +102,7 @@ fn copy_rising<W: Words>(n: u64, from: u64, to: u64, mem: &mut W) -> bool
         ((are_there (W.holds mem.old) from n && are_writable (W.writable mem.old) to n) ≡ false) }
     ensures outside { (x : ℕ) → (x < to) ⊎ (to + n ≤ x) → W.holds mem.new x ≡ W.holds mem.old x }
     ensures writable { (x : ℕ) → W.writable mem.new x ≡ W.writable mem.old x }
+    ensures keeps { W.keeps mem.old mem.new }
 {
     for k in 0..n {
         let Some(word) = mem.load(from + k) else {
@@ -121,6 +125,7 @@ fn copy_falling<W: Words>(n: u64, from: u64, to: u64, mem: &mut W) -> bool
         ((are_there (W.holds mem.old) from n && are_writable (W.writable mem.old) to n) ≡ false) }
     ensures outside { (x : ℕ) → (x < to) ⊎ (to + n ≤ x) → W.holds mem.new x ≡ W.holds mem.old x }
     ensures writable { (x : ℕ) → W.writable mem.new x ≡ W.writable mem.old x }
+    ensures keeps { W.keeps mem.old mem.new }
 {
     let mut k = n;
     while k > 0 {

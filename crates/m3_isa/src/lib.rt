@@ -17,4 +17,4 @@ pub use code_bytes::{decode, encode, same_instruction};
 pub use instructions::{Instr, Op};
 pub use memory::Words;
 pub use registers::Regs;
-pub use steps::step;
+pub use steps::{carry_out, step};

@@ -1,13 +1,13 @@
-ghost use Rattle.std.specs.Prelude.{◌≡◌, ◌≢◌, ℕ, false, ◌<◌, ◌+◌, ◌*◌, ◌/◌, ◌%◌, ◌^◌};
+ghost use Rattle.std.specs.Prelude.{◌≡◌, ◌≢◌, ℕ, List, slice_set, if◌then◌else◌, false, ◌<◌, ◌+◌, ◌*◌, ◌/◌, ◌%◌, ◌^◌};
 ghost use Rattle.std.specs.Int.{cast_unsigned, w32};
 ghost use Rattle.m3_isa.specs.Instructions.{IsInstruction};
-ghost use Rattle.m3_isa.specs.Effects.{reg, effect, loads, stores, copies, fills, filled, compares, compares_texts, compares_bytes, is_among, takes_byte, answered_or_jumped, CarriesOut, KeepsOnTrap};
+ghost use Rattle.m3_isa.specs.Effects.{reg, effect, at_hand, loads, stores, copies, fills, filled, compares, compares_texts, compares_bytes, is_among, takes_byte, given_if_there, counter_after, CarriesOut, KeepsOnTrap};
 ghost use Rattle.m3_base.specs.Words.{add_words};
 
 use crate::answers::Step;
 use crate::instructions::{Instr, Op};
 use crate::memory::Words;
-use crate::registers::Regs;
+use crate::registers::{Regs, signed, word};
 use crate::{arithmetic, blocks};
 
 // Where the constants and the globals begin.
@@ -16,67 +16,122 @@ const CONSTANTS: u64 = 1 << 50;
 const GLOBALS: u64 = 1 << 32;
 
 /// Carries out one plain instruction.
-pub fn step<W: Words>(i: Instr, regs: &mut Regs, mem: &mut W) -> Step
-    requires { IsInstruction i }
-    ensures effect { CarriesOut (effect i regs.old (W.holds mem.old) (W.writable mem.old))
+pub fn step<W: Words>(i: &Instr, regs: &mut Regs, mem: &mut W) -> Step
+    requires { IsInstruction i.now }
+    ensures effect { CarriesOut (effect i.now regs.old (W.holds mem.old) (W.writable mem.old))
         result regs.old (W.holds mem.old) regs.new (W.holds mem.new) }
-    ensures trap { KeepsOnTrap i result regs.old (W.holds mem.old) (W.holds mem.new) }
+    ensures trap { KeepsOnTrap i.now result regs.old (W.holds mem.old) (W.holds mem.new) }
     ensures writable { (at : ℕ) → W.writable mem.new at ≡ W.writable mem.old at }
+    ensures keeps { W.keeps mem.old mem.new }
+{
+    carry_out(i, &mut regs.r, &mut regs.pc, regs.fp, mem)
+}
+
+/// Carries out one plain instruction on registers that stand beside the number of the instruction and
+/// the first address of the newest frame, as a loop over instructions holds them. It is meant for one
+/// such loop: it becomes part of its caller, and none of the three is passed on by reference.
+#[inline(always)]
+pub fn carry_out<W: Words>(i: &Instr, r: &mut [u64; 16], pc: &mut u32, fp: u64, mem: &mut W) -> Step
+    requires { IsInstruction i.now }
+    ensures effect { CarriesOut (effect i.now (at_hand r.old pc.old fp) (W.holds mem.old) (W.writable mem.old))
+        result (at_hand r.old pc.old fp) (W.holds mem.old) (at_hand r.new pc.new fp) (W.holds mem.new) }
+    ensures trap { KeepsOnTrap i.now result (at_hand r.old pc.old fp) (W.holds mem.old) (W.holds mem.new) }
+    ensures writable { (at : ℕ) → W.writable mem.new at ≡ W.writable mem.old at }
+    ensures keeps { W.keeps mem.old mem.new }
 {
     match i.op {
-        Op::Move => regs.gives(i.a, regs.get(i.b)),
-        Op::Li => regs.gives(i.a, i64::from(i.imm).cast_unsigned()),
-        Op::Lih => regs.gives(i.a, with_high(regs.get(i.a), i.imm)),
-        Op::Con => regs.gives(i.a, arithmetic::moved(CONSTANTS, i.imm)),
-        Op::Glb => regs.gives(i.a, arithmetic::moved(GLOBALS, i.imm)),
-        Op::Slot => regs.gives(i.a, arithmetic::moved(regs.fp, i.imm)),
-        Op::Lds => load(i.a, arithmetic::moved(regs.fp, i.imm), regs, mem),
-        Op::Sts => store(arithmetic::moved(regs.fp, i.imm), regs.get(i.a), regs, mem),
-        Op::Ld => load(i.a, arithmetic::moved(regs.get(i.b), i.imm), regs, mem),
+        Op::Move => gives(i.a, word(r, i.b), r, pc),
+        Op::Li => gives(i.a, i64::from(i.imm).cast_unsigned(), r, pc),
+        Op::Lih => gives(i.a, with_high(word(r, i.a), i.imm), r, pc),
+        Op::Con => gives(i.a, arithmetic::moved(CONSTANTS, i.imm), r, pc),
+        Op::Glb => gives(i.a, arithmetic::moved(GLOBALS, i.imm), r, pc),
+        Op::Slot => gives(i.a, arithmetic::moved(fp, i.imm), r, pc),
+        Op::Lds => load(i.a, arithmetic::moved(fp, i.imm), r, pc, mem),
+        Op::Sts => store(arithmetic::moved(fp, i.imm), word(r, i.a), pc, mem),
+        Op::Ld => load(i.a, arithmetic::moved(word(r, i.b), i.imm), r, pc, mem),
         Op::St => store(
-            arithmetic::moved(regs.get(i.b), i.imm),
-            regs.get(i.a),
-            regs,
+            arithmetic::moved(word(r, i.b), i.imm),
+            word(r, i.a),
+            pc,
             mem,
         ),
-        Op::Add => regs.gives(i.a, regs.get(i.b).wrapping_add(regs.get(i.c))),
-        Op::Sub => regs.gives(i.a, regs.get(i.b).wrapping_sub(regs.get(i.c))),
-        Op::Mul => regs.gives(i.a, regs.get(i.b).wrapping_mul(regs.get(i.c))),
-        Op::Addi => regs.gives(i.a, arithmetic::moved(regs.get(i.b), i.imm)),
-        Op::Addo => or_jump(i, arithmetic::sum(regs.get(i.b), regs.get(i.c)), regs),
+        Op::Add => gives(i.a, word(r, i.b).wrapping_add(word(r, i.c)), r, pc),
+        Op::Sub => gives(i.a, word(r, i.b).wrapping_sub(word(r, i.c)), r, pc),
+        Op::Mul => gives(i.a, word(r, i.b).wrapping_mul(word(r, i.c)), r, pc),
+        Op::Addi => gives(i.a, arithmetic::moved(word(r, i.b), i.imm), r, pc),
+        Op::Addo => or_jump(
+            i.a,
+            i.imm,
+            arithmetic::sum(word(r, i.b), word(r, i.c)),
+            r,
+            pc,
+        ),
         Op::Subo => or_jump(
-            i,
-            arithmetic::difference(regs.get(i.b), regs.get(i.c)),
-            regs,
+            i.a,
+            i.imm,
+            arithmetic::difference(word(r, i.b), word(r, i.c)),
+            r,
+            pc,
         ),
-        Op::Mulo => or_jump(i, arithmetic::product(regs.get(i.b), regs.get(i.c)), regs),
+        Op::Mulo => or_jump(
+            i.a,
+            i.imm,
+            arithmetic::product(word(r, i.b), word(r, i.c)),
+            r,
+            pc,
+        ),
         Op::Divf => or_jump(
-            i,
-            arithmetic::quotient_down(regs.get(i.b), regs.get(i.c)),
-            regs,
+            i.a,
+            i.imm,
+            arithmetic::quotient_down(word(r, i.b), word(r, i.c)),
+            r,
+            pc,
         ),
-        Op::Modf => or_jump(i, arithmetic::rest_up(regs.get(i.b), regs.get(i.c)), regs),
-        Op::Divu => or_jump(i, arithmetic::quotient(regs.get(i.b), regs.get(i.c)), regs),
-        Op::Modu => or_jump(i, arithmetic::rest(regs.get(i.b), regs.get(i.c)), regs),
-        Op::And => regs.gives(i.a, regs.get(i.b) & regs.get(i.c)),
-        Op::Or => regs.gives(i.a, regs.get(i.b) | regs.get(i.c)),
-        Op::Xor => regs.gives(i.a, regs.get(i.b) ^ regs.get(i.c)),
-        Op::Shf => regs.gives(i.a, arithmetic::shift(regs.get(i.b), regs.get(i.c))),
-        Op::Rot => regs.gives(i.a, arithmetic::rotate(regs.get(i.b), regs.get(i.c))),
-        Op::Seq => regs.gives(i.a, arithmetic::truth(regs.get(i.b) == regs.get(i.c))),
-        Op::Slt => regs.gives(i.a, arithmetic::truth(regs.signed(i.b) < regs.signed(i.c))),
-        Op::Sltu => regs.gives(i.a, arithmetic::truth(regs.get(i.b) < regs.get(i.c))),
-        Op::Jmp => regs.jumps(i.imm),
-        Op::Bz => regs.jumps_if(regs.get(i.a) == 0, i.imm),
-        Op::Bnz => regs.jumps_if(regs.get(i.a) != 0, i.imm),
-        Op::Blt => regs.jumps_if(regs.signed(i.a) < regs.signed(i.b), i.imm),
-        Op::Bltu => regs.jumps_if(regs.get(i.a) < regs.get(i.b), i.imm),
-        Op::Beq => regs.jumps_if(regs.get(i.a) == regs.get(i.b), i.imm),
-        Op::Tget => get_byte(i.a, regs.get(i.b), regs.get(i.c), regs, mem),
-        Op::Copy => copy(regs.get(i.c), regs.get(i.b), regs.get(i.a), regs, mem),
-        Op::Fill => fill(regs.get(i.b), regs.get(i.a), regs.get(i.c), regs, mem),
-        Op::Eqw => compare(i.a, regs.get(i.b), regs.get(i.c), regs, mem),
-        Op::Teq => compare_texts(i.a, regs.get(i.b), regs.get(i.c), regs, mem),
+        Op::Modf => or_jump(
+            i.a,
+            i.imm,
+            arithmetic::rest_up(word(r, i.b), word(r, i.c)),
+            r,
+            pc,
+        ),
+        Op::Divu => or_jump(
+            i.a,
+            i.imm,
+            arithmetic::quotient(word(r, i.b), word(r, i.c)),
+            r,
+            pc,
+        ),
+        Op::Modu => or_jump(
+            i.a,
+            i.imm,
+            arithmetic::rest(word(r, i.b), word(r, i.c)),
+            r,
+            pc,
+        ),
+        Op::And => gives(i.a, word(r, i.b) & word(r, i.c), r, pc),
+        Op::Or => gives(i.a, word(r, i.b) | word(r, i.c), r, pc),
+        Op::Xor => gives(i.a, word(r, i.b) ^ word(r, i.c), r, pc),
+        Op::Shf => gives(i.a, arithmetic::shift(word(r, i.b), word(r, i.c)), r, pc),
+        Op::Rot => gives(i.a, arithmetic::rotate(word(r, i.b), word(r, i.c)), r, pc),
+        Op::Seq => gives(i.a, arithmetic::truth(word(r, i.b) == word(r, i.c)), r, pc),
+        Op::Slt => gives(
+            i.a,
+            arithmetic::truth(signed(r, i.b) < signed(r, i.c)),
+            r,
+            pc,
+        ),
+        Op::Sltu => gives(i.a, arithmetic::truth(word(r, i.b) < word(r, i.c)), r, pc),
+        Op::Jmp => jumps(i.imm, pc),
+        Op::Bz => jumps_if(word(r, i.a) == 0, i.imm, pc),
+        Op::Bnz => jumps_if(word(r, i.a) != 0, i.imm, pc),
+        Op::Blt => jumps_if(signed(r, i.a) < signed(r, i.b), i.imm, pc),
+        Op::Bltu => jumps_if(word(r, i.a) < word(r, i.b), i.imm, pc),
+        Op::Beq => jumps_if(word(r, i.a) == word(r, i.b), i.imm, pc),
+        Op::Tget => get_byte(i.a, word(r, i.b), word(r, i.c), r, pc, mem),
+        Op::Copy => copy(word(r, i.c), word(r, i.b), word(r, i.a), pc, mem),
+        Op::Fill => fill(word(r, i.b), word(r, i.a), word(r, i.c), pc, mem),
+        Op::Eqw => compare(i.a, word(r, i.a), word(r, i.b), word(r, i.c), r, pc, mem),
+        Op::Teq => compare_texts(i.a, word(r, i.b), word(r, i.c), r, pc, mem),
         Op::Call
         | Op::Callr
         | Op::Callm
@@ -113,53 +168,164 @@ pub fn step<W: Words>(i: Instr, regs: &mut Regs, mem: &mut W) -> Step
     }
 }
 
+// Gives a register a word, and goes on.
+#[inline(always)]
+fn gives(a: u8, word: u64, r: &mut [u64; 16], pc: &mut u32) -> Step
+    requires { a < 16 }
+    ensures answer { result ≡ Step.Went }
+    ensures registers { r.new ≡ slice_set r.old a word }
+    ensures counter { pc.new ≡ (pc.old + 1) % 2 ^ 32 }
+{
+    r[a as usize] = word;
+    *pc = pc.wrapping_add(1);
+    Step::Went
+}
+
+// Jumps.
+#[inline(always)]
+fn jumps(imm: i32, pc: &mut u32) -> Step
+    ensures answer { result ≡ Step.Went }
+    ensures counter { pc.new ≡ cast_unsigned w32 imm }
+{
+    *pc = imm.cast_unsigned();
+    Step::Went
+}
+
+// Goes on.
+#[inline(always)]
+fn goes_on(pc: &mut u32) -> Step
+    ensures answer { result ≡ Step.Went }
+    ensures counter { pc.new ≡ (pc.old + 1) % 2 ^ 32 }
+{
+    *pc = pc.wrapping_add(1);
+    Step::Went
+}
+
+// Jumps where a test holds, else goes on.
+#[inline(always)]
+fn jumps_if(test: bool, imm: i32, pc: &mut u32) -> Step
+    ensures answer { result ≡ Step.Went }
+    ensures counter { pc.new ≡ (if test then cast_unsigned w32 imm else (pc.old + 1) % 2 ^ 32) }
+{
+    *pc = if test {
+        imm.cast_unsigned()
+    } else {
+        pc.wrapping_add(1)
+    };
+    Step::Went
+}
+
+// Gives a register the word, or jumps where there is none.
+#[inline(always)]
+fn or_jump(a: u8, imm: i32, word: Option<u64>, r: &mut [u64; 16], pc: &mut u32) -> Step
+    requires { a < 16 }
+    ensures answer { result ≡ Step.Went }
+    ensures registers { r.new ≡ given_if_there r.old a word }
+    ensures counter { pc.new ≡ counter_after pc.old imm word }
+{
+    match word {
+        Some(word) => gives(a, word, r, pc),
+        None => jumps(imm, pc),
+    }
+}
+
+// Gives a register the word at an address.
+#[inline(always)]
+fn load<W: Words>(a: u8, at: u64, r: &mut [u64; 16], pc: &mut u32, mem: &W) -> Step
+    requires { a < 16 }
+    ensures { (fp : ℕ) → CarriesOut (loads (at_hand r.old pc.old fp) (W.holds mem.now) a (W.holds mem.now at))
+        result (at_hand r.old pc.old fp) (W.holds mem.now) (at_hand r.new pc.new fp) (W.holds mem.now) }
+{
+    match mem.load(at) {
+        Some(word) => gives(a, word, r, pc),
+        None => Step::Trapped(2),
+    }
+}
+
+// Puts a word at an address.
+#[inline(always)]
+fn store<W: Words>(at: u64, word: u64, pc: &mut u32, mem: &mut W) -> Step
+    ensures effect { (r : List ℕ) (fp : ℕ) → CarriesOut (stores (at_hand r pc.old fp) (W.holds mem.old) (W.writable mem.old) at word)
+        result (at_hand r pc.old fp) (W.holds mem.old) (at_hand r pc.new fp) (W.holds mem.new) }
+    ensures trap { result ≢ Step.Went → (x : ℕ) → W.holds mem.new x ≡ W.holds mem.old x }
+    ensures writable { (x : ℕ) → W.writable mem.new x ≡ W.writable mem.old x }
+    ensures keeps { W.keeps mem.old mem.new }
+{
+    if mem.store(at, word) {
+        goes_on(pc)
+    } else {
+        Step::Trapped(2)
+    }
+}
+
 // Copies n words.
-fn copy<W: Words>(n: u64, from: u64, to: u64, regs: &mut Regs, mem: &mut W) -> Step
-    ensures effect { CarriesOut (copies regs.old (W.holds mem.old) (W.writable mem.old) n from to)
-        result regs.old (W.holds mem.old) regs.new (W.holds mem.new) }
+#[inline(always)]
+fn copy<W: Words>(n: u64, from: u64, to: u64, pc: &mut u32, mem: &mut W) -> Step
+    ensures effect { (r : List ℕ) (fp : ℕ) → CarriesOut (copies (at_hand r pc.old fp) (W.holds mem.old) (W.writable mem.old) n from to)
+        result (at_hand r pc.old fp) (W.holds mem.old) (at_hand r pc.new fp) (W.holds mem.new) }
     ensures outside { (x : ℕ) → is_among x to n ≡ false → W.holds mem.new x ≡ W.holds mem.old x }
     ensures writable { (x : ℕ) → W.writable mem.new x ≡ W.writable mem.old x }
+    ensures keeps { W.keeps mem.old mem.new }
 {
     if blocks::copy_words(n, from, to, mem) {
-        regs.goes_on()
+        goes_on(pc)
     } else {
         Step::Trapped(2)
     }
 }
 
 // Fills n words, each from one a distance below it.
-fn fill<W: Words>(n: u64, from: u64, distance: u64, regs: &mut Regs, mem: &mut W) -> Step
-    ensures effect { CarriesOut (fills regs.old (filled (W.holds mem.old) (W.writable mem.old) from distance n))
-        result regs.old (W.holds mem.old) regs.new (W.holds mem.new) }
+#[inline(always)]
+fn fill<W: Words>(n: u64, from: u64, distance: u64, pc: &mut u32, mem: &mut W) -> Step
+    ensures effect { (r : List ℕ) (fp : ℕ) → CarriesOut (fills (at_hand r pc.old fp) (filled (W.holds mem.old) (W.writable mem.old) from distance n))
+        result (at_hand r pc.old fp) (W.holds mem.old) (at_hand r pc.new fp) (W.holds mem.new) }
     ensures outside { (x : ℕ) → is_among x (add_words from distance) n ≡ false
         → W.holds mem.new x ≡ W.holds mem.old x }
     ensures writable { (x : ℕ) → W.writable mem.new x ≡ W.writable mem.old x }
+    ensures keeps { W.keeps mem.old mem.new }
 {
     if blocks::fill_words(n, from, distance, mem) {
-        regs.goes_on()
+        goes_on(pc)
     } else {
         Step::Trapped(2)
     }
 }
 
 // Says in a register whether the n words from one address on are those from another on.
-fn compare<W: Words>(a: u8, left: u64, right: u64, regs: &mut Regs, mem: &W) -> Step
+#[inline(always)]
+fn compare<W: Words>(
+    a: u8,
+    n: u64,
+    left: u64,
+    right: u64,
+    r: &mut [u64; 16],
+    pc: &mut u32,
+    mem: &W,
+) -> Step
     requires { a < 16 }
-    ensures { CarriesOut (compares regs.old (W.holds mem.now) a (reg regs.old a) left right)
-        result regs.old (W.holds mem.now) regs.new (W.holds mem.now) }
+    ensures { (fp : ℕ) → CarriesOut (compares (at_hand r.old pc.old fp) (W.holds mem.now) a n left right)
+        result (at_hand r.old pc.old fp) (W.holds mem.now) (at_hand r.new pc.new fp) (W.holds mem.now) }
 {
-    match blocks::equal_words(regs.get(a), left, right, mem) {
-        Some(equal) => regs.gives(a, arithmetic::truth(equal)),
+    match blocks::equal_words(n, left, right, mem) {
+        Some(equal) => gives(a, arithmetic::truth(equal), r, pc),
         None => Step::Trapped(2),
     }
 }
 
 // Says in a register whether two texts have the same bytes.
-fn compare_texts<W: Words>(a: u8, left: u64, right: u64, regs: &mut Regs, mem: &W) -> Step
+#[inline(always)]
+fn compare_texts<W: Words>(
+    a: u8,
+    left: u64,
+    right: u64,
+    r: &mut [u64; 16],
+    pc: &mut u32,
+    mem: &W,
+) -> Step
     requires { a < 16 }
-    ensures { CarriesOut (compares_texts regs.old (W.holds mem.now) a left right
+    ensures { (fp : ℕ) → CarriesOut (compares_texts (at_hand r.old pc.old fp) (W.holds mem.now) a left right
         (W.holds mem.now (add_words left 1)) (W.holds mem.now (add_words right 1)))
-        result regs.old (W.holds mem.now) regs.new (W.holds mem.now) }
+        result (at_hand r.old pc.old fp) (W.holds mem.now) (at_hand r.new pc.new fp) (W.holds mem.now) }
 {
     let Some(bytes) = mem.load(left.wrapping_add(1)) else {
         return Step::Trapped(2);
@@ -168,77 +334,42 @@ fn compare_texts<W: Words>(a: u8, left: u64, right: u64, regs: &mut Regs, mem: &
         return Step::Trapped(2);
     };
     if bytes != others {
-        return regs.gives(a, 0);
+        return gives(a, 0, r, pc);
     }
-    compare_bytes(a, bytes, left, right, regs, mem)
+    compare_bytes(a, bytes, left, right, r, pc, mem)
 }
 
 // Says in a register whether two texts of one length have the same bytes.
+#[inline(always)]
 fn compare_bytes<W: Words>(
     a: u8,
     bytes: u64,
     left: u64,
     right: u64,
-    regs: &mut Regs,
+    r: &mut [u64; 16],
+    pc: &mut u32,
     mem: &W,
 ) -> Step
     requires { a < 16 }
-    ensures { CarriesOut (compares_bytes regs.old (W.holds mem.now) a bytes left right)
-        result regs.old (W.holds mem.now) regs.new (W.holds mem.now) }
+    ensures { (fp : ℕ) → CarriesOut (compares_bytes (at_hand r.old pc.old fp) (W.holds mem.now) a bytes left right)
+        result (at_hand r.old pc.old fp) (W.holds mem.now) (at_hand r.new pc.new fp) (W.holds mem.now) }
 {
     match blocks::equal_bytes(bytes, left, right, mem) {
-        Some(equal) => regs.gives(a, arithmetic::truth(equal)),
+        Some(equal) => gives(a, arithmetic::truth(equal), r, pc),
         None => Step::Trapped(2),
-    }
-}
-
-// Gives a register the word, or jumps where there is none.
-fn or_jump(i: Instr, word: Option<u64>, regs: &mut Regs) -> Step
-    requires { i.a < 16 }
-    ensures answer { result ≡ Step.Went }
-    ensures regs { regs.new ≡ answered_or_jumped regs.old i.a i.imm word }
-{
-    match word {
-        Some(word) => regs.gives(i.a, word),
-        None => regs.jumps(i.imm),
     }
 }
 
 // Gives a register one byte of the text at an address.
-fn get_byte<W: Words>(a: u8, text: u64, n: u64, regs: &mut Regs, mem: &W) -> Step
+#[inline(always)]
+fn get_byte<W: Words>(a: u8, text: u64, n: u64, r: &mut [u64; 16], pc: &mut u32, mem: &W) -> Step
     requires { a < 16 }
-    ensures { CarriesOut (takes_byte regs.old (W.holds mem.now) a n (W.holds mem.now (add_words text (2 + n / 8))))
-        result regs.old (W.holds mem.now) regs.new (W.holds mem.now) }
+    ensures { (fp : ℕ) → CarriesOut (takes_byte (at_hand r.old pc.old fp) (W.holds mem.now) a n (W.holds mem.now (add_words text (2 + n / 8))))
+        result (at_hand r.old pc.old fp) (W.holds mem.now) (at_hand r.new pc.new fp) (W.holds mem.now) }
 {
     match mem.load(text.wrapping_add(2 + n / 8)) {
-        Some(word) => regs.gives(a, arithmetic::byte(word, n % 8)),
+        Some(word) => gives(a, arithmetic::byte(word, n % 8), r, pc),
         None => Step::Trapped(2),
-    }
-}
-
-// Gives a register the word at an address.
-fn load<W: Words>(a: u8, at: u64, regs: &mut Regs, mem: &W) -> Step
-    requires { a < 16 }
-    ensures { CarriesOut (loads regs.old (W.holds mem.now) a (W.holds mem.now at))
-        result regs.old (W.holds mem.now) regs.new (W.holds mem.now) }
-{
-    match mem.load(at) {
-        Some(word) => regs.gives(a, word),
-        None => Step::Trapped(2),
-    }
-}
-
-// Puts a word at an address.
-fn store<W: Words>(at: u64, word: u64, regs: &mut Regs, mem: &mut W) -> Step
-    ensures effect { CarriesOut (stores regs.old (W.holds mem.old) (W.writable mem.old) at word)
-        result regs.old (W.holds mem.old) regs.new (W.holds mem.new) }
-    ensures trap { result ≢ Step.Went → (x : ℕ) → W.holds mem.new x ≡ W.holds mem.old x }
-    ensures writable { (x : ℕ) → W.writable mem.new x ≡ W.writable mem.old x }
-{
-    if mem.store(at, word) {
-        regs.goes_on()
-    } else {
-        Step::Trapped(2)
     }
 }
 

@@ -23,9 +23,15 @@ impl Words for Shelf {
 
     ghost writable = { λ s at. nat_le (2 ^ 40) at && nat_lt at (2 ^ 40 + 16) };
 
+    ghost keeps = { λ _ _. Unit {0} };
+
     ghost readable = { λ s x h. Prim.grind (arith, nat_tests) };
 
     ghost low = { λ s x h. Prim.grind (arith, nat_tests) };
+
+    ghost keeps_itself = { λ _. tt };
+
+    ghost keeps_on = { λ _ _ _ _ _. tt };
 
     fn load(&self, at: u64) -> Option<u64> {
         if HOME <= at && at < HOME + 16 {
@@ -99,7 +105,7 @@ fn outcome(rt: &impl Abort, op: Op, imm: i32, x: u64, y: u64) -> (u64, u32) {
     let mut regs = registers(x, y);
     let mut mem = memory();
     let i = instruction(rt, op, 0, 1, 2, imm);
-    assert_eq!(rt; step(i, &mut regs, &mut mem), Step::Went, "{op:?} {x} {y}");
+    assert_eq!(rt; step(&i, &mut regs, &mut mem), Step::Went, "{op:?} {x} {y}");
     let mut rest = regs;
     rest.r[0] = UNTOUCHED;
     rest.pc = 5;
@@ -266,14 +272,14 @@ fn numbers(rt: HostRuntime) {
         let mut regs = registers(0, 0);
         let mut mem = memory();
         let i = instruction(&rt, op, 0, 0, 0, imm);
-        assert_eq!(rt; step(i, &mut regs, &mut mem), Step::Went, "{op:?} {imm}");
+        assert_eq!(rt; step(&i, &mut regs, &mut mem), Step::Went, "{op:?} {imm}");
         assert_eq!(rt; (regs.r[0], regs.pc), (want, 6), "{op:?} {imm}");
     }
     let mut regs = registers(9, 0);
     let mut mem = memory();
     for (op, imm, want) in [(Op::Move, 0, 9), (Op::Addi, -9, 0), (Op::Addi, -10, ALL)] {
         let i = instruction(&rt, op, 0, 1, 0, imm);
-        assert_eq!(rt; step(i, &mut regs, &mut mem), Step::Went, "{op:?} {imm}");
+        assert_eq!(rt; step(&i, &mut regs, &mut mem), Step::Went, "{op:?} {imm}");
         assert_eq!(rt; regs.r[0], want, "{op:?} {imm}");
     }
 }
@@ -294,7 +300,7 @@ fn jumps(rt: HostRuntime) {
     for (op, x, y, jumps) in table {
         let mut regs = registers(x, y);
         let i = instruction(&rt, op, 1, 2, 0, 40);
-        assert_eq!(rt; step(i, &mut regs, &mut mem), Step::Went, "{op:?} {x} {y}");
+        assert_eq!(rt; step(&i, &mut regs, &mut mem), Step::Went, "{op:?} {x} {y}");
         assert_eq!(rt; regs.pc, if jumps { 40 } else { 6 }, "{op:?} {x} {y}");
     }
     for (op, x, jumps) in [
@@ -305,12 +311,12 @@ fn jumps(rt: HostRuntime) {
     ] {
         let mut regs = registers(x, 0);
         let i = instruction(&rt, op, 1, 0, 0, 40);
-        assert_eq!(rt; step(i, &mut regs, &mut mem), Step::Went, "{op:?} {x}");
+        assert_eq!(rt; step(&i, &mut regs, &mut mem), Step::Went, "{op:?} {x}");
         assert_eq!(rt; regs.pc, if jumps { 40 } else { 6 }, "{op:?} {x}");
     }
     let mut regs = registers(0, 0);
     let i = instruction(&rt, Op::Jmp, 0, 0, 0, 40);
-    assert_eq!(rt; (step(i, &mut regs, &mut mem), regs.pc), (Step::Went, 40));
+    assert_eq!(rt; (step(&i, &mut regs, &mut mem), regs.pc), (Step::Went, 40));
 }
 
 // Loads and stores at and just outside the ends of each range.
@@ -335,7 +341,7 @@ fn addresses(rt: HostRuntime) {
         let mut regs = registers(at, 0);
         let mut mem = memory();
         let i = instruction(&rt, op, 0, 1, 0, imm);
-        let step = step(i, &mut regs, &mut mem);
+        let step = step(&i, &mut regs, &mut mem);
         let Some(want) = want else {
             assert_eq!(rt; step, Step::Trapped(2), "{op:?} {at} {imm}");
             assert_eq!(rt; regs, registers(at, 0), "{op:?} {at} {imm}");
@@ -353,7 +359,7 @@ fn addresses(rt: HostRuntime) {
     let mut regs = registers(0, 0);
     let mut mem = memory();
     let i = instruction(&rt, Op::Sts, 0, 0, 0, 2);
-    assert_eq!(rt; step(i, &mut regs, &mut mem), Step::Went);
+    assert_eq!(rt; step(&i, &mut regs, &mut mem), Step::Went);
     assert_eq!(rt; mem.words[2], UNTOUCHED);
 }
 
@@ -363,7 +369,7 @@ fn moved(rt: &impl Abort, op: Op, a: u64, b: u64, c: u64) -> (Step, [u64; 16]) {
     regs.r[0] = a;
     let mut mem = memory();
     let i = instruction(rt, op, 0, 1, 2, 0);
-    let step = step(i, &mut regs, &mut mem);
+    let step = step(&i, &mut regs, &mut mem);
     (step, mem.words)
 }
 
@@ -443,7 +449,7 @@ fn comparisons(rt: HostRuntime) {
             None => (Step::Trapped(2), a),
         };
         assert_eq!(rt;
-            m3_isa::step(i, &mut regs, &mut mem),
+            m3_isa::step(&i, &mut regs, &mut mem),
             step,
             "{op:?} {a} {b} {c}"
         );
@@ -464,7 +470,7 @@ fn operations(rt: HostRuntime) {
         assert_eq!(rt; i.op as u8, number);
         let mut regs = registers(3, 4);
         let mut mem = memory();
-        if step(i, &mut regs, &mut mem) == Step::Other {
+        if step(&i, &mut regs, &mut mem) == Step::Other {
             others = others.saturating_add(1);
             assert_eq!(rt; regs, registers(3, 4), "{number}");
             assert_eq!(rt; mem.words, memory().words, "{number}");

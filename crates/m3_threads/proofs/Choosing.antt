@@ -4,7 +4,7 @@ use Rattle.std.specs.Prelude.{find, slice_get}
 use Rattle.std.proofs.lemmas.Bool.{cases_lt}
 use Rattle.m3_isa.specs.Memory.{Memory}
 use Rattle.m3_threads.specs.declared.status.Thread.{Thread}
-use Rattle.m3_threads.specs.All.{Everyone, Pairwise, is_named}
+use Rattle.m3_threads.specs.All.{Everyone, AreOrderedBy, is_named}
 use Rattle.m3_threads.specs.Spaces.{held}
 use Rattle.m3_threads.specs.Going.{may_go, may_go_if, may_go_in, entry_goes, IsLowest, NoneGoes, IsChoice}
 use Rattle.m3_threads.proofs.Places.{some_same, get_within, found-number, place_here}
@@ -41,7 +41,7 @@ unable memory ts n None e h = refl
 unable memory ts n (Some t) e h = let r = found-at n ts t e in h r.0 t r.1 (found-number n ts t e)
 
 -- the first of the list that may go is the lowest-numbered that may
-lowest_here : (all : Everyone) (memory : Memory) (k : ℕ) (t : Thread) → Pairwise (λ t u. t.number < u.number) all.threads → Fails (may_go_in (held all memory)) all.threads k → slice_get all.threads k ≡ Some t → may_go_in (held all memory) t ≡ true → IsLowest all memory t.number
+lowest_here : (all : Everyone) (memory : Memory) (k : ℕ) (t : Thread) → AreOrderedBy (λ t u. t.number < u.number) all.threads → Fails (may_go_in (held all memory)) all.threads k → slice_get all.threads k ≡ Some t → may_go_in (held all memory) t ≡ true → IsLowest all memory t.number
 lowest_here all memory k t rising h e g =
     let ts = all.threads in
     let here = place_here t.number ts k t (record { others = λ j u l m s. let less = rising j k u t l m e in absurd (omega arith) }) e refl in
@@ -59,9 +59,9 @@ lowest_here all memory k t rising h e g =
       ]);
     }
 
-pub lowest_found : (all : Everyone) (memory : Memory) (ts : List Thread) (k : ℕ) (t : Thread) → ts ≡ all.threads → Pairwise (λ t u. t.number < u.number) ts → Fails (may_go_in (held all memory)) ts k → slice_get ts k ≡ Some t → may_go_in (held all memory) t ≡ true → (n : ℕ) → Some t.number ≡ Some n → IsLowest all memory n
+pub lowest_found : (all : Everyone) (memory : Memory) (ts : List Thread) (k : ℕ) (t : Thread) → ts ≡ all.threads → AreOrderedBy (λ t u. t.number < u.number) ts → Fails (may_go_in (held all memory)) ts k → slice_get ts k ≡ Some t → may_go_in (held all memory) t ≡ true → (n : ℕ) → Some t.number ≡ Some n → IsLowest all memory n
 lowest_found all memory ts k t same rising h e g n is =
-    let ordered = subst (λ us. Pairwise (λ t u. t.number < u.number) us) same rising in
+    let ordered = subst (λ us. AreOrderedBy (λ t u. t.number < u.number) us) same rising in
     let fails = subst (λ us. Fails (may_go_in (held all memory)) us k) same h in
     let got = ap (λ us. slice_get us k) (sym same) ∙ e in
     subst (IsLowest all memory) (some_same is) (lowest_here all memory k t ordered fails got g)

@@ -1,8 +1,10 @@
 pub mod Places
+pub mod Members
+pub mod Soundness
+pub mod Changes
 pub mod Steps
 pub mod Standing
 pub mod Lends
-pub mod Order
 pub mod Sleeping
 pub mod Choosing
 pub mod StackWords

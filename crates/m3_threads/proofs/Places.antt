@@ -1,14 +1,13 @@
 -- The place of a thread in a list.
-use Rattle.std.proofs.Common.{◌≡◌, ◌≢◌, ℕ, zero, suc, ◌+◌, ◌<◌, ◌≤◌, ◌==◌, List, [], ◌∷◌, length, Some, None, Bool, true, false, cond, ◌&&◌, ◌||◌, map, take, drop, ◌++◌, add-one, nat_le, nat_lt, refl, sym, ap, subst, ◌∙◌, inl, inr, IsSome, arith, get_or}
+use Rattle.std.proofs.Common.{◌≡◌, ◌≢◌, ℕ, zero, suc, ◌+◌, ◌<◌, ◌≤◌, ◌==◌, List, [], ◌∷◌, length, Some, None, Bool, true, false, cond, ◌||◌, map, take, drop, ◌++◌, add-one, refl, sym, ap, subst, ◌∙◌, inl, inr, IsSome, arith, get_or}
 use Rattle.std.specs.Prelude.{find, slice_get, slice_set, remove}
-use Rattle.m3_threads.specs.Actions.{without, uses, woken, woken_on, sleeps_on}
+use Rattle.m3_threads.specs.Actions.{without, uses}
 use Rattle.std.specs.List.{list_any}
 use Rattle.std.proofs.lemmas.Bool.{eq-eqb, ne_eqb, eqb-true, cases_lt}
 use Rattle.std.proofs.lemmas.Option.{slice_get-get_or, slice_get_past}
 use Rattle.m3_threads.specs.declared.status.Thread.{Thread}
-use Rattle.m3_threads.specs.All.{is_named, updated, base_of}
-use Rattle.m3_threads.specs.Places.{IsPlaceOf, IsNobody, IsOwnerAt}
-use Rattle.m3_threads.specs.Spaces.{covers}
+use Rattle.m3_threads.specs.All.{is_named, updated, AreOrderedBy}
+use Rattle.m3_threads.specs.PlacesInside.{IsPlaceOf, IsNobody}
 use Rattle.std.proofs.lemmas.Bool.Decides.{nat_tests}
 
 -- no thread below k has the number
@@ -74,65 +73,6 @@ nobody n (x ∷ xs) (suc k) l h =
 
 pub passed_none : (n : ℕ) (ts : List Thread) → Passed n ts 0
 passed_none n ts = record { others = λ j t l e. absurd (omega arith) }
-
--- no thread below k has the address in its stack
-pub record Uncovered (stack at : ℕ) (threads : List Thread) (k : ℕ) : Type 0 where
-  pub others : (j : ℕ) (t : Thread) → j < k → slice_get threads j ≡ Some t → covers stack at t ≡ false
-
-uncovered_tail : (stack at : ℕ) (x : Thread) (xs : List Thread) (k : ℕ) → Uncovered stack at (x ∷ xs) (suc k) → Uncovered stack at xs k
-uncovered_tail stack at x xs k h = record { others = λ j t l e. h.others (suc j) t (omega arith) e }
-
-owner_found : (stack at : ℕ) (ts : List Thread) (k : ℕ) (t : Thread) → Uncovered stack at ts k → slice_get ts k ≡ Some t → covers stack at t ≡ true → find (covers stack at) ts ≡ slice_get ts k
-owner_found stack at [] k t h e m = refl
-owner_found stack at (x ∷ xs) zero t h e m =
-    ap (λ b. cond b (Some x) (find (covers stack at) xs)) (ap (covers stack at) (some_same e) ∙ m)
-owner_found stack at (x ∷ xs) (suc k) t h e m =
-    ap (λ b. cond b (Some x) (find (covers stack at) xs)) (h.others 0 x (omega arith) refl)
-    ∙ owner_found stack at xs k t (uncovered_tail stack at x xs k h) e m
-
-covered_between : (base stack at : ℕ) → (nat_le base at && nat_lt at (base + stack)) ≡ true → (base ≤ at) × (at < base + stack)
-covered_between base stack at e = (grind (arith, nat_tests), grind (arith, nat_tests))
-
-pub owner_here : (stack at : ℕ) (ts : List Thread) (k : ℕ) (t : Thread) → Uncovered stack at ts k → slice_get ts k ≡ Some t → covers stack at t ≡ true → IsOwnerAt stack at ts k
-owner_here stack at ts k t h e m = record {
-  within = get_within ts k t e;
-  found = owner_found stack at ts k t h e m;
-  inside = λ u g. covered_between (base_of u) stack at (ap (covers stack at) (some_same (sym g ∙ e)) ∙ m);
-}
-
-pub owner_more : (stack at : ℕ) (ts : List Thread) (k : ℕ) (t : Thread) → Uncovered stack at ts k → slice_get ts k ≡ Some t → covers stack at t ≡ false → Uncovered stack at ts (k + 1)
-owner_more stack at ts k t h e m = record {
-  others = λ j u l g. elim (cases_lt j k) [
-    | inl low ↦ h.others j u low g
-    | inr high ↦
-        let same : j ≡ k = omega arith in
-        ap (covers stack at) (some_same (sym g ∙ ap (slice_get ts) same ∙ e)) ∙ m
-  ];
-}
-
-pub unowned : (stack at : ℕ) (ts : List Thread) (k : ℕ) → length ts ≤ k → Uncovered stack at ts k → find (covers stack at) ts ≡ None
-unowned stack at [] k l h = refl
-unowned stack at (x ∷ xs) zero l h = absurd (omega arith)
-unowned stack at (x ∷ xs) (suc k) l h =
-    ap (λ b. cond b (Some x) (find (covers stack at) xs)) (h.others 0 x (omega arith) refl)
-    ∙ unowned stack at xs k (omega arith) (uncovered_tail stack at x xs k h)
-
-pub uncovered_none : (stack at : ℕ) (ts : List Thread) → Uncovered stack at ts 0
-uncovered_none stack at ts = record { others = λ j t l e. absurd (omega arith) }
-
--- the thread in whose stack an address is, and where it stands
-pub record Owns (stack at : ℕ) (threads : List Thread) (place : ℕ) (t : Thread) : Type 0 where
-  pub got : slice_get threads place ≡ Some t
-  pub owned : find (covers stack at) threads ≡ Some t
-  pub below : base_of t ≤ at
-  pub above : at < base_of t + stack
-
-pub owns : (stack at : ℕ) (ts slice : List Thread) (k : ℕ) (t : Thread) → slice ≡ ts → IsOwnerAt stack at slice k → t ≡ get_or ts k t → Owns stack at ts k t
-owns stack at ts slice k t e h r =
-    let i : IsOwnerAt stack at ts k = subst (λ xs. IsOwnerAt stack at xs k) e h in
-    let g : slice_get ts k ≡ Some t = slice_get-get_or ts k t i.within ∙ ap Some (sym r) in
-    let b = i.inside t g in
-    record { got = g; owned = i.found ∙ g; below = b.0; above = b.1 }
 
 -- a thread that is found has the number
 pub found-number : (n : ℕ) (ts : List Thread) (t : Thread) → find (is_named n) ts ≡ Some t → t.number ≡ n
@@ -269,9 +209,6 @@ all_used (suc n) ts h =
 pub place_cut : (n : ℕ) (ts slice : List Thread) (k : ℕ) → slice ≡ ts → IsPlaceOf n slice k → without n ts ≡ remove ts k
 place_cut n ts slice k e h = let i : IsPlaceOf n ts k = subst (λ xs. IsPlaceOf n xs k) e h in i.cut
 
--- waking keeps who a thread is
-pub woken_on-number : (at : ℕ) (t : Thread) → (woken_on at t).number ≡ t.number
-woken_on-number at t = elim (sleeps_on at t) as (λ b. (cond b (woken t) t).number ≡ t.number) [ true ↦ refl | false ↦ refl ]
-
-pub woken_on-slot : (at : ℕ) (t : Thread) → (woken_on at t).slot ≡ t.slot
-woken_on-slot at t = elim (sleeps_on at t) as (λ b. (cond b (woken t) t).slot ≡ t.slot) [ true ↦ refl | false ↦ refl ]
+-- where numbers rise, a thread stands at the place of its number
+pub place_rising : (ts : List Thread) (k : ℕ) (t : Thread) → AreOrderedBy (λ t u. t.number < u.number) ts → slice_get ts k ≡ Some t → IsPlaceOf t.number ts k
+place_rising ts k t rising e = place_here t.number ts k t (record { others = λ j u l g. let less = rising j k u t l g e in λ q. absurd (omega arith) }) e refl

@@ -1,5 +1,5 @@
 -- What the instructions on threads, mutexes, conditions and alerts do.
-use Rattle.std.specs.Prelude.{ℕ, ℤ, ◌+◌, ◌&&◌, ◌==◌, ◌≡◌, nat_lt, Bool, true, false, if◌then◌else◌, List, [], ◌∷◌, ◌++◌, map, fold, Option, Some, None, ◌-◌, ◌^◌, ◌<◌, ◌≤◌, replicate, slice_get, slice_set}
+use Rattle.std.specs.Prelude.{ℕ, ℤ, ◌+◌, ◌==◌, ◌≡◌, Bool, true, false, if◌then◌else◌, List, [], ◌∷◌, ◌++◌, map, Option, Some, None, ◌-◌, ◌^◌, ◌<◌, ◌≤◌, replicate, slice_get, slice_set}
 use Rattle.std.specs.List.{list_any}
 use Rattle.m3_base.specs.Words.{add_words}
 use Rattle.m3_isa.specs.declared.instructions.Instr.{Instr}
@@ -12,7 +12,7 @@ use Rattle.m3_threads.specs.declared.answers.Done.TheVariants.{Went, Jumped, Sle
 use Rattle.m3_threads.specs.declared.status.Thread.{Thread}
 use Rattle.m3_threads.specs.declared.status.Status.{Status}
 use Rattle.m3_threads.specs.declared.status.Status.TheVariants.{Ready, Wants, Waits}
-use Rattle.m3_threads.specs.All.{Everyone, updated, base_of_slot}
+use Rattle.m3_threads.specs.All.{Everyone, updated, base_of_slot, queue_place}
 use Rattle.m3_threads.specs.Spaces.{held, replaceable, put_inside, put_outside}
 
 -- what an instruction leaves: its answer, the threads and their stacks, and the memory outside
@@ -108,14 +108,6 @@ sleeps_on_at _ at t = false
 abbrev pub sleeps_on : ℕ → Thread → Bool
 sleeps_on at t = sleeps_on_at t.status at t
 
--- its place in the queues
-abbrev pub queue_place_at : Status → ℕ
-queue_place_at (Waits mutex condition place alertable) = place
-queue_place_at _ = 0
-
-abbrev pub queue_place : Thread → ℕ
-queue_place t = queue_place_at t.status
-
 -- a woken thread wants its mutex again
 abbrev pub woken_at : Status → Status
 woken_at (Waits mutex condition place alertable) = Wants mutex
@@ -123,18 +115,6 @@ woken_at status = status
 
 abbrev pub woken : Thread → Thread
 woken t = record t { status = woken_at t.status }
-
--- t sleeps longer than the best so far
-abbrev pub is_before : Thread → Option Thread → Bool
-is_before t None = true
-is_before t (Some best) = nat_lt (queue_place t) (queue_place best)
-
-abbrev pub longer : ℕ → Option Thread → Thread → Option Thread
-longer at best t = if sleeps_on at t && is_before t best then Some t else best
-
--- who sleeps longest on a condition: the one with the lowest place
-abbrev pub longest : ℕ → List Thread → Option Thread
-longest at threads = fold (longer at) None threads
 
 -- the thread sleeps on the condition, and nobody who does has a lower place, or nobody sleeps there
 abbrev pub SleepsLongest : ℕ → List Thread → Option Thread → Type 0
@@ -150,9 +130,13 @@ wakened_by None threads = threads
 wakened_by (Some t) threads = updated woken t.number threads
 
 -- SIG wakes the longest sleeper
-abbrev pub signals : Thread → Instr → Everyone → Memory → After
-signals t i all memory =
-    changes Went gone_on t.number (with_threads all (wakened_by (longest (reg t.regs i.a) all.threads) all.threads)) memory
+abbrev pub wakes : Thread → Option Thread → Everyone → Memory → After
+wakes t sleeper all memory = changes Went gone_on t.number (with_threads all (wakened_by sleeper all.threads)) memory
+
+pub record Signals (t : Thread) (i : Instr) (all : Everyone) (memory : Memory) (answer : Done) (new_all : Everyone) (new_memory : Memory) : Type 0 where
+  pub sleeper : Option Thread
+  pub longest : SleepsLongest (reg t.regs i.a) all.threads sleeper
+  pub after : IsAfter (wakes t sleeper all memory) answer new_all new_memory
 
 -- BCA wakes all
 abbrev pub woken_on : ℕ → Thread → Thread
@@ -163,8 +147,8 @@ broadcasts t i all memory =
     changes Went gone_on t.number (with_threads all (map (woken_on (reg t.regs i.a)) all.threads)) memory
 
 -- a thread at the next instruction with a word in a register
-abbrev pub answered : ℕ → ℕ → Thread → Thread
-answered a word t = gone_on (given a word t)
+abbrev pub gone_on_with : ℕ → ℕ → Thread → Thread
+gone_on_with a word t = gone_on (given a word t)
 
 -- JOIN of the thread whose cell register b holds
 abbrev pub joins : Thread → Instr → Everyone → Memory → (ℕ → Bool) → After
@@ -175,12 +159,16 @@ joins t i all memory can =
     then changes Jumped (jumped_to i.imm) t.number all memory
     else putting all memory can (add_words cell 2) 2 (λ all memory.
     loading all memory (held all memory (add_words cell 3)) (λ result.
-    changes Went (answered i.a result) t.number all memory)))
+    changes Went (gone_on_with i.a result) t.number all memory)))
 
 -- the threads without the one of this number
 abbrev pub without : ℕ → List Thread → List Thread
 without n [] = []
 without n (t ∷ ts) = if t.number == n then ts else t ∷ without n ts
+
+-- without a thread its slot's stack has no words
+abbrev pub ended : Thread → Everyone → Everyone
+ended t all = record all { threads = without t.number all.threads; stacks = slice_set all.stacks t.slot [] }
 
 -- ENDT
 abbrev pub ends : Thread → Instr → Everyone → Memory → (ℕ → Bool) → After
@@ -188,40 +176,40 @@ ends t i all memory can =
     loading all memory (held all memory (add_words t.regs.fp 2)) (λ cell.
     putting all memory can (add_words cell 3) (reg t.regs i.a) (λ all memory.
     putting all memory can (add_words cell 2) 1 (λ all memory.
-    record { answer = Went; all = with_threads all (without t.number all.threads); memory = memory })))
+    record { answer = Went; all = ended t all; memory = memory })))
 
 -- an alert sets the mark, and wakes a thread that sleeps at AWAIT
 abbrev pub alerted_at : Status → Status
 alerted_at (Waits mutex condition place true) = Wants mutex
 alerted_at status = status
 
-abbrev pub marked : Thread → Thread
-marked t = record t { alerted = true; status = alerted_at t.status }
+abbrev pub alert_marked : Thread → Thread
+alert_marked t = record t { alerted = true; status = alerted_at t.status }
 
 -- ALERT of the thread whose cell register a holds
 abbrev pub alerts : Thread → Instr → Everyone → Memory → After
 alerts t i all memory =
     loading all memory (held all memory (add_words (reg t.regs i.a) 1)) (λ n.
-    changes Went gone_on t.number (with_threads all (updated marked n all.threads)) memory)
+    changes Went gone_on t.number (with_threads all (updated alert_marked n all.threads)) memory)
 
-abbrev pub unmarked : Thread → Thread
-unmarked t = record t { alerted = false }
+abbrev pub alert_cleared : Thread → Thread
+alert_cleared t = record t { alerted = false }
 
 -- TALERT
 abbrev pub tests_alert : Thread → Instr → Everyone → Memory → After
 tests_alert t i all memory =
-    changes Went (λ u. answered i.a (flag t.alerted) (unmarked u)) t.number all memory
+    changes Went (λ u. gone_on_with i.a (flag t.alerted) (alert_cleared u)) t.number all memory
 
 -- AWAIT, first and once woken
 abbrev pub alert_waits_at : Status → Thread → Instr → Everyone → Memory → (ℕ → Bool) → After
 alert_waits_at (Wants mutex) t i all memory can =
     putting all memory can (holder_at t i.a) (t.number + 1)
-    (changes Went (λ u. answered i.c (flag t.alerted) (unmarked u)) t.number)
+    (changes Went (λ u. gone_on_with i.c (flag t.alerted) (alert_cleared u)) t.number)
 alert_waits_at _ t i all memory can =
     loading all memory (held all memory (holder_at t i.a)) (λ holder.
     if holder == t.number + 1
     then (if t.alerted
-    then changes Went (λ u. answered i.c 1 (unmarked u)) t.number all memory
+    then changes Went (λ u. gone_on_with i.c 1 (alert_cleared u)) t.number all memory
     else putting all memory can (holder_at t i.a) 0 (sleeps t i true))
     else changes Jumped (jumped_to i.imm) t.number all memory)
 
@@ -232,7 +220,7 @@ alert_waits t i all memory can = alert_waits_at t.status t i all memory can
 abbrev pub alert_joins : Thread → Instr → Everyone → Memory → (ℕ → Bool) → After
 alert_joins t i all memory can =
     if t.alerted
-    then changes Went (λ u. answered i.a 0 (given i.c 1 (unmarked u))) t.number all memory
+    then changes Went (λ u. gone_on_with i.a 0 (given i.c 1 (alert_cleared u))) t.number all memory
     else joins (given i.c 0 t) i (with_threads all (updated (given i.c 0) t.number all.threads)) memory can
 
 -- the registers of a thread that starts
@@ -256,7 +244,7 @@ at_start allowed stack = record {
   forks = 0;
   waits = 0;
   threads = started 0 0 0 ∷ [];
-  stacks = slice_set (replicate allowed (replicate stack 0)) 0 (started_stack stack (2 ^ 32));
+  stacks = slice_set (replicate allowed []) 0 (started_stack stack (2 ^ 32));
 }
 
 -- FORK: a new thread in a slot, with its closure in word 6

@@ -1,9 +1,10 @@
 -- Who may go, and who goes.
-use Rattle.std.specs.Prelude.{ℕ, ◌≡◌, ◌<◌, ◌↔◌, ◌==◌, ◌||◌, ◌&&◌, not, Bool, true, false, Option, Some, None}
+use Rattle.std.specs.Prelude.{ℕ, ◌+◌, ◌^◌, ◌≡◌, ◌<◌, ◌↔◌, IsSome, ◌==◌, ◌||◌, ◌&&◌, not, Bool, true, false, Option, Some, None}
 use Rattle.m3_base.specs.Words.{add_words}
 use Rattle.m3_isa.specs.declared.instructions.Op.{Op}
 use Rattle.m3_isa.specs.declared.instructions.Op.TheVariants.{Acq, Join, Ajoin}
 use Rattle.m3_isa.specs.declared.instructions.Instr.{Instr}
+use Rattle.m3_isa.specs.Instructions.{IsInstruction}
 use Rattle.m3_isa.specs.Memory.{Memory}
 use Rattle.m3_isa.specs.Effects.{reg}
 use Rattle.m3_threads.specs.declared.status.Thread.{Thread}
@@ -22,8 +23,8 @@ status_at_of _ a b = Ready
 abbrev pub status_at : Instr → Status
 status_at i = status_at_of i.op i.a i.b
 
-abbrev pub standing : Status → Thread → Thread
-standing status t = record t { status = status }
+abbrev pub with_status : Status → Thread → Thread
+with_status status t = record t { status = status }
 
 -- a mutex is free, or can't be loaded
 abbrev pub is_free : Option ℕ → Bool
@@ -88,3 +89,12 @@ IsAwake t = IsAwakeAt t.status
 abbrev pub of_thread : {A : Type 0} → (Thread → A) → Option Thread → Option A
 of_thread part None = None
 of_thread part (Some t) = Some (part t)
+
+-- an instruction of this operation may be carried out by the thread of a number: it is there and awake,
+-- and there is room in the counts
+pub record CanDo (op : Op) (all : Everyone) (thread : ℕ) (i : Instr) : Type 0 where
+  pub instruction : IsInstruction i
+  pub operation : i.op ≡ op
+  pub there : IsSome (thread_named all thread)
+  pub counted : all.forks + all.waits < 2 ^ 63
+  pub awake : (t : Thread) → thread_named all thread ≡ Some t → IsAwake t

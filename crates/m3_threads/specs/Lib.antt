@@ -2,5 +2,5 @@ pub mod All
 pub mod Spaces
 pub mod Going
 pub mod Actions
-pub mod Places
 pub mod Lending
+pub mod PlacesInside

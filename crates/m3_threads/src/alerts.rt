@@ -5,9 +5,8 @@ use m3_isa::{Instr, Op, Words};
 
 impl Threads {
     ghost use Rattle.std.specs.Prelude.{◌≡◌, ◌≤◌, ℕ, ◌+◌, ◌<◌, ◌^◌, IsSome, Some};
-    ghost use Rattle.m3_isa.specs.Instructions.{IsInstruction};
     ghost use Rattle.m3_threads.specs.All.{thread_named};
-    ghost use Rattle.m3_threads.specs.Going.{IsAwake};
+    ghost use Rattle.m3_threads.specs.Going.{CanDo};
     ghost use Rattle.m3_threads.specs.declared.status.Thread.{Thread as OneThread};
     ghost use Rattle.m3_threads.specs.Actions.{IsAfter, alerts, tests_alert, alert_waits, alert_waits_at};
     ghost use Rattle.m3_threads.specs.declared.status.Status.TheVariants.{Wants, Ready};
@@ -15,14 +14,11 @@ impl Threads {
 
     /// TALERT: says in register a whether the own mark is set, and clears it.
     pub fn test_alert<W: Words>(&mut self, thread: u64, mem: &mut W, i: Instr) -> Done
-        requires instruction { IsInstruction i }
-        requires operation { i.op ≡ Talert }
-        requires there { IsSome (thread_named self.old thread) }
-        requires counted { self.old.forks + self.old.waits < 2 ^ 63 }
-        requires awake { (t : OneThread) → thread_named self.old thread ≡ Some t → IsAwake t }
+        requires { CanDo Talert self.old thread i }
         ensures after { (t : OneThread) → thread_named self.old thread ≡ Some t
             → IsAfter (tests_alert t i self.old (W.holds mem.old)) result self.new (W.holds mem.new) }
         ensures writable { (x : ℕ) → W.writable mem.new x ≡ W.writable mem.old x }
+        ensures keeps { W.keeps mem.old mem.new }
         ensures counts { self.new.forks + self.new.waits ≤ self.old.forks + self.old.waits + 1 }
     {
         let t = self.thread(thread);
@@ -32,14 +28,11 @@ impl Threads {
 
     /// AWAIT: as WAIT, but an alert ends it, and register c says whether one did.
     pub fn alert_wait<W: Words>(&mut self, thread: u64, mem: &mut W, i: Instr) -> Done
-        requires instruction { IsInstruction i }
-        requires operation { i.op ≡ Await }
-        requires there { IsSome (thread_named self.old thread) }
-        requires counted { self.old.forks + self.old.waits < 2 ^ 63 }
-        requires awake { (t : OneThread) → thread_named self.old thread ≡ Some t → IsAwake t }
+        requires { CanDo Await self.old thread i }
         ensures after { (t : OneThread) → thread_named self.old thread ≡ Some t
             → IsAfter (alert_waits t i self.old (W.holds mem.old) (W.writable mem.old)) result self.new (W.holds mem.new) }
         ensures writable { (x : ℕ) → W.writable mem.new x ≡ W.writable mem.old x }
+        ensures keeps { W.keeps mem.old mem.new }
         ensures counts { self.new.forks + self.new.waits ≤ self.old.forks + self.old.waits + 1 }
     {
         let t = self.thread(thread);
@@ -57,6 +50,7 @@ impl Threads {
         requires counted { t.number < 2 ^ 63 }
         ensures after { (mutex : ℕ) → IsAfter (alert_waits_at (Wants mutex) t i self.old (W.holds mem.old) (W.writable mem.old)) result self.new (W.holds mem.new) }
         ensures writable { (x : ℕ) → W.writable mem.new x ≡ W.writable mem.old x }
+        ensures keeps { W.keeps mem.old mem.new }
         ensures counts { self.new.forks + self.new.waits ≤ self.old.forks + self.old.waits + 1 }
     {
         let holder_at = t.register(i.a).wrapping_add(1);
@@ -69,12 +63,15 @@ impl Threads {
 
     // A thread at AWAIT frees its mutex, if it holds it and isn't alerted.
     fn unlock<W: Words>(&mut self, t: Thread, mem: &mut W, i: Instr) -> Done
+        requires mutex { i.a < 16 }
+        requires condition { i.b < 16 }
         requires register { i.c < 16 }
         requires there { thread_named self.old t.number ≡ Some t }
         requires counted { t.number < 2 ^ 63 }
         requires waits { self.old.waits < 2 ^ 63 }
         ensures after { IsAfter (alert_waits_at Ready t i self.old (W.holds mem.old) (W.writable mem.old)) result self.new (W.holds mem.new) }
         ensures writable { (x : ℕ) → W.writable mem.new x ≡ W.writable mem.old x }
+        ensures keeps { W.keeps mem.old mem.new }
         ensures counts { self.new.forks + self.new.waits ≤ self.old.forks + self.old.waits + 1 }
     {
         let holder_at = t.register(i.a).wrapping_add(1);
@@ -99,14 +96,11 @@ impl Threads {
     /// ALERT: sets the mark of the thread whose cell register a holds, and wakes it where it sleeps at
     /// AWAIT.
     pub fn alert<W: Words>(&mut self, thread: u64, mem: &mut W, i: Instr) -> Done
-        requires instruction { IsInstruction i }
-        requires operation { i.op ≡ Alert }
-        requires there { IsSome (thread_named self.old thread) }
-        requires counted { self.old.forks + self.old.waits < 2 ^ 63 }
-        requires awake { (t : OneThread) → thread_named self.old thread ≡ Some t → IsAwake t }
+        requires { CanDo Alert self.old thread i }
         ensures after { (t : OneThread) → thread_named self.old thread ≡ Some t
             → IsAfter (alerts t i self.old (W.holds mem.old)) result self.new (W.holds mem.new) }
         ensures writable { (x : ℕ) → W.writable mem.new x ≡ W.writable mem.old x }
+        ensures keeps { W.keeps mem.old mem.new }
         ensures counts { self.new.forks + self.new.waits ≤ self.old.forks + self.old.waits + 1 }
     {
         let t = self.thread(thread);

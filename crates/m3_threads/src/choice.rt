@@ -20,9 +20,9 @@ fn status_at(i: Instr) -> Status
 impl Threads {
     ghost use Rattle.std.specs.Prelude.{ℕ, ◌≡◌, ◌==◌, ◌+◌, ◌<◌, ◌^◌, IsSome, Some, None, length};
     ghost use Rattle.m3_isa.specs.Instructions.{IsInstruction};
-    ghost use Rattle.m3_threads.specs.All.{thread_named, updated};
+    ghost use Rattle.m3_threads.specs.All.{thread_named, updated, NamesRegisters};
     ghost use Rattle.m3_threads.specs.Spaces.{held};
-    ghost use Rattle.m3_threads.specs.Going.{status_at as status_at_place, standing, may_go, may_go_in, IsLowest, IsChoice, NoneGoes};
+    ghost use Rattle.m3_threads.specs.Going.{status_at as status_at_place, with_status, may_go, may_go_in, IsLowest, IsChoice, NoneGoes};
     ghost use Rattle.m3_threads.specs.Actions.{with_threads};
 
     /// Sets the status of a thread that has come to an instruction.
@@ -30,7 +30,7 @@ impl Threads {
         requires instruction { IsInstruction i }
         requires there { IsSome (thread_named self.old thread) }
         requires counted { self.old.forks + self.old.waits < 2 ^ 63 }
-        ensures { self.new ≡ with_threads self.old (updated (standing (status_at_place i)) thread self.old.threads) }
+        ensures { self.new ≡ with_threads self.old (updated (with_status (status_at_place i)) thread self.old.threads) }
     {
         let t = self.thread(thread);
         self.set(thread, t.standing(status_at(i)));
@@ -83,6 +83,7 @@ impl Threads {
 
     // Whether a thread of these registers and this status may go.
     fn goes<W: Words>(&self, t: Thread, mem: &W) -> bool
+        requires { NamesRegisters t.status }
         ensures { result ≡ may_go_in (held self.now (W.holds mem.now)) t }
     {
         match t.status {

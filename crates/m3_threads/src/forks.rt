@@ -1,6 +1,6 @@
 use crate::answers::ThreadsFull;
 use crate::list::lowest_slot;
-use crate::stacks::{blank_stacks, frame, lay_out};
+use crate::stacks::{blank_stacks, lay_out, lay_out_fork};
 use crate::status::Thread;
 use crate::threads::Threads;
 use m3_base::NoMemory;
@@ -21,7 +21,7 @@ impl Threads {
     {
         let mut list = Vec::with_capacity(alloc, threads as usize)?;
         let mut stacks = blank_stacks(alloc, threads as usize, stack as usize)?;
-        frame(&mut stacks[0], 1 << 32);
+        lay_out(&mut stacks[0], stack as usize, 1 << 32);
         list.push_reserved(Thread::started(0, 0, 0));
         Ok(Threads {
             allowed: threads,
@@ -45,7 +45,12 @@ impl Threads {
             return Err(ThreadsFull);
         }
         let slot = lowest_slot(&self.list, self.allowed);
-        lay_out(&mut self.stacks[slot as usize], closure, cell);
+        lay_out_fork(
+            &mut self.stacks[slot as usize],
+            self.stack as usize,
+            closure,
+            cell,
+        );
         self.forks += 1;
         self.list
             .push_reserved(Thread::started(self.forks, slot, first));

@@ -5,9 +5,8 @@ use m3_isa::{Instr, Op, Words};
 
 impl Threads {
     ghost use Rattle.std.specs.Prelude.{◌≡◌, ◌≤◌, ℕ, ◌+◌, ◌<◌, ◌^◌, IsSome, Some};
-    ghost use Rattle.m3_isa.specs.Instructions.{IsInstruction};
     ghost use Rattle.m3_threads.specs.All.{thread_named};
-    ghost use Rattle.m3_threads.specs.Going.{IsAwake};
+    ghost use Rattle.m3_threads.specs.Going.{CanDo};
     ghost use Rattle.m3_threads.specs.declared.status.Thread.{Thread as OneThread};
     ghost use Rattle.m3_threads.specs.Actions.{IsAfter, joins, alert_joins, ends};
     ghost use Rattle.m3_isa.specs.declared.instructions.Op.TheVariants.{Join, Ajoin, Endt};
@@ -15,14 +14,11 @@ impl Threads {
     /// JOIN: the thread takes the result of the one whose cell register b holds, or jumps where that was
     /// taken before.
     pub fn join<W: Words>(&mut self, thread: u64, mem: &mut W, i: Instr) -> Done
-        requires instruction { IsInstruction i }
-        requires operation { i.op ≡ Join }
-        requires there { IsSome (thread_named self.old thread) }
-        requires counted { self.old.forks + self.old.waits < 2 ^ 63 }
-        requires awake { (t : OneThread) → thread_named self.old thread ≡ Some t → IsAwake t }
+        requires { CanDo Join self.old thread i }
         ensures after { (t : OneThread) → thread_named self.old thread ≡ Some t
             → IsAfter (joins t i self.old (W.holds mem.old) (W.writable mem.old)) result self.new (W.holds mem.new) }
         ensures writable { (x : ℕ) → W.writable mem.new x ≡ W.writable mem.old x }
+        ensures keeps { W.keeps mem.old mem.new }
         ensures counts { self.new.forks + self.new.waits ≤ self.old.forks + self.old.waits + 1 }
     {
         let t = self.thread(thread);
@@ -31,14 +27,11 @@ impl Threads {
 
     /// AJOIN: as JOIN, but an alert ends it, and register c says whether one did.
     pub fn alert_join<W: Words>(&mut self, thread: u64, mem: &mut W, i: Instr) -> Done
-        requires instruction { IsInstruction i }
-        requires operation { i.op ≡ Ajoin }
-        requires there { IsSome (thread_named self.old thread) }
-        requires counted { self.old.forks + self.old.waits < 2 ^ 63 }
-        requires awake { (t : OneThread) → thread_named self.old thread ≡ Some t → IsAwake t }
+        requires { CanDo Ajoin self.old thread i }
         ensures after { (t : OneThread) → thread_named self.old thread ≡ Some t
             → IsAfter (alert_joins t i self.old (W.holds mem.old) (W.writable mem.old)) result self.new (W.holds mem.new) }
         ensures writable { (x : ℕ) → W.writable mem.new x ≡ W.writable mem.old x }
+        ensures keeps { W.keeps mem.old mem.new }
         ensures counts { self.new.forks + self.new.waits ≤ self.old.forks + self.old.waits + 1 }
     {
         let t = self.thread(thread);
@@ -53,9 +46,11 @@ impl Threads {
     // A thread with these registers joins the one whose cell register b holds.
     fn join_from<W: Words>(&mut self, t: Thread, mem: &mut W, i: Instr) -> Done
         requires register { i.a < 16 }
+        requires cell { i.b < 16 }
         requires there { thread_named self.old t.number ≡ Some t }
         ensures after { IsAfter (joins t i self.old (W.holds mem.old) (W.writable mem.old)) result self.new (W.holds mem.new) }
         ensures writable { (x : ℕ) → W.writable mem.new x ≡ W.writable mem.old x }
+        ensures keeps { W.keeps mem.old mem.new }
         ensures counts { self.new.forks + self.new.waits ≤ self.old.forks + self.old.waits + 1 }
     {
         let cell = t.register(i.b);
@@ -78,14 +73,11 @@ impl Threads {
 
     /// ENDT: the thread's result is register a, and the thread ends.
     pub fn end<W: Words>(&mut self, thread: u64, mem: &mut W, i: Instr) -> Done
-        requires instruction { IsInstruction i }
-        requires operation { i.op ≡ Endt }
-        requires there { IsSome (thread_named self.old thread) }
-        requires counted { self.old.forks + self.old.waits < 2 ^ 63 }
-        requires awake { (t : OneThread) → thread_named self.old thread ≡ Some t → IsAwake t }
+        requires { CanDo Endt self.old thread i }
         ensures after { (t : OneThread) → thread_named self.old thread ≡ Some t
             → IsAfter (ends t i self.old (W.holds mem.old) (W.writable mem.old)) result self.new (W.holds mem.new) }
         ensures writable { (x : ℕ) → W.writable mem.new x ≡ W.writable mem.old x }
+        ensures keeps { W.keeps mem.old mem.new }
         ensures counts { self.new.forks + self.new.waits ≤ self.old.forks + self.old.waits + 1 }
     {
         let t = self.thread(thread);
@@ -98,7 +90,7 @@ impl Threads {
         if !self.store(cell.wrapping_add(2), 1, mem) {
             return Done::Trapped(2);
         }
-        self.remove(t.number);
+        self.remove(t);
         Done::Went
     }
 }

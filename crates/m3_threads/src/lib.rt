@@ -17,6 +17,3 @@ mod threads;
 pub use answers::{Done, ThreadsFull};
 pub use status::{Status, Thread};
 pub use threads::Threads;
-
-#[cfg(test)]
-mod tests;

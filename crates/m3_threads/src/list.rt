@@ -1,9 +1,8 @@
-ghost use Rattle.std.specs.Prelude.{◌≡◌, ◌+◌, ◌<◌, ◌&&◌, ◌≤◌, nat_le, nat_lt, length, map, vec_capacity, vec_len, MatchOption, None, find};
-ghost use Rattle.m3_threads.specs.All.{HaveSlots, base_of_slot};
-ghost use Rattle.m3_threads.specs.Places.{IsPlaceOf, IsNobody, IsOwnerAt};
-ghost use Rattle.m3_threads.specs.Spaces.{covers};
+ghost use Rattle.std.specs.Prelude.{◌≡◌, ◌+◌, ◌<◌, length, map, vec_capacity, MatchOption, None};
+ghost use Rattle.m3_threads.specs.All.{HoldsOfEach, NamesRegisters, base_of_slot};
+ghost use Rattle.m3_threads.specs.PlacesInside.{IsPlaceOf, IsNobody, IsLongestAt, IsLongestBelow};
 ghost use Rattle.std.specs.List.{list_any};
-ghost use Rattle.m3_threads.specs.Actions.{longest, longer, is_before, woken_on, IsLowestFree, uses};
+ghost use Rattle.m3_threads.specs.Actions.{SleepsLongest, woken_on, IsLowestFree, uses};
 
 use crate::status::Thread;
 
@@ -20,29 +19,6 @@ pub fn place_of(threads: &[Thread], number: u64) -> Option<usize>
     None
 }
 
-/// The place of the thread in whose stack an address is, if there is one.
-pub fn owner_of(threads: &[Thread], stack: u64, at: u64) -> Option<usize>
-    requires { HaveSlots 64 threads.now }
-    ensures { MatchOption result (find (covers stack at) threads.now ≡ None)
-        (IsOwnerAt stack at threads.now) }
-{
-    for (k, t) in threads.iter().enumerate() {
-        if is_in_slot(t.slot, stack, at) {
-            return Some(k);
-        }
-    }
-    None
-}
-
-/// Whether an address is in the stack of a slot.
-fn is_in_slot(slot: u32, stack: u64, at: u64) -> bool
-    requires { slot < 64 }
-    ensures { result ≡ (nat_le (base_of_slot slot) at && nat_lt at (base_of_slot slot + stack)) }
-{
-    let base = base_of_slot(slot);
-    base <= at && at - base < stack
-}
-
 /// The first address of a slot's stack.
 pub fn base_of_slot(slot: u32) -> u64
     requires { slot < 64 }
@@ -51,40 +27,39 @@ pub fn base_of_slot(slot: u32) -> u64
     (1 << 40) * (u64::from(slot) + 1)
 }
 
-/// Who sleeps longest on a condition, if anyone does.
-pub fn longest_asleep(threads: &[Thread], condition: u64) -> Option<Thread>
-    ensures { result ≡ longest condition threads.now }
+/// The place of the thread that sleeps longest on a condition, if anyone sleeps there.
+pub fn longest_asleep(threads: &[Thread], condition: u64) -> Option<usize>
+    requires { HoldsOfEach (λ t. NamesRegisters t.status) threads.now }
+    ensures { MatchOption result (SleepsLongest condition threads.now None)
+        (λ k. IsLongestAt condition threads.now k) }
 {
     let mut best = None;
-    for t in threads {
-        best = longer(condition, best, *t);
+    for k in 0..threads.len() {
+        best = longer(threads, condition, best, k);
     }
     best
 }
 
-// The one of two that sleeps longer on a condition.
-fn longer(condition: u64, best: Option<Thread>, t: Thread) -> Option<Thread>
-    ensures { result ≡ longer condition best t }
+// Whoever sleeps longest on a condition, of the one so far and the thread at a place.
+fn longer(threads: &[Thread], condition: u64, best: Option<usize>, k: usize) -> Option<usize>
+    requires registers { HoldsOfEach (λ t. NamesRegisters t.status) threads.now }
+    requires within { k < length threads.now }
+    requires so_far { IsLongestBelow condition threads.now k best }
+    ensures { IsLongestBelow condition threads.now (k + 1) result }
 {
-    if t.sleeps_on(condition) && is_before(&t, best) {
-        Some(t)
-    } else {
-        best
+    let t = &threads[k];
+    if !t.sleeps_on(condition) {
+        return best;
     }
-}
-
-// Whether a thread sleeps longer than the best so far.
-fn is_before(t: &Thread, best: Option<Thread>) -> bool
-    ensures { result ≡ is_before t.now best }
-{
     match best {
-        Some(other) => t.queue_place() < other.queue_place(),
-        None => true,
+        Some(b) if threads[b].queue_place() <= t.queue_place() => best,
+        _ => Some(k),
     }
 }
 
 /// Wakes all that sleep on a condition.
 pub fn wake_sleepers(threads: &mut Vec<Thread>, condition: u64)
+    requires { HoldsOfEach (λ t. NamesRegisters t.status) threads.old.items }
     ensures threads { threads.new.items ≡ map (woken_on condition) threads.old.items }
     ensures capacity { vec_capacity threads.new ≡ vec_capacity threads.old }
 {
@@ -96,6 +71,7 @@ pub fn wake_sleepers(threads: &mut Vec<Thread>, condition: u64)
 
 // The thread, woken if it sleeps on a condition.
 fn woken_on(condition: u64, t: Thread) -> Thread
+    requires { NamesRegisters t.status }
     ensures { result ≡ woken_on condition t }
 {
     if t.sleeps_on(condition) { t.woken() } else { t }

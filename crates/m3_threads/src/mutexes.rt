@@ -5,23 +5,19 @@ use m3_isa::{Instr, Op, Words};
 
 impl Threads {
     ghost use Rattle.std.specs.Prelude.{◌≡◌, ◌≤◌, ℕ, ◌+◌, ◌<◌, ◌^◌, IsSome, Some, false};
-    ghost use Rattle.m3_isa.specs.Instructions.{IsInstruction};
     ghost use Rattle.m3_threads.specs.All.{thread_named};
-    ghost use Rattle.m3_threads.specs.Going.{IsAwake};
+    ghost use Rattle.m3_threads.specs.Going.{CanDo};
     ghost use Rattle.m3_threads.specs.declared.status.Thread.{Thread as OneThread};
-    ghost use Rattle.m3_threads.specs.Actions.{IsAfter, frees, sleeps, acquires, releases, waits, signals, broadcasts, longest, SleepsLongest};
+    ghost use Rattle.m3_threads.specs.Actions.{IsAfter, frees, sleeps, acquires, releases, waits, Signals, broadcasts};
     ghost use Rattle.m3_isa.specs.declared.instructions.Op.TheVariants.{Acq, Rel, Wait, Sig, Bca};
 
     /// ACQ: the thread becomes the holder of the mutex in register a.
     pub fn acquire<W: Words>(&mut self, thread: u64, mem: &mut W, i: Instr) -> Done
-        requires instruction { IsInstruction i }
-        requires operation { i.op ≡ Acq }
-        requires there { IsSome (thread_named self.old thread) }
-        requires counted { self.old.forks + self.old.waits < 2 ^ 63 }
-        requires awake { (t : OneThread) → thread_named self.old thread ≡ Some t → IsAwake t }
+        requires { CanDo Acq self.old thread i }
         ensures after { (t : OneThread) → thread_named self.old thread ≡ Some t
             → IsAfter (acquires t i self.old (W.holds mem.old) (W.writable mem.old)) result self.new (W.holds mem.new) }
         ensures writable { (x : ℕ) → W.writable mem.new x ≡ W.writable mem.old x }
+        ensures keeps { W.keeps mem.old mem.new }
         ensures counts { self.new.forks + self.new.waits ≤ self.old.forks + self.old.waits + 1 }
     {
         self.take_mutex(thread, mem, i)
@@ -29,14 +25,11 @@ impl Threads {
 
     /// REL: the thread frees the mutex in register a, or jumps where it is not the holder.
     pub fn release<W: Words>(&mut self, thread: u64, mem: &mut W, i: Instr) -> Done
-        requires instruction { IsInstruction i }
-        requires operation { i.op ≡ Rel }
-        requires there { IsSome (thread_named self.old thread) }
-        requires counted { self.old.forks + self.old.waits < 2 ^ 63 }
-        requires awake { (t : OneThread) → thread_named self.old thread ≡ Some t → IsAwake t }
+        requires { CanDo Rel self.old thread i }
         ensures after { (t : OneThread) → thread_named self.old thread ≡ Some t
             → IsAfter (releases t i self.old (W.holds mem.old) (W.writable mem.old)) result self.new (W.holds mem.new) }
         ensures writable { (x : ℕ) → W.writable mem.new x ≡ W.writable mem.old x }
+        ensures keeps { W.keeps mem.old mem.new }
         ensures counts { self.new.forks + self.new.waits ≤ self.old.forks + self.old.waits + 1 }
     {
         let t = self.thread(thread);
@@ -59,14 +52,11 @@ impl Threads {
     /// WAIT: the thread frees the mutex in register a and sleeps on the condition in register b, or jumps
     /// where it is not the holder; once woken, it takes the mutex again.
     pub fn wait<W: Words>(&mut self, thread: u64, mem: &mut W, i: Instr) -> Done
-        requires instruction { IsInstruction i }
-        requires operation { i.op ≡ Wait }
-        requires there { IsSome (thread_named self.old thread) }
-        requires counted { self.old.forks + self.old.waits < 2 ^ 63 }
-        requires awake { (t : OneThread) → thread_named self.old thread ≡ Some t → IsAwake t }
+        requires { CanDo Wait self.old thread i }
         ensures after { (t : OneThread) → thread_named self.old thread ≡ Some t
             → IsAfter (waits t i self.old (W.holds mem.old) (W.writable mem.old)) result self.new (W.holds mem.new) }
         ensures writable { (x : ℕ) → W.writable mem.new x ≡ W.writable mem.old x }
+        ensures keeps { W.keeps mem.old mem.new }
         ensures counts { self.new.forks + self.new.waits ≤ self.old.forks + self.old.waits + 1 }
     {
         let t = self.thread(thread);
@@ -91,18 +81,13 @@ impl Threads {
 
     /// SIG: wakes the longest sleeper on the condition in register a.
     pub fn wake_one<W: Words>(&mut self, thread: u64, mem: &mut W, i: Instr) -> Done
-        requires instruction { IsInstruction i }
-        requires operation { i.op ≡ Sig }
-        requires there { IsSome (thread_named self.old thread) }
-        requires counted { self.old.forks + self.old.waits < 2 ^ 63 }
-        requires awake { (t : OneThread) → thread_named self.old thread ≡ Some t → IsAwake t }
+        requires { CanDo Sig self.old thread i }
         ensures after { (t : OneThread) → thread_named self.old thread ≡ Some t
-            → IsAfter (signals t i self.old (W.holds mem.old)) result self.new (W.holds mem.new) }
-        ensures longest { (at : ℕ) → SleepsLongest at self.old.threads (longest at self.old.threads) }
+            → Signals t i self.old (W.holds mem.old) result self.new (W.holds mem.new) }
         ensures writable { (x : ℕ) → W.writable mem.new x ≡ W.writable mem.old x }
+        ensures keeps { W.keeps mem.old mem.new }
         ensures counts { self.new.forks + self.new.waits ≤ self.old.forks + self.old.waits + 1 }
     {
-        let _ = &mem;
         let t = self.thread(thread);
         self.wake_longest(t.register(i.a));
         self.go_on_at(thread);
@@ -111,17 +96,13 @@ impl Threads {
 
     /// BCA: wakes all that sleep on the condition in register a.
     pub fn wake_all<W: Words>(&mut self, thread: u64, mem: &mut W, i: Instr) -> Done
-        requires instruction { IsInstruction i }
-        requires operation { i.op ≡ Bca }
-        requires there { IsSome (thread_named self.old thread) }
-        requires counted { self.old.forks + self.old.waits < 2 ^ 63 }
-        requires awake { (t : OneThread) → thread_named self.old thread ≡ Some t → IsAwake t }
+        requires { CanDo Bca self.old thread i }
         ensures after { (t : OneThread) → thread_named self.old thread ≡ Some t
             → IsAfter (broadcasts t i self.old (W.holds mem.old)) result self.new (W.holds mem.new) }
         ensures writable { (x : ℕ) → W.writable mem.new x ≡ W.writable mem.old x }
+        ensures keeps { W.keeps mem.old mem.new }
         ensures counts { self.new.forks + self.new.waits ≤ self.old.forks + self.old.waits + 1 }
     {
-        let _ = &mem;
         let t = self.thread(thread);
         self.wake_on(t.register(i.a));
         self.go_on_at(thread);
@@ -130,11 +111,13 @@ impl Threads {
 
     // The thread becomes the holder of the mutex in register a.
     pub(crate) fn take_mutex<W: Words>(&mut self, thread: u64, mem: &mut W, i: Instr) -> Done
+        requires register { i.a < 16 }
         requires there { IsSome (thread_named self.old thread) }
         requires counted { self.old.forks + self.old.waits < 2 ^ 63 }
         ensures after { (t : OneThread) → thread_named self.old thread ≡ Some t
             → IsAfter (acquires t i self.old (W.holds mem.old) (W.writable mem.old)) result self.new (W.holds mem.new) }
         ensures writable { (x : ℕ) → W.writable mem.new x ≡ W.writable mem.old x }
+        ensures keeps { W.keeps mem.old mem.new }
         ensures counts { self.new.forks + self.new.waits ≤ self.old.forks + self.old.waits + 1 }
     {
         let t = self.thread(thread);

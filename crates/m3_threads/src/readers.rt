@@ -1,4 +1,5 @@
 use crate::list::{base_of_slot, place_of};
+use crate::status::Status;
 use crate::threads::Threads;
 use m3_isa::Regs;
 
@@ -7,14 +8,14 @@ impl Threads {
     ghost use Rattle.std.specs.Option.{option_copied, option_copied_mut};
     ghost use Rattle.std.specs.Borrow.{sem};
     ghost use Rattle.m3_threads.specs.Lending.{LendsRegs, LendsWords, LendsStack};
-    ghost use Rattle.m3_threads.specs.All.{thread_named, base_of, words_of, stack_in, IsSound};
+    ghost use Rattle.m3_threads.specs.All.{thread_named, base_of, words_of, stack_in, AreSoundThreads};
     ghost use Rattle.m3_threads.specs.Going.{of_thread};
 
     /// The number of the thread at a place of the list, from 0, and none exactly past the list. The list
     /// is in the order of the numbers, and each thread has a slot of its own.
     pub fn number(&self, place: u32) -> Option<u64>
         ensures number { result ≡ of_thread (λ t. t.number) (slice_get self.now.threads place) }
-        ensures sound { IsSound self.now.allowed self.now.stack self.now.forks self.now.threads self.now.stacks }
+        ensures sound { AreSoundThreads self.now.allowed self.now.stack self.now.forks self.now.waits self.now.threads self.now.stacks }
     {
         if (place as usize) < self.list.len() {
             Some(self.list[place as usize].number)
@@ -29,6 +30,16 @@ impl Threads {
     {
         match place_of(&self.list, thread) {
             Some(k) => Some(&self.list[k].regs),
+            None => None,
+        }
+    }
+
+    /// What a thread waits for, and none exactly where no thread of that number is there.
+    pub fn status(&self, thread: u64) -> Option<Status>
+        ensures { result ≡ of_thread (λ t. t.status) (thread_named self.now thread) }
+    {
+        match self.find(thread) {
+            Some(t) => Some(t.status),
             None => None,
         }
     }
@@ -69,19 +80,10 @@ impl Threads {
         }
     }
 
-    /// The words of a thread's stack, to be changed, and none exactly where no thread of that number is
-    /// there. What is written stays, as at `stack_mut`; the clause that says so stands there.
-    pub fn words_mut(&mut self, thread: u64) -> Option<&mut [u64]>
-        ensures { option_copied_mut result ≡ of_thread (words_of self.old) (thread_named self.old thread) }
-    {
-        match self.find(thread) {
-            Some(t) => Some(self.words_in_mut(t.slot)),
-            None => None,
-        }
-    }
-
     /// The words of the stack of a thread that is there, to be changed. After the loan they are what was
-    /// written, and everything else is as it was.
+    /// written, and everything else is as it was. A turn of a thread borrows them so, beside a copy of its
+    /// registers, while what isn't of `Threads` (globals, constants, a heap) stands free; whatever else it
+    /// needs of `Threads`, a word of another stack too, waits until the loan is over.
     pub fn stack_mut(&mut self, thread: u64) -> &mut [u64]
         requires { IsSome (thread_named self.old thread) }
         ensures* writes_back { sem 𝓛 (LendsWords self.entry thread result) }

@@ -1,40 +1,48 @@
 //! The words of the stacks.
-ghost use Rattle.std.specs.Prelude.{◌≡◌, ◌≤◌, ◌<◌, IfOk, map, replicate, slice_set, vec_len};
+ghost use Rattle.std.specs.Prelude.{◌≡◌, ◌≤◌, IfOk, [], map, replicate, slice_set, vec_len, vec_capacity};
 ghost use Rattle.m3_threads.specs.Actions.{started_stack};
+ghost use Rattle.m3_threads.specs.PlacesInside.{HaveRoom};
 
 use m3_base::NoMemory;
 use std::alloc::Global;
 
-/// Stacks of so many words, all of them 0.
+/// Stacks without words, each with room for so many.
 pub fn blank_stacks(alloc: Global, slots: usize, words: usize) -> Result<Vec<Vec<u64>>, NoMemory>
-    ensures { IfOk result (λ stacks. map (λ v. v.items) stacks.items ≡ replicate slots (replicate words 0)) }
+    ensures blank { IfOk result (λ stacks. map (λ v. v.items) stacks.items ≡ replicate slots []) }
+    ensures room { IfOk result (λ stacks. HaveRoom words stacks.items) }
 {
     let mut stacks = Vec::with_capacity(alloc, slots)?;
     for _slot in 0..slots {
-        stacks.push_reserved(vec![in alloc; 0; words]?);
+        stacks.push_reserved(Vec::with_capacity(alloc, words)?);
     }
     Ok(stacks)
 }
 
-/// Writes the first frame of a thread, whose cell is given, into a stack of zeros.
-pub fn frame(words: &mut Vec<u64>, cell: u64)
-    requires large { 8 ≤ vec_len words.old }
-    requires blank { words.old.items ≡ replicate (vec_len words.old) 0 }
-    ensures words { words.new.items ≡ started_stack (vec_len words.old) cell }
-    ensures length { vec_len words.new ≡ vec_len words.old }
+/// Makes a stack without words that of a thread that starts: its first frame returns to no instruction
+/// and has its cell in word 2, and every other word is 0.
+pub fn lay_out(words: &mut Vec<u64>, stack: usize, cell: u64)
+    requires large { 8 ≤ stack }
+    requires blank { words.old.items ≡ [] }
+    requires room { stack ≤ vec_capacity words.old }
+    ensures words { words.new.items ≡ started_stack stack cell }
+    ensures capacity { vec_capacity words.new ≡ vec_capacity words.old }
 {
+    for _word in 0..stack {
+        words.push_reserved(0);
+    }
     words[0] = u64::MAX;
     words[1] = 0;
     words[2] = cell;
 }
 
-/// Makes a stack that of a forked thread, with its closure and its cell.
-pub fn lay_out(words: &mut Vec<u64>, closure: u64, cell: u64)
-    requires large { 8 ≤ vec_len words.old }
-    ensures words { words.new.items ≡ slice_set (started_stack (vec_len words.old) cell) 6 closure }
-    ensures length { vec_len words.new ≡ vec_len words.old }
+/// The same of a forked thread, with its closure.
+pub fn lay_out_fork(words: &mut Vec<u64>, stack: usize, closure: u64, cell: u64)
+    requires large { 8 ≤ stack }
+    requires blank { words.old.items ≡ [] }
+    requires room { stack ≤ vec_capacity words.old }
+    ensures words { words.new.items ≡ slice_set (started_stack stack cell) 6 closure }
+    ensures capacity { vec_capacity words.new ≡ vec_capacity words.old }
 {
-    words.fill(0);
-    frame(words, cell);
+    lay_out(words, stack, cell);
     words[6] = closure;
 }

@@ -26,17 +26,16 @@ pub struct Thread {
 impl Thread {
     ghost use Rattle.std.specs.Prelude.{◌≡◌, ◌<◌};
     ghost use Rattle.m3_isa.specs.Effects.{reg};
-    ghost use Rattle.m3_threads.specs.Going.{standing};
-    ghost use Rattle.m3_threads.specs.Actions.{gone_on, jumped_to, asleep, given, unmarked, marked, woken, sleeps_on, queue_place, started};
+    ghost use Rattle.m3_threads.specs.All.{queue_place, NamesRegisters};
+    ghost use Rattle.m3_threads.specs.Going.{with_status};
+    ghost use Rattle.m3_threads.specs.Actions.{gone_on, jumped_to, asleep, given, alert_cleared, alert_marked, woken, sleeps_on, started};
 
     /// The content of a register.
     pub(crate) fn register(&self, n: u8) -> u64
+        requires { n < 16 }
         ensures { result ≡ reg self.now.regs n }
     {
-        match self.regs.r.get(n as usize) {
-            Some(word) => *word,
-            None => 0,
-        }
+        self.regs.r[n as usize]
     }
 
     /// The thread at the next instruction.
@@ -87,7 +86,7 @@ impl Thread {
 
     /// The thread with its alert mark cleared.
     pub(crate) fn unmarked(self) -> Thread
-        ensures { result ≡ unmarked self }
+        ensures { result ≡ alert_cleared self }
     {
         Thread {
             alerted: false,
@@ -97,7 +96,7 @@ impl Thread {
 
     /// The thread once it is alerted.
     pub(crate) fn marked(self) -> Thread
-        ensures { result ≡ marked self }
+        ensures { result ≡ alert_marked self }
     {
         let status = match self.status {
             Status::Waits(mutex, _, _, true) => Status::Wants(mutex),
@@ -123,6 +122,7 @@ impl Thread {
 
     /// Whether the thread sleeps on a condition.
     pub(crate) fn sleeps_on(&self, condition: u64) -> bool
+        requires { NamesRegisters self.now.status }
         ensures { result ≡ sleeps_on condition self.now }
     {
         match self.status {
@@ -143,7 +143,7 @@ impl Thread {
 
     /// The thread with a status.
     pub(crate) fn standing(self, status: Status) -> Thread
-        ensures { result ≡ standing status self }
+        ensures { result ≡ with_status status self }
     {
         Thread { status, ..self }
     }

@@ -1,10 +1,10 @@
-ghost use Rattle.std.specs.Prelude.{◌≡◌, ◌<◌, ◌≤◌, ◌+◌, ◌-◌, ◌*◌, ◌^◌};
-ghost use Rattle.m3_threads.specs.All.{base_of_slot};
-
-use crate::list::{base_of_slot, longest_asleep, owner_of, place_of, wake_sleepers};
+use crate::list::{longest_asleep, place_of, wake_sleepers};
 use crate::status::Thread;
 use m3_isa::{Instr, Words};
 use std::marker::Model;
+
+// How far the stacks of two slots are apart.
+const SLOT: u64 = 1 << 40;
 
 /// The threads that have not ended, with their stacks.
 #[derive(Drop)]
@@ -19,32 +19,45 @@ pub struct Threads {
 
 impl Model for Threads {
     ghost use Rattle.std.specs.Prelude.{◌≤◌, map, vec_capacity};
-    ghost use Rattle.m3_threads.specs.All.{Everyone, IsSound};
+    ghost use Rattle.m3_threads.specs.All.{Everyone, AreSoundThreads};
+    ghost use Rattle.m3_threads.specs.PlacesInside.{HaveRoom};
 
     ghost Value = { Everyone };
 
     ghost view = { λ t. record { allowed = t.allowed; stack = t.stack; forks = t.forks; waits = t.waits; threads = t.list.items; stacks = map (λ v. v.items) t.stacks.items } };
 
-    ghost invariant = { λ t. IsSound t.allowed t.stack t.forks t.list.items (map (λ v. v.items) t.stacks.items) × (t.allowed ≤ vec_capacity t.list) };
+    ghost invariant = { λ t. AreSoundThreads t.allowed t.stack t.forks t.waits t.list.items (map (λ v. v.items) t.stacks.items) × (t.allowed ≤ vec_capacity t.list) × HaveRoom t.stack t.stacks.items };
 }
 
 impl Threads {
-    ghost use Rattle.std.specs.Prelude.{◌≡◌, ◌≤◌, ◌<◌, ◌+◌, ◌^◌, ℕ, true, false, IsSome, IfSome, Some, map};
-    ghost use Rattle.m3_threads.specs.All.{thread_named, updated};
-    ghost use Rattle.m3_threads.specs.Actions.{with_threads, asleep, gone_on, jumped_to, answered, unmarked, marked, woken, woken_on, longest, wakened_by, given, without};
+    ghost use Rattle.std.specs.Prelude.{◌≡◌, ◌≤◌, ◌<◌, ◌+◌, ◌^◌, ℕ, ◌/◌, ◌%◌, ◌&&◌, nat_le, nat_lt, true, false, IsSome, IfSome, Some, Option, MatchOption, map, length};
+    ghost use Rattle.m3_threads.specs.All.{thread_named, updated, stack_in, NamesRegisters};
+    ghost use Rattle.m3_threads.specs.PlacesInside.{MayBecome};
+    ghost use Rattle.m3_threads.specs.Actions.{with_threads, asleep, gone_on, jumped_to, gone_on_with, alert_cleared, alert_marked, woken, woken_on, SleepsLongest, wakened_by, given, ended};
     ghost use Rattle.m3_isa.specs.Arithmetic.{flag};
-    ghost use Rattle.m3_threads.specs.Spaces.{held, replaceable, put_inside, put_outside};
+    ghost use Rattle.m3_threads.specs.declared.status.Status.TheVariants.{Waits};
+    ghost use Rattle.m3_threads.specs.Spaces.{slot_at, place_at, is_in_stack, held, replaceable, put_inside, put_outside};
+
+    // The slot and the place of an address that is in a stack, by arithmetic alone.
+    fn find_word(&self, at: u64) -> Option<(usize, usize)>
+        ensures { MatchOption result (is_in_stack self.now at ≡ false)
+            (λ found. (is_in_stack self.now at ≡ true) × (found.0 ≡ slot_at at) × (found.1 ≡ place_at at)) }
+    {
+        let slot = (at / SLOT).wrapping_sub(1);
+        let place = at % SLOT;
+        if slot < self.stacks.len() as u64 && place < self.stacks[slot as usize].len() as u64 {
+            Some((slot as usize, place as usize))
+        } else {
+            None
+        }
+    }
 
     /// The word at an address, in a stack or outside.
     pub fn load<W: Words>(&self, at: u64, mem: &W) -> Option<u64>
         ensures { result ≡ held self.now (W.holds mem.now) at }
     {
-        match owner_of(&self.list, self.stack, at) {
-            Some(k) => {
-                let slot = self.list[k].slot;
-                let words = &self.stacks[slot as usize];
-                Some(words[place_in(slot, self.stack, at)])
-            }
+        match self.find_word(at) {
+            Some((slot, place)) => Some(self.stacks[slot][place]),
             None => mem.load(at),
         }
     }
@@ -60,12 +73,11 @@ impl Threads {
         ensures counts { (self.new.forks ≡ self.old.forks) × (self.new.waits ≡ self.old.waits) }
         ensures refused_outside { result ≡ false → (x : ℕ) → W.holds mem.new x ≡ W.holds mem.old x }
         ensures writable { (x : ℕ) → W.writable mem.new x ≡ W.writable mem.old x }
+        ensures keeps { W.keeps mem.old mem.new }
     {
-        match owner_of(&self.list, self.stack, at) {
-            Some(k) => {
-                let slot = self.list[k].slot;
-                let words = &mut self.stacks[slot as usize];
-                words[place_in(slot, self.stack, at)] = word;
+        match self.find_word(at) {
+            Some((slot, place)) => {
+                self.stacks[slot][place] = word;
                 true
             }
             None => mem.store(at, word),
@@ -80,6 +92,7 @@ impl Threads {
         ensures number { result.number ≡ number }
         ensures given_out { result.number ≤ self.now.forks }
         ensures slot { result.slot < self.now.allowed }
+        ensures registers { NamesRegisters result.status }
     {
         match place_of(&self.list, number) {
             Some(k) => self.list[k],
@@ -89,7 +102,7 @@ impl Threads {
 
     // Changes the thread of a number.
     pub(crate) fn set(&mut self, number: u64, t: Thread)
-        requires { (u : Thread) × (thread_named self.old number ≡ Some u) × (u.slot ≡ t.slot) × (u.number ≡ t.number) }
+        requires { (u : Thread) × (thread_named self.old number ≡ Some u) × MayBecome u t }
         ensures set { (change : Thread → Thread) (u : Thread) → thread_named self.old number ≡ Some u
             → change u ≡ t → self.new ≡ with_threads self.old (updated change number self.old.threads) }
         ensures counts { (self.new.forks ≡ self.old.forks) × (self.new.waits ≡ self.old.waits) }
@@ -119,7 +132,7 @@ impl Threads {
     pub(crate) fn answer(&mut self, t: Thread, a: u8, word: u64)
         requires there { thread_named self.old t.number ≡ Some t }
         requires register { a < 16 }
-        ensures { self.new ≡ with_threads self.old (updated (answered a word) t.number self.old.threads) }
+        ensures { self.new ≡ with_threads self.old (updated (gone_on_with a word) t.number self.old.threads) }
     {
         self.set(t.number, t.given(a, word).gone_on());
     }
@@ -128,7 +141,7 @@ impl Threads {
     pub(crate) fn answer_unmarked(&mut self, t: Thread, a: u8, word: u64)
         requires there { thread_named self.old t.number ≡ Some t }
         requires register { a < 16 }
-        ensures { self.new ≡ with_threads self.old (updated (λ u. answered a word (unmarked u)) t.number self.old.threads) }
+        ensures { self.new ≡ with_threads self.old (updated (λ u. gone_on_with a word (alert_cleared u)) t.number self.old.threads) }
     {
         self.set(t.number, t.unmarked().given(a, word).gone_on());
     }
@@ -137,7 +150,7 @@ impl Threads {
     pub(crate) fn answer_mark(&mut self, t: Thread, a: u8)
         requires there { thread_named self.old t.number ≡ Some t }
         requires register { a < 16 }
-        ensures { self.new ≡ with_threads self.old (updated (λ u. answered a (flag t.alerted) (unmarked u)) t.number self.old.threads) }
+        ensures { self.new ≡ with_threads self.old (updated (λ u. gone_on_with a (flag t.alerted) (alert_cleared u)) t.number self.old.threads) }
     {
         self.answer_unmarked(t, a, if t.alerted { 1 } else { 0 });
     }
@@ -146,6 +159,7 @@ impl Threads {
     pub(crate) fn find(&self, number: u64) -> Option<Thread>
         ensures found { result ≡ thread_named self.now number }
         ensures slot { IfSome result (λ t. t.slot < self.now.allowed) }
+        ensures registers { IfSome result (λ t. NamesRegisters t.status) }
         ensures allowed { self.now.allowed ≤ 64 }
     {
         match place_of(&self.list, number) {
@@ -156,36 +170,22 @@ impl Threads {
 
     // The thread of a number, if it is there, is alerted.
     pub(crate) fn mark(&mut self, number: u64)
-        ensures { self.new ≡ with_threads self.old (updated marked number self.old.threads) }
+        ensures { self.new ≡ with_threads self.old (updated alert_marked number self.old.threads) }
     {
         if let Some(t) = self.find(number) {
             self.set(number, t.marked());
         }
     }
 
-    // The thread of a number, if it is there, is woken.
-    fn wake(&mut self, number: u64)
-        ensures { self.new ≡ with_threads self.old (updated woken number self.old.threads) }
-    {
-        if let Some(t) = self.find(number) {
-            self.set(number, t.woken());
-        }
-    }
-
-    // Who sleeps longest on a condition.
-    fn longest(&self, condition: u64) -> Option<Thread>
-        ensures { result ≡ longest condition self.now.threads }
-    {
-        longest_asleep(&self.list, condition)
-    }
-
     // Who sleeps longest on a condition is woken.
     pub(crate) fn wake_longest(&mut self, condition: u64)
-        ensures woken { self.new ≡ with_threads self.old (wakened_by (longest condition self.old.threads) self.old.threads) }
+        ensures woken { (sleeper : Option Thread) × SleepsLongest condition self.old.threads sleeper
+            × (self.new ≡ with_threads self.old (wakened_by sleeper self.old.threads)) }
         ensures stays { (n : ℕ) → IsSome (thread_named self.old n) → IsSome (thread_named self.new n) }
     {
-        if let Some(sleeper) = self.longest(condition) {
-            self.wake(sleeper.number);
+        if let Some(k) = longest_asleep(&self.list, condition) {
+            let t = self.list[k];
+            self.list[k] = t.woken();
         }
     }
 
@@ -210,13 +210,14 @@ impl Threads {
         given
     }
 
-    // The thread of a number ends.
-    pub(crate) fn remove(&mut self, number: u64)
-        requires { IsSome (thread_named self.old number) }
-        ensures { self.new ≡ with_threads self.old (without number self.old.threads) }
+    // A thread ends, and its slot's stack has no words from then on.
+    pub(crate) fn remove(&mut self, t: Thread)
+        requires { thread_named self.old t.number ≡ Some t }
+        ensures { self.new ≡ ended t self.old }
     {
-        if let Some(k) = place_of(&self.list, number) {
+        if let Some(k) = place_of(&self.list, t.number) {
             self.list.remove(k);
+            self.stacks[t.slot as usize].clear();
         }
     }
 
@@ -233,23 +234,15 @@ impl Threads {
     pub(crate) fn sleep(&mut self, t: Thread, i: Instr, alertable: bool)
         requires there { thread_named self.old t.number ≡ Some t }
         requires counted { self.old.waits < 2 ^ 63 }
+        requires registers { NamesRegisters (Waits i.a i.b 0 alertable) }
         ensures { self.new ≡ record self.old {
           waits = self.old.waits + 1;
           threads = updated (asleep i.a i.b self.old.waits alertable) t.number self.old.threads;
         } }
     {
-        self.set(t.number, t.asleep(i.a, i.b, self.waits, alertable));
-        self.waits += 1;
+        if let Some(k) = place_of(&self.list, t.number) {
+            self.list[k] = t.asleep(i.a, i.b, self.waits, alertable);
+            self.waits += 1;
+        }
     }
-}
-
-// The place of an address in a slot's stack.
-fn place_in(slot: u32, stack: u64, at: u64) -> usize
-    requires slot { slot < 64 }
-    requires stack { stack ≤ 2 ^ 20 }
-    requires below { base_of_slot slot ≤ at }
-    requires above { at < base_of_slot slot + stack }
-    ensures { result ≡ at - base_of_slot slot }
-{
-    (at - base_of_slot(slot)) as usize
 }

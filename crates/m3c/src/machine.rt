@@ -96,7 +96,7 @@ impl Machine {
         ensures turned { (output : List ℕ) (count : ℕ) → Turned result (plainly (state_of self.old output count) (effect i self.old.regs (stack_holds self.old.stack) is_stack)) self.new output (count + 1) }
         ensures points { self.new.points ≡ self.old.points }
     {
-        match step(i, &mut self.regs, &mut self.stack) {
+        match step(&i, &mut self.regs, &mut self.stack) {
             Step::Went => Turn::GoesOn,
             Step::Trapped(n) => Turn::Ends(Outcome::Trap(n)),
             Step::Other => Turn::Lacks,

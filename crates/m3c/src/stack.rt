@@ -50,9 +50,15 @@ impl Words for Stack {
 
     ghost writable = { λ _ at. is_stack at };
 
+    ghost keeps = { λ _ _. Unit {0} };
+
     ghost readable = { stack_readable };
 
     ghost low = { stack_low };
+
+    ghost keeps_itself = { λ _. tt };
+
+    ghost keeps_on = { λ _ _ _ _ _. tt };
 
     fn load(&self, at: u64) -> Option<u64> {
         if at < STACK_START || at >= STACK_END {

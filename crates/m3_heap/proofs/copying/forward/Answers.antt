@@ -1,7 +1,7 @@
 use Rattle.std.proofs.Common.{◌+◌, ◌/◌, ◌<◌, ◌≤◌, ◌∷◌, ◌++◌, [], ℕ, List, Some, length, refl, sym, ap, subst, ◌∙◌, arith}
 use Rattle.std.proofs.lemmas.Bool.{false≢true}
 use Rattle.m3_heap.specs.Cells.{heap_base, header, words_from, with_word, total_words}
-use Rattle.m3_heap.specs.Tracing.{old_cells, copies, moves}
+use Rattle.m3_heap.specs.CollectorTracing.{old_cells, copies, moves}
 use Rattle.m3_heap.proofs.TracingLemmas.{total-append}
 use Rattle.m3_heap.proofs.CopyLemmas.{is_start-left, fresh-header, kept-header, copy-room, forwarded-kept, keeps-kept, keeps-fresh, fresh-start}
 use Rattle.m3_heap.proofs.copying.forward.Goals as goal

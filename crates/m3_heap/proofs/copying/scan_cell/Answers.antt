@@ -1,6 +1,6 @@
 use Rattle.std.proofs.Common.{◌≡◌, ◌+◌, ◌/◌, ℕ, Some, is_some, length, refl, sym, ap, subst, ◌∙◌, arith}
 use Rattle.m3_heap.specs.Cells.{header, words_from, kind_in, total_words}
-use Rattle.m3_heap.specs.Scanning.{Scans, IsBoundary, met}
+use Rattle.m3_heap.specs.CollectorScanning.{Scans, IsBoundary, met}
 use Rattle.m3_heap.proofs.WordLemmas.{end-fits}
 use Rattle.m3_heap.proofs.TraceLemmas.{header-tells, read-header, scans-first, met-first, grows-none, grows-on, bad-before, boundary-next}
 use Rattle.m3_heap.proofs.copying.scan_cell.Given as given

@@ -1,7 +1,7 @@
 use Rattle.std.proofs.Common.{◌≡◌, ◌+◌, ℕ, true, List, length}
 use Rattle.m3_heap.specs.Cells.{header, is_start, words_from, total_words}
-use Rattle.m3_heap.specs.Scanning.{Scans, Grows, met}
-use Rattle.m3_heap.specs.Tracing.{IsTracing}
+use Rattle.m3_heap.specs.CollectorScanning.{Scans, Grows, met}
+use Rattle.m3_heap.specs.CollectorTracing.{IsTracing}
 use Rattle.m3_heap.proofs.copying.scan_cell.Given as goal
 
 abbrev pub invariant-loop-place : goal.invariant-loop-place

@@ -1,8 +1,8 @@
 use Rattle.std.proofs.Common.{◌≡◌, ◌+◌, ℕ, sym, ap, subst, ◌∙◌, arith}
 use Rattle.m3_heap.specs.Cells.{total_words}
 use Rattle.m3_heap.specs.Moves.{kept_starts}
-use Rattle.m3_heap.specs.Scanning.{Scans, IsBoundary, met}
-use Rattle.m3_heap.specs.Tracing.{moves}
+use Rattle.m3_heap.specs.CollectorScanning.{Scans, IsBoundary, met}
+use Rattle.m3_heap.specs.CollectorTracing.{moves}
 use Rattle.m3_heap.proofs.TraceLemmas.{grows-none, grows-on, first-boundary, boundary-end, scans-none, met-none, visited-reached}
 use Rattle.m3_heap.proofs.copying.trace.Goals as goal
 

@@ -1,8 +1,8 @@
 use Rattle.std.proofs.Common.{◌≡◌, ◌+◌, ◌-◌, ◌≤◌}
 use Rattle.m3_heap.specs.Cells.{total_words}
 use Rattle.m3_heap.specs.Moves.{kept_starts}
-use Rattle.m3_heap.specs.Scanning.{Scans, Grows, met, IsBoundary}
-use Rattle.m3_heap.specs.Tracing.{IsTracing, moves}
+use Rattle.m3_heap.specs.CollectorScanning.{Scans, Grows, met, IsBoundary}
+use Rattle.m3_heap.specs.CollectorTracing.{IsTracing, moves}
 use Rattle.m3_heap.proofs.copying.trace.Given as goal
 
 abbrev pub invariant-loop-at : goal.invariant-loop-at

@@ -1,17 +1,9 @@
-use Rattle.std.proofs.Common.{ap, eqb, sym, ◌∙◌}
 use Rattle.std.specs.Int.{w64}
-use Rattle.std.proofs.lemmas.Bool.{eq-eqb}
-use Rattle.std.proofs.lemmas.Nat.Bits.{bit_at_set_same, bit_at_set_other, bit_at_clear_same, bit_at_clear_other}
+use Rattle.std.proofs.lemmas.Nat.Bits.{bit_at_set_same, bit_at_set_other}
 use Rattle.m3_heap.proofs.marks.with_bit.Goals as goal
 
-pub returns-then-on-clause-here : goal.returns-then-on-clause-here
-returns-then-on-clause-here c = eq-eqb _ _ (bit_at_set_same w64 c.args.word c.args.place c.requires) ∙ sym c.if-on.true
+pub returns-clause-here : goal.returns-clause-here
+returns-clause-here c = bit_at_set_same w64 c.args.word c.args.place c.requires
 
-pub returns-then-on-clause-others : goal.returns-then-on-clause-others
-returns-then-on-clause-others c = λ k h differs. bit_at_set_other w64 c.args.word c.args.place c.requires k differs
-
-pub returns-else-on-clause-here : goal.returns-else-on-clause-here
-returns-else-on-clause-here c = ap (λ b. eqb b 1) (bit_at_clear_same w64 c.args.word c.args.place c.requires) ∙ sym c.if-on.false
-
-pub returns-else-on-clause-others : goal.returns-else-on-clause-others
-returns-else-on-clause-others c = λ k h differs. bit_at_clear_other w64 c.args.word c.args.place c.requires k h differs
+pub returns-clause-others : goal.returns-clause-others
+returns-clause-others c = λ k h differs. bit_at_set_other w64 c.args.word c.args.place c.requires k differs

@@ -1,7 +1,7 @@
 use Rattle.std.proofs.Common.{◌≡◌, ◌+◌, ◌-◌, inl, inr, Some, None, false, true, is_some, sym, ap, ◌∙◌, arith, rules}
 use Rattle.std.proofs.lemmas.Bool.{cases_lt}
 use Rattle.std.proofs.lemmas.Grind.{common_steps}
-use Rattle.m3_isa.specs.Effects.{copied_low}
+use Rattle.m3_isa.specs.LowCopies.{copied_low}
 use Rattle.m3_isa.proofs.Copies.{falling-more, copied_low-outside, not_there, not_writable, all_there}
 use Rattle.m3_isa.proofs.blocks.copy_falling.Goals as goal
 
@@ -45,6 +45,7 @@ loop-k-preserved g c =
       can = λ i a h. elim (cases_lt k i) [ inl up ↦ c.loop-k.invariant.can i (omega arith) h | inr low ↦ let e : i ≡ k = omega arith in ap (λ v. can (to + v)) e ∙ replaced ];
       copied = λ x. c.store.ensures.stored (search rules) x ∙ falling-more m now c.in-Some.word j k c.args.n from to x (omega arith) (omega arith) (c.loop-k.invariant.copied x) old;
       writable = λ x. c.store.ensures.writable x ∙ c.loop-k.invariant.writable x;
+      keeps = g.met.W.Words.keeps_on c.args.mem.now c.loop-k.mem c.store.new.self c.loop-k.invariant.keeps c.store.ensures.keeps;
     }
 
 pub returns-clause-copied : goal.returns-clause-copied

@@ -1,7 +1,7 @@
 use Rattle.std.proofs.Common.{◌≡◌, ◌+◌, inl, inr, Some, None, false, true, is_some, sym, ap, ◌∙◌, arith, rules}
 use Rattle.std.proofs.lemmas.Bool.{cases_lt}
 use Rattle.std.proofs.lemmas.Grind.{common_steps}
-use Rattle.m3_isa.specs.Effects.{copied_low}
+use Rattle.m3_isa.specs.LowCopies.{copied_low}
 use Rattle.m3_isa.proofs.Copies.{rising-more, copied_low-outside, not_there, not_writable, all_there}
 use Rattle.m3_isa.proofs.blocks.copy_rising.Goals as goal
 
@@ -41,6 +41,7 @@ loop-k-preserved g c =
       can = λ j h. elim (cases_lt j k) [ inl low ↦ c.loop-k.invariant.can j low | inr high ↦ let e : j ≡ k = omega arith in ap (λ i. can (to + i)) e ∙ replaced ];
       copied = λ x. c.store.ensures.stored (search rules) x ∙ rising-more m now c.in-Some.word k from to x (c.loop-k.invariant.copied x) old;
       writable = λ x. c.store.ensures.writable x ∙ c.loop-k.invariant.writable x;
+      keeps = g.met.W.Words.keeps_on c.args.mem.now c.loop-k.mem c.store.new.self c.loop-k.invariant.keeps c.store.ensures.keeps;
     }
 
 pub returns-clause-copied : goal.returns-clause-copied

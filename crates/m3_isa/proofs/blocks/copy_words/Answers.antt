@@ -1,5 +1,6 @@
 use Rattle.std.proofs.Common.{◌≡◌, ◌+◌, ◌<◌, ◌≤◌, ◌&&◌, ℕ, ◌^◌, false, true, is_some, ap, ◌∙◌, arith}
-use Rattle.m3_isa.specs.Effects.{are_there, are_writable, copied, copied_low}
+use Rattle.m3_isa.specs.Effects.{are_there, are_writable, copied}
+use Rattle.m3_isa.specs.LowCopies.{copied_low}
 use Rattle.m3_isa.proofs.Every.{and-false}
 use Rattle.m3_isa.proofs.Copies.{copied-low, every-high, not_some, not_true, with_copied}
 use Rattle.m3_isa.proofs.blocks.copy_words.Goals as goal

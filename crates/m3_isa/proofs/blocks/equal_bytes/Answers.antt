@@ -2,7 +2,7 @@ use Rattle.std.proofs.Common.{◌≡◌, ℕ, ◌+◌, ◌==◌, sym, ◌&&◌, 
 use Rattle.std.proofs.lemmas.Grind.{common_steps}
 use Rattle.m3_base.specs.Words.{add_words}
 use Rattle.m3_isa.specs.Arithmetic.{words_of_bytes, below_length}
-use Rattle.m3_isa.specs.Effects.{has_bytes, every, word_at}
+use Rattle.m3_isa.specs.Effects.{has_bytes, every, held_word}
 use Rattle.m3_isa.proofs.Every.{every-fails, and-false}
 use Rattle.m3_isa.proofs.blocks.equal_bytes.Goals as goal
 
@@ -28,7 +28,7 @@ returns g c =
     let e : c.loop-k.k ≡ words_of_bytes bytes = omega arith in
     let left = λ (k : ℕ). is_some (m (add_words c.args.left (2 + k))) in
     let right = λ (k : ℕ). is_some (m (add_words c.args.right (2 + k))) in
-    let same = λ (k : ℕ). below_length bytes k (word_at m (add_words c.args.left (2 + k))) == below_length bytes k (word_at m (add_words c.args.right (2 + k))) in (
+    let same = λ (k : ℕ). below_length bytes k (held_word m (add_words c.args.left (2 + k))) == below_length bytes k (held_word m (add_words c.args.right (2 + k))) in (
       ap (λ b. b && has_bytes m c.args.right bytes) (ap (every left) (sym e) ∙ c.loop-k.invariant.0) ∙ (ap (every right) (sym e) ∙ c.loop-k.invariant.1),
       c.loop-k.invariant.2 ∙ ap (every same) e,
     )

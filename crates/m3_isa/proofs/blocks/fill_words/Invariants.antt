@@ -7,4 +7,5 @@ invariant-loop-k g l = record {
   filled : IsMemory (filled (g.W.Words.holds l.initial.mem) (g.W.Words.writable l.initial.mem) l.from l.distance l.k) (g.W.Words.holds l.mem);
   outside : (x : ℕ) → is_among x l.to l.n ≡ false → g.W.Words.holds l.mem x ≡ g.W.Words.holds l.initial.mem x;
   writable : (x : ℕ) → g.W.Words.writable l.mem x ≡ g.W.Words.writable l.initial.mem x;
+  keeps : g.W.Words.keeps l.initial.mem l.mem;
 }

@@ -1,8 +1,8 @@
-use Rattle.std.proofs.Common.{◌≡◌, ◌+◌, ◌-◌, ◌++◌, ℕ, List, length, take, drop, ap, ◌∙◌, arith, refl}
+use Rattle.std.proofs.Common.{◌≡◌, ◌+◌, ◌-◌, ◌++◌, ℕ, List, length, take, drop, true, Bool, ap, ◌∙◌, arith, refl, length-set}
 use Rattle.std.specs.Vec.{with_items}
 use Rattle.std.proofs.lemmas.List.{with_items_is}
 use Rattle.m3_heap.specs.Cells.{words_from}
-use Rattle.m3_heap.proofs.SpaceLemmas.{has-room, next-start, IsPush, push-cells, push-half, source-fits, source-words}
+use Rattle.m3_heap.proofs.SpaceLemmas.{has-room, next-start, IsPush, pushed-marks, pushed-rest, push-cells, push-half, source-fits, source-words}
 use Rattle.m3_heap.proofs.half.Half.append_copy.Goals as goal
 
 pub overflow_sub-first : goal.overflow_sub-first
@@ -18,15 +18,11 @@ copy_words-requires-clause-there c =
     let fits = source-fits c.source.inside c.source.invariant c.args.source.now c.source.view_is c.args.from c.args.count c.requires.starts c.requires.words in
     omega (arith, ap (λ (ws : List ℕ). length ws) c.deref.ensures.value, fits.0, fits.2, c.source.invariant.used)
 
-pub start-requires-clause-some : goal.start-requires-clause-some
-start-requires-clause-some c =
+pub set-requires : goal.set-requires
+set-requires c =
     let fits = source-fits c.source.inside c.source.invariant c.args.source.now c.source.view_is c.args.from c.args.count c.requires.starts c.requires.words in
-    omega (arith, fits.1)
-
-pub start-requires-clause-room : goal.start-requires-clause-room
-start-requires-clause-room c =
     let room = has-room c.self.inside c.self.invariant c.args.self.now c.args.count c.self.view_is c.requires.room in
-    omega (arith, c.self.invariant.marks)
+    omega (arith, fits.1, c.self.invariant.marks)
 
 kept : (c : goal.After-self-2-1) → (with_items c.self.inside.words c.copy_words.new.words).items ≡ c.copy_words.new.words
 kept c = with_items_is c.self.inside.words c.copy_words.new.words (omega (arith, c.copy_words.ensures.length, c.deref_mut.ensures.len, c.self.inside.words.ok.0))
@@ -36,13 +32,14 @@ copied c =
     ap (λ (ws : List ℕ). take c.args.count (drop (c.args.from - c.source.inside.base) ws)) c.deref.ensures.value
     ∙ source-words c.source.inside c.source.invariant c.args.source.now c.source.view_is c.args.from c.args.count c.requires.starts c.requires.words
 
-written : (c : goal.After-self-2-1) → IsPush c.self.inside c.start.new.self (with_items c.self.inside.words c.copy_words.new.words).items (words_from c.args.source.now.cells c.args.from) c.args.count
+written : (c : goal.After-self-2-1) → IsPush c.self.inside c.set.new.self (with_items c.self.inside.words c.copy_words.new.words).items (words_from c.args.source.now.cells c.args.from) c.args.count
 written c =
     let same = kept c in
     let fits = source-fits c.source.inside c.source.invariant c.args.source.now c.source.view_is c.args.from c.args.count c.requires.starts c.requires.words in
     record {
-      marks_length = c.start.ensures.length;
-      marks_now = c.start.ensures.marks;
+      marks_length = ap (λ (l : List Bool). length l) c.set.ensures ∙ length-set c.self.inside.starts c.self.inside.used true;
+      marks_rest = pushed-rest c.self.inside c.self.invariant c.set.new.self c.args.count c.set.ensures (fits.1);
+      marks_now = pushed-marks c.self.inside c.self.invariant c.set.new.self c.args.count c.set.ensures (fits.1) (has-room c.self.inside c.self.invariant c.args.self.now c.args.count c.self.view_is c.requires.room);
       words_length = ap (λ (ws : List ℕ). length ws) same ∙ c.copy_words.ensures.length ∙ ap (λ (ws : List ℕ). length ws) c.deref_mut.ensures.value;
       words_now =
           ap (λ (ws : List ℕ). take (c.self.inside.used + c.args.count) ws) same

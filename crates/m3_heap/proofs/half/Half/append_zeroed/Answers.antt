@@ -1,7 +1,7 @@
-use Rattle.std.proofs.Common.{◌≡◌, ◌+◌, ◌-◌, ◌∷◌, ◌++◌, [], ℕ, List, length, take, replicate, ap, ◌∙◌, arith, refl}
+use Rattle.std.proofs.Common.{◌≡◌, ◌+◌, ◌-◌, ◌∷◌, ◌++◌, [], ℕ, List, length, take, replicate, true, Bool, ap, ◌∙◌, arith, refl, length-set}
 use Rattle.std.specs.Vec.{with_items}
 use Rattle.std.proofs.lemmas.List.{with_items_is, length-replicate}
-use Rattle.m3_heap.proofs.SpaceLemmas.{has-room, next-start, IsPush, push-cells, push-half}
+use Rattle.m3_heap.proofs.SpaceLemmas.{has-room, next-start, IsPush, pushed-marks, pushed-rest, push-cells, push-half}
 use Rattle.m3_heap.proofs.half.Half.append_zeroed.Goals as goal
 
 pub write_cell-requires-clause-room : goal.write_cell-requires-clause-room
@@ -9,16 +9,22 @@ write_cell-requires-clause-room c =
     let room = has-room c.self.inside c.self.invariant c.args.self.now c.args.count c.self.view_is c.requires.room in
     omega (arith, c.deref_mut.ensures.len, c.self.inside.words.ok.0)
 
+pub set-requires : goal.set-requires
+set-requires c =
+    let room = has-room c.self.inside c.self.invariant c.args.self.now c.args.count c.self.view_is c.requires.room in
+    omega (arith, c.self.invariant.marks, c.requires.some)
+
 kept : (c : goal.After-self-2-1) → (with_items c.self.inside.words c.write_cell.new.words).items ≡ c.write_cell.new.words
 kept c = with_items_is c.self.inside.words c.write_cell.new.words (omega (arith, c.write_cell.ensures.length, c.deref_mut.ensures.len, c.self.inside.words.ok.0))
 
-written : (c : goal.After-self-2-1) → IsPush c.self.inside c.start.new.self (with_items c.self.inside.words c.write_cell.new.words).items (c.args.header ∷ replicate (c.self.inside.used + c.args.count - (c.self.inside.used + 1)) 0) c.args.count
+written : (c : goal.After-self-2-1) → IsPush c.self.inside c.set.new.self (with_items c.self.inside.words c.write_cell.new.words).items (c.args.header ∷ replicate (c.self.inside.used + c.args.count - (c.self.inside.used + 1)) 0) c.args.count
 written c =
     let same = kept c in
     let count : length {A = ℕ} (replicate (c.self.inside.used + c.args.count - (c.self.inside.used + 1)) 0) ≡ c.self.inside.used + c.args.count - (c.self.inside.used + 1) = length-replicate (c.self.inside.used + c.args.count - (c.self.inside.used + 1)) 0 in
     record {
-      marks_length = c.start.ensures.length;
-      marks_now = c.start.ensures.marks;
+      marks_length = ap (λ (l : List Bool). length l) c.set.ensures ∙ length-set c.self.inside.starts c.self.inside.used true;
+      marks_rest = pushed-rest c.self.inside c.self.invariant c.set.new.self c.args.count c.set.ensures (c.requires.some);
+      marks_now = pushed-marks c.self.inside c.self.invariant c.set.new.self c.args.count c.set.ensures (c.requires.some) (has-room c.self.inside c.self.invariant c.args.self.now c.args.count c.self.view_is c.requires.room);
       words_length = ap (λ (ws : List ℕ). length ws) same ∙ c.write_cell.ensures.length ∙ ap (λ (ws : List ℕ). length ws) c.deref_mut.ensures.value;
       words_now =
           ap (λ (ws : List ℕ). take (c.self.inside.used + c.args.count) ws) same

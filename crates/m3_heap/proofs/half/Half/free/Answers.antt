@@ -1,6 +1,6 @@
 use Rattle.std.proofs.Common.{ap, arith}
 use Rattle.m3_heap.specs.Cells.{total_words}
-use Rattle.m3_heap.specs.Space.{Space}
+use Rattle.m3_heap.specs.CollectorSpace.{Space}
 use Rattle.m3_heap.proofs.SpaceLemmas.{total-used}
 use Rattle.m3_heap.proofs.half.Half.free.Goals as goal
 

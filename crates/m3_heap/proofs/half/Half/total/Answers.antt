@@ -1,6 +1,6 @@
 use Rattle.std.proofs.Common.{sym, ap, subst, ◌∙◌}
 use Rattle.m3_heap.specs.Cells.{total_words}
-use Rattle.m3_heap.specs.Space.{Space, AreLaid}
+use Rattle.m3_heap.specs.CollectorSpace.{Space, AreLaid}
 use Rattle.m3_heap.proofs.SpaceLemmas.{total-used, laid-used}
 use Rattle.m3_heap.proofs.half.Half.total.Goals as goal
 

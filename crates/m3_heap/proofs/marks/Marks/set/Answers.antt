@@ -1,6 +1,7 @@
-use Rattle.std.proofs.Common.{◌<◌, ◌/◌, length, set, arith, ap, ◌∙◌}
+use Rattle.std.proofs.Common.{◌<◌, ◌/◌, length, set, true, arith, ap, ◌∙◌}
 use Rattle.std.specs.Int.{bit_at}
 use Rattle.std.proofs.lemmas.List.{get_or_read}
+use Rattle.std.proofs.lemmas.Bool.{eq-eqb}
 use Rattle.m3_heap.proofs.MarksLemmas.{length-marks_in, marks_in-set}
 use Rattle.m3_heap.proofs.marks.Marks.set.Goals as goal
 
@@ -21,6 +22,6 @@ returns c =
     let below : c.args.i < c.self.inside.count = omega (arith, length-marks_in bits c.self.inside.count, count) in
     let within : c.args.i / 64 < length bits = omega (arith, c.self.invariant) in
     let read = get_or_read bits (c.args.i / 64) _ within c.index-word.ensures 0 in
-    marks_in-set bits c.self.inside.count c.args.i c.with_bit.result c.args.on below c.self.invariant c.with_bit.ensures.here
+    marks_in-set bits c.self.inside.count c.args.i c.with_bit.result true below c.self.invariant (eq-eqb _ _ c.with_bit.ensures.here)
     (λ k h differs. c.with_bit.ensures.others k h differs ∙ ap (λ w. bit_at w k) read)
-    ∙ ap (λ m. set m c.args.i c.args.on) c.self.view_is
+    ∙ ap (λ m. set m c.args.i true) c.self.view_is

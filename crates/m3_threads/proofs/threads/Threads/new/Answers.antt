@@ -1,9 +1,11 @@
-use Rattle.std.proofs.Common.{ℕ, List, ◌≡◌, ◌<◌, ◌≤◌, ◌^◌, ◌∷◌, ◌++◌, [], length, sym, ap, subst, ◌∙◌, arith}
-use Rattle.std.specs.Prelude.{slice_set, replicate}
+use Rattle.std.proofs.Common.{◌≡◌, ℕ, ◌≤◌, ◌++◌, ◌∷◌, [], List, length, refl, sym, ap, subst, ◌∙◌, arith}
+use Rattle.std.specs.Prelude.{slice_set, replicate, vec_capacity}
 use Rattle.std.proofs.lemmas.List.{length-replicate}
-use Rattle.m3_threads.specs.All.{IsSound, HaveWords}
-use Rattle.m3_threads.proofs.Order.{sound-start, words-replicate}
-use Rattle.m3_threads.proofs.StackWords.{contents, sound-vec, stack_of}
+use Rattle.m3_threads.specs.declared.status.Thread.{Thread}
+use Rattle.m3_threads.specs.All.{AreSoundThreads}
+use Rattle.m3_threads.specs.Actions.{started_stack}
+use Rattle.m3_threads.proofs.Soundness.{sound-nobody, sound-push}
+use Rattle.m3_threads.proofs.StackWords.{contents, count-contents, set_stack, room-at, room-set, all-blank, length-started}
 use Rattle.m3_threads.proofs.threads.Threads.new.Goals as goal
 
 pub invariant_of-result : goal.invariant_of-result
@@ -12,19 +14,20 @@ invariant_of-result c =
     let s = c.args.stack in
     let t = c.started.result in
     let vs = c.in_ok-stacks.stacks.items in
-    let none : List ℕ = replicate s 0 in
-    let made : contents vs ≡ replicate a none = c.in_ok-stacks.ensures in
-    let words = subst (HaveWords s) (sym made) (words-replicate s a none (length-replicate s 0)) in
-    let whole = ap length made ∙ length-replicate a none in
-    let slot = ap (λ u. u.slot) c.started.ensures in
+    let none : List (List ℕ) = replicate a [] in
+    let made : contents vs ≡ none = c.in_ok-stacks.ensures.blank in
+    let nobody = sound-nobody a s none c.requires.few (omega arith) (omega arith) (length-replicate a []) (λ slot. all-blank a slot) in
+    let same = ap (λ u. u.slot) c.started.ensures in
     let number = ap (λ u. u.number) c.started.ensures in
-    let large : 8 ≤ s = omega arith in
-    let small : s ≤ 2 ^ 20 = omega arith in
-    let one = sound-start a s t (contents vs) c.requires.some c.requires.few large small slot number whole words in
-    let first : 0 < a = omega arith in
-    let k = stack_of a s 0 (t ∷ []) vs 0 c.index_mut.result.now one first c.index_mut.ensures.value in
-    let long = sym c.frame.new.words.ok.0 ∙ c.frame.ensures.length ∙ k.count in
-    let laid = sound-vec a s 0 (t ∷ []) vs 0 c.frame.new.words one long in (
-      subst (λ ts. IsSound a s 0 ts (contents (slice_set vs 0 c.frame.new.words))) (sym (c.push_reserved.ensures.items ∙ ap (λ us. us ++ t ∷ []) c.in_ok-list.ensures.items)) laid,
+    let one = sound-push a s 0 0 0 [] none t (started_stack s 4294967296) nobody (omega arith) (omega arith) refl (λ j v g. cc) (omega arith) (omega arith) (ap (λ u. u.status) c.started.ensures) (length-started s 4294967296) in
+    let placed = subst (λ k. AreSoundThreads a s 0 0 (t ∷ []) (slice_set none k (started_stack s 4294967296))) same one in
+    let stacks : contents (slice_set vs 0 c.lay_out.new.words) ≡ slice_set none 0 (started_stack s 4294967296) =
+    set_stack vs 0 c.lay_out.new.words ∙ ap (slice_set (contents vs) 0) c.lay_out.ensures.words ∙ ap (λ (st : List (List ℕ)). slice_set st 0 (started_stack s 4294967296)) made in
+    let threads = c.push_reserved.ensures.items ∙ ap (λ (us : List Thread). us ++ t ∷ []) c.in_ok-list.ensures.items in
+    let count : length vs ≡ a = sym (count-contents vs) ∙ ap (λ (st : List (List ℕ)). length st) made ∙ length-replicate a [] in
+    let low : s ≤ vec_capacity c.index_mut.result.now = room-at s vs 0 c.index_mut.result.now c.in_ok-stacks.ensures.room (omega arith) c.index_mut.ensures.value in (
+      subst (λ ts. AreSoundThreads a s 0 0 ts (contents (slice_set vs 0 c.lay_out.new.words))) (sym threads)
+          (subst (λ st. AreSoundThreads a s 0 0 (t ∷ []) st) (sym stacks) placed),
       omega (arith, c.push_reserved.ensures.capacity, c.in_ok-list.ensures.capacity),
+      room-set s vs 0 c.lay_out.new.words c.in_ok-stacks.ensures.room (omega (arith, c.lay_out.ensures.capacity)),
     )

@@ -1,16 +1,17 @@
-use Rattle.std.proofs.Common.{◌≡◌, ◌<◌, Some, length, sym, ap, ◌∙◌, subst, refl, arith}
+use Rattle.std.proofs.Common.{◌≡◌, ◌<◌, Some, length, sym, ap, ◌∙◌, subst, arith}
 use Rattle.std.proofs.lemmas.Option.{slice_get-get_or}
 use Rattle.std.proofs.lemmas.Bool.{ltb-true}
 use Rattle.std.specs.Prelude.{slice_get}
 use Rattle.m3_isa.specs.declared.registers.Regs.{Regs}
-use Rattle.m3_threads.specs.Places.{IsPlaceOf}
+use Rattle.m3_threads.specs.PlacesInside.{IsPlaceOf}
 use Rattle.m3_threads.specs.All.{thread_named}
 use Rattle.m3_threads.specs.Going.{of_thread}
 use Rattle.m3_threads.specs.Actions.{with_threads}
 use Rattle.m3_threads.specs.Lending.{with_regs, with_regs_of}
 use Rattle.m3_threads.specs.contracts.threads.Threads.{the_view}
 use Rattle.m3_threads.proofs.Lends.{same_loan}
-use Rattle.m3_threads.proofs.Order.{sound-set}
+use Rattle.m3_threads.proofs.Soundness.{sound-set}
+use Rattle.m3_threads.proofs.Changes.{may-compute}
 use Rattle.m3_threads.proofs.threads.Threads.regs_mut.Goals as goal
 use Rattle.m3_threads.proofs.threads.Threads.regs_mut.Goals.{in-Some, in-None}
 
@@ -22,7 +23,7 @@ invariant_of-self-lent c = λ w.
     let i = c.in-Some-get_mut.ensures.item in
     let within : k < length s.list.items = ltb-true k (length s.list.items) (sym i.0) in
     let got : slice_get s.list.items k ≡ Some t = slice_get-get_or s.list.items k t within ∙ ap Some (sym c.in-Some-get_mut.ensures.value) in
-    (sound-set s.allowed s.stack s.forks s.list.items _ k (with_regs_of w t) t c.self.invariant.0 got refl refl, c.self.invariant.1)
+    (sound-set s.allowed s.stack s.forks s.waits s.list.items _ k (with_regs_of w t) t c.self.invariant.0 got (may-compute t w), c.self.invariant.1, c.self.invariant.2)
 
 pub returns-in-Some-get_mut : goal.returns-in-Some-get_mut
 returns-in-Some-get_mut c =

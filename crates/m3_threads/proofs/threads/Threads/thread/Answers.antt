@@ -29,3 +29,8 @@ returns-clause-named c =
     let p = place_got n c.self.inside.list.items c.deref.result.now c.in-Some.k t c.deref.ensures.value c.in-Some.ensures c.index.ensures in
     let same = found-number n c.self.inside.list.items t p.owned in
     ap (λ k. thread_named c.args.self.now k) same ∙ sym (ap (λ v. thread_named v n) c.self.view_is) ∙ p.owned
+
+pub returns-clause-registers : goal.returns-clause-registers
+returns-clause-registers c =
+    let p = place_got c.args.number c.self.inside.list.items c.deref.result.now c.in-Some.k c.index.result.now c.deref.ensures.value c.in-Some.ensures c.index.ensures in
+    c.self.invariant.0.registers c.in-Some.k c.index.result.now p.got

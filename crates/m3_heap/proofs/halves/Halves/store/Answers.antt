@@ -1,0 +1,42 @@
+use Rattle.std.proofs.Common.{◌≡◌, ◌-◌, Bool, sym, ap, subst, ◌∙◌, arith, inl, inr, ⊎_elim}
+use Rattle.m3_heap.specs.Cells.{total_words}
+use Rattle.m3_heap.specs.Semi.{Semi, first_base, second_base}
+use Rattle.m3_heap.specs.CollectorHalves.{AreAtRest, IsAsOpen, cells_seen}
+use Rattle.m3_heap.proofs.SemiLemmas.{is-closed, at-rest, semi-sound, rest-replace}
+use Rattle.m3_heap.proofs.FinishLemmas.{semi-halves}
+use Rattle.m3_heap.proofs.halves.Halves.store.Goals as goal
+
+rest : (c : goal.After-replace) → AreAtRest c.replace.new.self × (total_words c.replace.new.self.cells ≡ total_words c.self.inside.here.cells)
+rest c =
+    rest-replace c.self.inside.here c.replace.new.self c.args.at c.args.word c.replace.result (at-rest c.self.inside c.self.invariant (is-closed c.self.inside c.args.self.now c.self.view_is c.requires.closed))
+    c.replace.ensures.answer c.replace.ensures.base c.replace.ensures.size c.replace.ensures.cells
+
+pub invariant_of-self : goal.invariant_of-self
+invariant_of-self c =
+    let was = c.self.invariant in
+    let new = c.replace.ensures in
+    let P : Bool → Type 0 = λ b. IsAsOpen b c.replace.new.self c.self.inside.there in
+    record {
+      bases = ⊎_elim
+          (λ (p : (c.self.inside.here.base ≡ first_base) × (c.self.inside.there.base ≡ second_base)). inl (new.base ∙ p.0, p.1))
+          (λ (p : (c.self.inside.here.base ≡ second_base) × (c.self.inside.there.base ≡ first_base)). inr (new.base ∙ p.0, p.1))
+          was.bases;
+      same_size = was.same_size ∙ sym new.size;
+      small = omega (arith, new.size, was.small);
+      as_open = subst P (sym (is-closed c.self.inside c.args.self.now c.self.view_is c.requires.closed)) (rest c).0;
+    }
+
+pub returns-clause-free : goal.returns-clause-free
+returns-clause-free c =
+    let closed = is-closed c.self.inside c.args.self.now c.self.view_is c.requires.closed in
+    ap (λ b. c.replace.new.self.size - total_words (cells_seen b c.replace.new.self c.self.inside.there)) closed
+    ∙ ap (λ n. n - total_words c.replace.new.self.cells) c.replace.ensures.size
+    ∙ ap (λ n. c.self.inside.here.size - n) (rest c).1
+    ∙ ap (λ b. c.self.inside.here.size - total_words (cells_seen b c.self.inside.here c.self.inside.there)) (sym closed)
+    ∙ ap (λ (s : Semi). s.heap.free) c.self.view_is
+
+pub returns-clause-sound : goal.returns-clause-sound
+returns-clause-sound c = semi-sound _ (invariant_of-self c)
+
+pub returns-clause-halves : goal.returns-clause-halves
+returns-clause-halves c = semi-halves _ (invariant_of-self c)

@@ -1,0 +1,64 @@
+-- The two halves as the collector keeps them: what they show to the machine, between its collections and
+-- in the middle of one, and what their fields keep.
+use Rattle.std.specs.Prelude.{◌≡◌, ℕ, ◌-◌, ◌≤◌, ◌⊎◌, Bool, true, false, List, []}
+use Rattle.std.specs.List.{AllByRecursion}
+use Rattle.m3_heap.specs.Cells.{Cell, total_words, IsHeaded}
+use Rattle.m3_heap.specs.Heap.{Heap}
+use Rattle.m3_heap.specs.Moves.{Move}
+use Rattle.m3_heap.specs.Semi.{Semi, first_base, second_base}
+use Rattle.m3_heap.specs.CollectorSpace.{Space, AreLaid}
+use Rattle.m3_heap.specs.CollectorTracing.{old_cells, copies, moves, IsTracing}
+use Rattle.m3_heap.specs.CollectorScanning.{ArePlain}
+use Rattle.m3_heap.specs.declared.halves.Halves.TheInside.{Inside}
+
+-- the half in use and the other half; while a collection is open the other half takes the copies, and
+-- afterwards it holds what was left
+abbrev pub cells_seen : Bool → Space → Space → List Cell
+cells_seen true here there = old_cells here there
+cells_seen false here there = here.cells
+
+abbrev pub moves_seen : Bool → Space → Space → List Move
+moves_seen true here there = moves here there
+moves_seen false here there = moves there here
+
+abbrev pub semi_heap : Bool → Space → Space → ℕ → ℕ → Heap
+semi_heap is_open here there asked fulls = record {
+  cells = cells_seen is_open here there;
+  is_open = is_open;
+  moves = moves_seen is_open here there;
+  tenured = [];
+  watched = 0;
+  asked = asked;
+  size = here.size;
+  free = here.size - total_words (cells_seen is_open here there);
+  minors = 0;
+  fulls = fulls;
+}
+
+-- between collections: the cells tell their own lengths and follow one another
+pub record AreAtRest (here : Space) : Type 0 where
+  pub headed : AllByRecursion IsHeaded here.cells
+  pub laid : AreLaid here.base here.cells
+  pub room : total_words here.cells ≤ here.size
+
+-- in a collection: the copies are as they were made
+pub record AreMoving (here there : Space) : Type 0 where
+  pub tracing : IsTracing here there
+  pub plain : ArePlain (old_cells here there) (copies here there)
+  pub room : total_words (old_cells here there) ≤ here.size
+
+abbrev pub IsAsOpen : Bool → Space → Space → Type 0
+IsAsOpen true here there = AreMoving here there
+IsAsOpen false here there = AreAtRest here
+
+abbrev pub semi_of : Inside → Semi
+semi_of semi = record {
+  heap = semi_heap semi.is_open semi.here semi.there semi.asked semi.fulls;
+  base = semi.here.base;
+}
+
+pub record IsSemi (semi : Inside) : Type 0 where
+  pub bases : ((semi.here.base ≡ first_base) × (semi.there.base ≡ second_base)) ⊎ ((semi.here.base ≡ second_base) × (semi.there.base ≡ first_base))
+  pub same_size : semi.there.size ≡ semi.here.size
+  pub small : semi.here.size ≤ 67108864
+  pub as_open : IsAsOpen semi.is_open semi.here semi.there

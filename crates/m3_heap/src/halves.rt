@@ -1,0 +1,186 @@
+ghost use Rattle.std.specs.Bool.{OnTrue};
+ghost use Rattle.std.specs.Option.{IfNone};
+ghost use Rattle.std.specs.Prelude.{◌≡◌, ℕ, ◌+◌, ◌<◌, ◌≤◌, ◌↔◌, true, false, if◌then◌else◌, IsNone, IfSome, IfOk, IsTrue, List, [], is_some};
+ghost use Rattle.m3_heap.specs.Heap.{counted};
+
+use crate::copying::{forward, trace};
+use crate::half::Half;
+use crate::maps::Maps;
+use crate::steps::Steps;
+use m3_base::NoMemory;
+use std::alloc::Global;
+use std::marker::Model;
+use std::mem;
+use std::sync::ledger::Ledger;
+
+/// Where the two halves begin.
+const FIRST_BASE: u64 = 1 << 60;
+
+const SECOND_BASE: u64 = 1 << 61;
+
+/// Two halves, one of them in use. A collection copies what is reached to the other half, which is in use
+/// from then on (Cheney 1970).
+#[derive(Drop)]
+pub struct Halves {
+    here: Half,
+    there: Half,
+    is_open: bool,
+    asked: u64,
+    fulls: u64,
+}
+
+impl Model for Halves {
+    ghost use Rattle.m3_heap.specs.Semi.{Semi};
+
+    ghost Value = { Semi };
+
+    ghost use Rattle.m3_heap.specs.CollectorHalves.{semi_of, IsSemi};
+
+    ghost view = { semi_of };
+
+    ghost invariant = { IsSemi };
+}
+
+impl Halves {
+    ghost use Rattle.m3_heap.specs.Semi.{first_base, new_heap};
+
+    /// No cells yet. Both halves have so many words.
+    pub fn new(alloc: Global, words: u64) -> Result<Halves, NoMemory>
+        requires at_least { 64 ≤ words }
+        requires at_most { words ≤ 67108864 }
+        ensures { IfOk result (λ heap. heap ≡ record { heap = new_heap words; base = first_base }) }
+    {
+        let here = Half::new(alloc, FIRST_BASE, words as usize)?;
+        let there = Half::new(alloc, SECOND_BASE, words as usize)?;
+        Ok(Halves {
+            here,
+            there,
+            is_open: false,
+            asked: 0,
+            fulls: 0,
+        })
+    }
+}
+
+// A count that stops at the end of its type.
+fn one_more(count: u64) -> u64
+    ensures { result ≡ counted count }
+{
+    if count == u64::MAX { count } else { count + 1 }
+}
+
+impl Halves {
+    ghost use Rattle.m3_heap.specs.Cells.{cell_word_at, is_writable, with_word, new_cell, AddsCell};
+    ghost use Rattle.m3_heap.specs.Semi.{UsesOtherHalf, IsOfHalves};
+    ghost use Rattle.m3_heap.specs.Moves.{forwarded, with_kept, kept_words, kept_starts};
+    ghost use Rattle.m3_heap.specs.Reach.{IsBadPointer, HasBadPointer};
+    ghost use Rattle.m3_heap.specs.Heap.{IsSoundHeap, KeepsCounts, CountsOne, KeepsReached, MovesCells, MakesRoom, CostsTrace};
+
+    /// As `allocate` of a store.
+    pub fn allocate(&mut self, kind: u32, words: u64) -> Option<u64>
+        requires closed { self.old.heap.is_open ≡ false }
+        requires some { 1 ≤ words }
+        ensures none { IsNone result ↔ (self.old.heap.free < words) }
+        ensures made { IfSome result (λ start. AddsCell self.old.heap.cells (new_cell start kind words) self.new.heap.cells) }
+        ensures refused { IfNone result (self.new.heap.cells ≡ self.old.heap.cells) }
+        ensures asked { self.new.heap.asked ≡ (if is_some result then self.old.heap.asked else words) }
+        ensures counts { KeepsCounts self.old.heap self.new.heap }
+        ensures sound { IsSoundHeap self.new.heap }
+        ensures halves { IsOfHalves self.new }
+    {
+        if words > self.here.free() {
+            self.asked = words;
+            return None;
+        }
+        let header = u64::from(kind) + words * (1 << 32);
+        Some(self.here.append_zeroed(header, words))
+    }
+
+    /// As `load` of a store.
+    #[inline]
+    pub fn load(&self, at: u64) -> Option<u64>
+        requires closed { self.now.heap.is_open ≡ false }
+        ensures { result ≡ cell_word_at self.now.heap.cells at }
+    {
+        self.here.word(at)
+    }
+
+    /// As `store` of a store.
+    #[inline]
+    pub fn store(&mut self, at: u64, word: u64) -> bool
+        requires closed { self.old.heap.is_open ≡ false }
+        ensures value { result ≡ is_writable self.old.heap.cells at }
+        ensures cells { self.new.heap.cells ≡ (if result then with_word self.old.heap.cells at word else self.old.heap.cells) }
+        ensures asked { self.new.heap.asked ≡ self.old.heap.asked }
+        ensures free { self.new.heap.free ≡ self.old.heap.free }
+        ensures counts { KeepsCounts self.old.heap self.new.heap }
+        ensures sound { IsSoundHeap self.new.heap }
+        ensures halves { IsOfHalves self.new }
+    {
+        self.here.replace(at, word)
+    }
+
+    /// As `begin` of a store.
+    pub fn begin(&mut self)
+        requires closed { self.old.heap.is_open ≡ false }
+        ensures opened { self.new.heap ≡ record self.old.heap { is_open = true; moves = [] } }
+        ensures tenured { self.old.heap.tenured ≡ [] }
+        ensures sound { IsSoundHeap self.new.heap }
+        ensures halves { IsOfHalves self.new }
+    {
+        self.there.clear();
+        self.is_open = true;
+    }
+
+    /// As `visit` of a store.
+    pub fn visit<L: Ledger>(&mut self, word: u64, steps: &mut Steps<L>) -> Option<u64>
+        requires open { self.old.heap.is_open ≡ true }
+        ensures none { IsNone result ↔ IsBadPointer self.old.heap.cells word }
+        ensures value { IfSome result (λ to. to ≡ forwarded self.new.heap.moves word) }
+        ensures kept { IfSome result (λ to. self.new.heap ≡ record self.old.heap { moves = with_kept self.old.heap.moves word to }) }
+        ensures refused { IfNone result (self.new.heap ≡ self.old.heap) }
+        ensures cost { steps.new + kept_words self.old.heap.cells self.old.heap.moves ≡ steps.old + 1 + kept_words self.old.heap.cells self.new.heap.moves }
+        ensures sound { IsSoundHeap self.new.heap }
+        ensures halves { IsOfHalves self.new }
+    {
+        steps.tick();
+        forward(&mut self.here, &mut self.there, word, steps)
+    }
+
+    /// As `finish` of a store. Where it answers true, the other half is in use.
+    pub fn finish<M: Maps, L: Ledger>(&mut self, maps: &M, steps: &mut Steps<L>) -> bool
+        requires open { self.old.heap.is_open ≡ true }
+        ensures bad { result ≡ false → HasBadPointer (M.shapes maps.now) self.old.heap.cells (kept_starts self.old.heap.moves) }
+        ensures good { IsTrue result → HasBadPointer (M.shapes maps.now) self.old.heap.cells (kept_starts self.old.heap.moves) → ⊥ }
+        ensures reached { OnTrue result (KeepsReached (M.shapes maps.now) self.old.heap self.new.heap) }
+        ensures moved { OnTrue result (MovesCells (M.shapes maps.now) self.old.heap self.new.heap) }
+        ensures room { OnTrue result (MakesRoom self.old.heap self.new.heap) }
+        ensures counted { OnTrue result (CountsOne self.old.heap self.new.heap) }
+        ensures cost { OnTrue result (CostsTrace (M.shapes maps.now) self.old.heap self.new.heap steps.old steps.new) }
+        ensures closed { self.new.heap.is_open ≡ false }
+        ensures asked { self.new.heap.asked ≡ 0 }
+        ensures size { self.new.heap.size ≡ self.old.heap.size }
+        ensures other_half { OnTrue result (UsesOtherHalf self.old self.new) }
+        ensures sound { IsSoundHeap self.new.heap }
+        ensures halves { IsOfHalves self.new }
+    {
+        let is_traced = trace(&mut self.here, &mut self.there, maps, steps);
+        self.is_open = false;
+        self.asked = 0;
+        if !is_traced {
+            self.here.clear();
+            return false;
+        }
+        mem::swap(&mut self.here, &mut self.there);
+        self.fulls = one_more(self.fulls);
+        true
+    }
+
+    /// As `free_words` of a store.
+    pub fn free_words(&self) -> u64
+        requires closed { self.now.heap.is_open ≡ false }
+        ensures { result ≡ self.now.heap.free }
+    {
+        self.here.free()
+    }
+}

@@ -1,0 +1,9 @@
+pub mod State
+pub mod Progress
+pub mod Calls
+pub mod Texts
+pub mod Making
+pub mod Acts
+pub mod Steps
+pub mod Points
+pub mod Runs

@@ -1,0 +1,129 @@
+-- The state of a machine between two instructions, and what each address holds in it.
+use Rattle.std.specs.Prelude.{ℕ, ◌≡◌, ◌+◌, ◌-◌, ◌*◌, ◌^◌, ◌&&◌, ◌==◌, not, nat_le, nat_lt, Bool, if◌then◌else◌, List, [], length, map, replicate, slice_set, Option, slice_get}
+use Rattle.m3_isa.specs.Memory.{Memory}
+use Rattle.m3_isa.specs.declared.registers.Regs.{Regs}
+use Rattle.m3_heap.specs.Cells.{Cell, cell_word_at, is_writable}
+use Rattle.m3_heap.specs.Heap.{Heap}
+use Rattle.m3_threads.specs.declared.status.Thread.{Thread}
+use Rattle.m3_threads.specs.All.{Everyone, updated}
+use Rattle.m3_threads.specs.Actions.{at_start}
+use Rattle.m3_threads.specs.Spaces.{held, replaceable}
+use Rattle.m3_image.specs.Parts.{Program}
+
+-- the threads with their stacks and the counts of forks and waits; the words of the globals; the heap; the
+-- thread that went last; how many bytes of the input were taken, and which bytes were put; how many points
+-- were passed, instructions executed and collections made; and how many instructions the turn has executed
+pub record State : Type 0 where
+  pub all : Everyone
+  pub globals : List ℕ
+  pub heap : Heap
+  pub running : ℕ
+  pub taken : ℕ
+  pub output : List ℕ
+  pub points : ℕ
+  pub instructions : ℕ
+  pub collections : ℕ
+  pub turn : ℕ
+
+-- ---- addresses
+
+abbrev pub globals_base : ℕ
+globals_base = 2 ^ 32
+
+abbrev pub constants_base : ℕ
+constants_base = 2 ^ 50
+
+-- an address is that of one of so many words from another address on
+abbrev pub is_from : ℕ → ℕ → ℕ → Bool
+is_from base words at = nat_le base at && nat_lt at (base + words)
+
+-- what each address outside the stacks holds: globals, constants and cells
+abbrev pub outside_of : List ℕ → List ℕ → List Cell → Memory
+outside_of globals constants cells at =
+    if is_from globals_base (length globals) at then slice_get globals (at - globals_base)
+    else if is_from constants_base (length constants) at then slice_get constants (at - constants_base)
+    else cell_word_at cells at
+
+abbrev pub outside : Program → State → Memory
+outside p s = outside_of s.globals p.constants s.heap.cells
+
+-- which of them can be set: no constant, no header, and not the first global, which is the header of the
+-- main thread's cell
+abbrev pub settable_of : ℕ → List Cell → ℕ → Bool
+settable_of globals cells at =
+    if is_from globals_base globals at then not (at == globals_base) else is_writable cells at
+
+abbrev pub settable : State → ℕ → Bool
+settable s = settable_of (length s.globals) s.heap.cells
+
+-- what each address holds, stacks and all, and which can be set
+abbrev pub memory_of : Program → State → Memory
+memory_of p s = held s.all (outside p s)
+
+abbrev pub can_set : State → ℕ → Bool
+can_set s = replaceable s.all (settable s)
+
+-- ---- states that differ in what their addresses hold
+
+-- the places of cells, without their words
+abbrev pub layout : List Cell → List (ℕ × ℕ)
+layout cells = map (λ c. (c.start, length c.words)) cells
+
+-- how many words each stack has
+abbrev pub depths : List (List ℕ) → List ℕ
+depths stacks = map (λ words. length words) stacks
+
+-- a state that is this one but for its words
+pub record HasOtherWords (old new : State) : Type 0 where
+  pub threads : new.all.threads ≡ old.all.threads
+  pub depths : depths new.all.stacks ≡ depths old.all.stacks
+  pub forks : new.all.forks ≡ old.all.forks
+  pub waits : new.all.waits ≡ old.all.waits
+  pub allowed : new.all.allowed ≡ old.all.allowed
+  pub stack : new.all.stack ≡ old.all.stack
+  pub globals : length new.globals ≡ length old.globals
+  pub layout : layout new.heap.cells ≡ layout old.heap.cells
+  pub heap : new.heap ≡ record old.heap { cells = new.heap.cells; watched = new.heap.watched }
+  pub rest : new ≡ record old { all = new.all; globals = new.globals; heap = new.heap }
+
+-- each address holds what a memory says, and everything else is as it was
+pub record Becomes (p : Program) (old : State) (memory : Memory) (new : State) : Type 0 where
+  pub others : HasOtherWords old new
+  pub words : (at : ℕ) → memory_of p new at ≡ memory at
+
+-- ---- the thread that runs
+
+abbrev pub with_all : State → Everyone → State
+with_all s all = record s { all = all }
+
+abbrev pub regs_set : Regs → Thread → Thread
+regs_set regs t = record t { regs = regs }
+
+-- the thread of a number has these registers
+abbrev pub with_regs : State → ℕ → Regs → State
+with_regs s n regs = with_all s (record s.all { threads = updated (regs_set regs) n s.all.threads })
+
+-- one instruction was executed
+abbrev pub executed : State → State
+executed s = record s { instructions = s.instructions + 1; turn = s.turn + 1 }
+
+-- ---- the start
+
+-- the globals at the start: the header of the main thread's cell, of type 1 and four words, and zeros
+abbrev pub first_globals : ℕ → List ℕ
+first_globals words = slice_set (replicate words 0) 0 (1 + 4 * 2 ^ 32)
+
+-- the main thread alone, in slot 0, at the first instruction; a heap without cells; nothing was done yet
+abbrev pub start : Program → Heap → ℕ → ℕ → State
+start p heap threads stack = record {
+  all = at_start threads stack;
+  globals = first_globals p.globals.words;
+  heap = heap;
+  running = 0;
+  taken = 0;
+  output = [];
+  points = 0;
+  instructions = 0;
+  collections = 0;
+  turn = 0;
+}

@@ -1,0 +1,30 @@
+ghost use Rattle.std.specs.Prelude.{◌≡◌, ℕ, Some, slice_get};
+ghost use Rattle.m3_isa.specs.declared.instructions.Instr.{Instr as Instruction};
+ghost use Rattle.m3_isa.specs.Instructions.{IsInstruction};
+
+use crate::parts::Parts;
+use m3_heap::Store;
+use m3_isa::{Instr, Regs, Step, step};
+
+/// Carries out one plain instruction over both parts. Whatever the instruction is, as many words are free
+/// afterwards as before, and no collection was counted.
+pub fn step_over<S: Store>(i: &Instr, regs: &mut Regs, memory: &mut Parts<S>) -> Step
+    requires { IsInstruction i.now }
+    ensures free { (S.heap memory.new.heap.heap).free ≡ (S.heap memory.old.heap.heap).free }
+    ensures fulls { (S.heap memory.new.heap.heap).fulls ≡ (S.heap memory.old.heap.heap).fulls }
+    ensures minors { (S.heap memory.new.heap.heap).minors ≡ (S.heap memory.old.heap.heap).minors }
+{
+    step(i, regs, memory)
+}
+
+/// The same of several instructions, one after another, up to the first that isn't carried out.
+pub fn run_over<S: Store>(code: &[Instr], regs: &mut Regs, memory: &mut Parts<S>)
+    requires { (k : ℕ) (i : Instruction) → slice_get code.now k ≡ Some i → IsInstruction i }
+    ensures { (S.heap memory.new.heap.heap).free ≡ (S.heap memory.old.heap.heap).free }
+{
+    for i in code {
+        if step_over(i, regs, memory) != Step::Went {
+            return;
+        }
+    }
+}

@@ -1,0 +1,5 @@
+use Rattle.std.proofs.Common.{◌+◌, ◌≤◌}
+use Rattle.m3_threads_tests.proofs.tests.play.Given as goal
+
+abbrev pub invariant-loop-event : goal.invariant-loop-event
+invariant-loop-event g l = l.all.forks + l.all.waits ≤ l.initial.all.forks + l.initial.all.waits + l.event-index

@@ -1,0 +1,5 @@
+//! Histories of threads, mutexes, conditions and alerts, worked out by hand.
+#![tactic(auto)]
+
+#[cfg(test)]
+mod tests;
