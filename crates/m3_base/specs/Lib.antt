@@ -1,3 +1,5 @@
 pub mod Faults
 pub mod Rules
+pub mod ScheduleRefusals
+pub mod Schedules
 pub mod Words
