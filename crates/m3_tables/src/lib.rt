@@ -14,10 +14,11 @@ mod row;
 mod rows;
 mod section;
 mod table;
+mod tidy;
 mod writing;
 
 pub use derivation::Derivation;
-pub use fields::{list_at, word_at};
+pub use fields::{Entries, WayView, Ways, list_at, word_at};
 pub use numbers::{Numbers, word};
 pub use place::Location;
 pub use plain::{DerivedPlain, RowPlain, Way};
