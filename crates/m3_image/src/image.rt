@@ -6,15 +6,16 @@ ghost use Rattle.m3_image.specs.Programs.{fault_of, variable_fits};
 ghost use Rattle.m3_image.specs.PartViews.{variables_list};
 ghost use Rattle.m3_image.specs.ProgramViews.{program_view};
 
+use crate::lists::Names;
 use crate::procs::ProcPart;
 use crate::program::Program;
 use crate::refusal::ImageRefusal;
 use crate::sections::Sections;
-use crate::types::TypeView;
+use crate::types::{TypeView, Types};
 use crate::variables::{VarView, Variables};
 use m3_heap::Maps;
 use m3_isa::Instr;
-use m3_tables::TableView;
+use m3_tables::{Numbers, TableView};
 
 /// An image, as it stands in its bytes. A view takes no memory.
 #[derive(Clone, Copy)]
@@ -36,7 +37,9 @@ impl<'a> ImageView<'a> {
     ghost use Rattle.m3_isa.specs.Instructions.{IsInstruction};
     ghost use Rattle.m3_image.specs.Images.{seen, read_of, IsImage};
     ghost use Rattle.m3_image.specs.Programs.{containing};
-    ghost use Rattle.m3_image.specs.Views.{image_view, type_of, variable_of};
+    ghost use Rattle.std.specs.Prelude.{length};
+    ghost use Rattle.m3_tables.specs.Views.{numbers_of};
+    ghost use Rattle.m3_image.specs.Views.{image_view, type_of, types_of, names_of, variable_of};
 
     /// The image that bytes are. The error is the first condition that the bytes meet, in the order in which the
     /// conditions are tested.
@@ -74,6 +77,69 @@ impl<'a> ImageView<'a> {
         ensures good { IfSome result (λ i. IsInstruction i) }
     {
         self.program.code.get(n)
+    }
+
+    /// How many instructions there are.
+    pub fn code_len(&self) -> u32
+        ensures { result ≡ length (image_view self.now).program.code }
+    {
+        self.program.code.len()
+    }
+
+    /// How many procedures there are.
+    pub fn proc_count(&self) -> usize
+        ensures { result ≡ length (image_view self.now).program.procs }
+    {
+        self.program.procs.len()
+    }
+
+    /// How many constants there are.
+    pub fn constant_count(&self) -> usize
+        ensures { result ≡ length (image_view self.now).program.constants }
+    {
+        self.program.constants.len()
+    }
+
+    /// How many places there are.
+    pub fn place_count(&self) -> usize
+        ensures { result ≡ length (image_view self.now).program.places }
+    {
+        self.program.places.len()
+    }
+
+    /// The types, one after the other.
+    pub fn types(&self) -> Types<'a>
+        ensures { types_of result ≡ (image_view self.now).program.types }
+    {
+        self.program.types
+    }
+
+    /// The names of the files, one after the other.
+    pub fn files(&self) -> Names<'a>
+        ensures { names_of result ≡ (image_view self.now).program.files }
+    {
+        self.program.files
+    }
+
+    /// The names of the exceptions, one after the other, each with its unit before it.
+    pub fn exceptions(&self) -> Names<'a>
+        ensures { names_of result ≡ (image_view self.now).program.exceptions }
+    {
+        self.program.exceptions
+    }
+
+    /// The numbers of the global words that are pointers, which rise.
+    pub fn global_pointers(&self) -> Numbers<'a>
+        ensures { numbers_of result ≡ (image_view self.now).program.globals.pointers }
+    {
+        self.program.globals.pointers
+    }
+
+    /// The shown variables, one after the other; none in version 1.
+    pub fn variables(&self) -> Variables<'a>
+        ensures { variables_list result ≡ (image_view self.now).variables }
+    {
+        self.variables
     }
 
     /// The procedure of a number, from 0. None exactly past the last.

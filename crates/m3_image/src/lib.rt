@@ -14,7 +14,8 @@ mod types;
 mod variables;
 
 pub use image::ImageView;
+pub use lists::{Names, Pairs};
 pub use procs::ProcPart;
 pub use refusal::ImageRefusal;
-pub use types::TypeView;
-pub use variables::VarView;
+pub use types::{TypeView, Types};
+pub use variables::{VarView, Variables};

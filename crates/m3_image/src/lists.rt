@@ -49,7 +49,7 @@ pub(crate) struct Longs<'a> {
 
 /// Pairs of numbers of four bytes, one after the other.
 #[derive(Clone, Copy)]
-pub(crate) struct Pairs<'a> {
+pub struct Pairs<'a> {
     pub(crate) count: usize,
     pub(crate) bytes: &'a [u8],
     ghost held: { 8 * count ≤ length bytes.now },
@@ -57,7 +57,7 @@ pub(crate) struct Pairs<'a> {
 
 /// Names one after the other, as far as the bytes hold them.
 #[derive(Clone, Copy)]
-pub(crate) struct Names<'a> {
+pub struct Names<'a> {
     pub(crate) count: u32,
     pub(crate) bytes: &'a [u8],
 }

@@ -25,7 +25,7 @@ pub struct TypeView<'a> {
 
 /// Types one after the other, as far as the bytes hold them.
 #[derive(Clone, Copy)]
-pub(crate) struct Types<'a> {
+pub struct Types<'a> {
     pub(crate) bytes: &'a [u8],
     ghost small: { length bytes.now < 2 ^ 32 },
 }
@@ -102,9 +102,23 @@ impl<'a> TypeView<'a> {
         self.pointers.get(n as usize)
     }
 
+    /// The methods, one after the other.
+    pub fn methods(&self) -> Numbers<'a>
+        ensures { numbers_of result ≡ (type_of self.now).methods }
+    {
+        self.methods
+    }
+
+    /// The offsets of the pointers, which rise.
+    pub fn pointers(&self) -> Numbers<'a>
+        ensures { numbers_of result ≡ (type_of self.now).pointers }
+    {
+        self.pointers
+    }
+
     /// Whether an offset is one of the pointers, which are all below the words.
     #[tactic(auto, using(crate::proofs::ShapeLemmas::has_listed, crate::proofs::ShapeLemmas::not_listed))]
-    fn points_at(&self, offset: u64) -> bool
+    pub fn points_at(&self, offset: u64) -> bool
         requires rise { IsTrue (rises (type_of self.now).pointers) }
         requires below { IsTrue (list_all (is_between 0 (type_of self.now).words) (type_of self.now).pointers) }
         ensures { result ≡ is_listed (type_of self.now).pointers offset }

@@ -25,7 +25,7 @@ pub struct VarView<'a> {
 
 /// Variables one after the other, as far as the bytes hold them.
 #[derive(Clone, Copy)]
-pub(crate) struct Variables<'a> {
+pub struct Variables<'a> {
     pub(crate) count: u32,
     pub(crate) bytes: &'a [u8],
 }
@@ -36,7 +36,7 @@ impl<'a> VarView<'a> {
     ghost use Rattle.m3_tables.specs.Numbers.{rises};
     ghost use Rattle.m3_tables.specs.Places.{location_of};
     ghost use Rattle.m3_image.specs.Parts.{variable_at};
-    ghost use Rattle.m3_image.specs.Views.{variable_of};
+    ghost use Rattle.m3_image.specs.Views.{variable_of, pairs_of};
 
     /// Where the variable is while a thread stands at an instruction: that instruction, and the place. None
     /// exactly past the variable's spans.
@@ -45,6 +45,13 @@ impl<'a> VarView<'a> {
     {
         let (instr, location) = self.spans.get(n)?;
         Some((instr, Location::from_number(location)))
+    }
+
+    /// The spans, one after the other: an instruction, and the number of the place where the variable is.
+    pub fn spans(&self) -> Pairs<'a>
+        ensures { pairs_of result ≡ (variable_of self.now).spans }
+    {
+        self.spans
     }
 
     /// A variable, and the bytes after it.

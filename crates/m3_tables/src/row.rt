@@ -73,6 +73,13 @@ impl<'a> Row<'a> {
         self.number
     }
 
+    /// Whether the row says that it is the same as the one before: its tidy places are the same then.
+    pub fn is_same(&self) -> bool
+        ensures { IsTrue result → tidy_in self.now ≡ was_list (section_of_row self.now) (number_of_row self.now) }
+    {
+        self.section.is_same(self.number)
+    }
+
     /// The numbers of the tidy places, each once, by those of the row before, of which the first row has none. It
     /// goes over the row once.
     #[tactic(auto, using(crate::proofs::SectionLemmas::has_tidy_list))]

@@ -44,6 +44,15 @@ fn changed(
 }
 
 impl<'a> Section<'a> {
+    /// Whether a row says that it is the same as the one before.
+    #[tactic(auto, using(crate::proofs::SectionLemmas::tidy_list_at))]
+    pub(crate) fn is_same(&self, row: usize) -> bool
+        requires { row < word_in self.now.bytes.now }
+        ensures { IsTrue result → tidy_list self.now.bytes.now row ≡ was_list self.now.bytes.now row }
+    {
+        matches!(self.listing(row), Some((Listing::Same, _)))
+    }
+
     /// The tidy places of a row, by those of the row before.
     #[tactic(auto, using(crate::proofs::SectionLemmas::tidy_list_at))]
     pub(crate) fn tidy_places(
