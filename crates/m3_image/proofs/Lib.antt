@@ -4,3 +4,4 @@ pub mod CodeLemmas
 pub mod ProcLemmas
 pub mod RowLemmas
 pub mod ShapeLemmas
+pub mod CoverLemmas

@@ -7,7 +7,7 @@ ghost use Rattle.m3_image.specs.PartViews.{variables_list};
 ghost use Rattle.m3_image.specs.ProgramViews.{program_view};
 
 use crate::lists::Names;
-use crate::procs::ProcPart;
+use crate::procs::{ProcPart, Procs};
 use crate::program::Program;
 use crate::refusal::ImageRefusal;
 use crate::sections::Sections;
@@ -37,9 +37,9 @@ impl<'a> ImageView<'a> {
     ghost use Rattle.m3_isa.specs.Instructions.{IsInstruction};
     ghost use Rattle.m3_image.specs.Images.{seen, read_of, IsImage};
     ghost use Rattle.m3_image.specs.Programs.{containing};
-    ghost use Rattle.std.specs.Prelude.{length};
+    ghost use Rattle.std.specs.Prelude.{◌≤◌, IfNone, length};
     ghost use Rattle.m3_tables.specs.Views.{numbers_of};
-    ghost use Rattle.m3_image.specs.Views.{image_view, type_of, types_of, names_of, variable_of};
+    ghost use Rattle.m3_image.specs.Views.{image_view, type_of, types_of, procs_of, names_of, variable_of};
 
     /// The image that bytes are. The error is the first condition that the bytes meet, in the order in which the
     /// conditions are tested.
@@ -84,6 +84,13 @@ impl<'a> ImageView<'a> {
         ensures { result ≡ length (image_view self.now).program.code }
     {
         self.program.code.len()
+    }
+
+    /// The procedures, one after the other.
+    pub fn procs(&self) -> Procs<'a>
+        ensures { procs_of result ≡ (image_view self.now).program.procs }
+    {
+        self.program.procs
     }
 
     /// How many procedures there are.
@@ -151,7 +158,8 @@ impl<'a> ImageView<'a> {
 
     /// The procedure that an instruction is in. None exactly past the code.
     pub fn containing(&self, instr: u32) -> Option<ProcPart>
-        ensures { result ≡ containing (image_view self.now).program.procs instr }
+        ensures value { result ≡ containing (image_view self.now).program.procs instr }
+        ensures all { IfNone result (length (image_view self.now).program.code ≤ instr) }
     {
         self.program.procs.containing(instr)
     }

@@ -15,7 +15,7 @@ mod variables;
 
 pub use image::ImageView;
 pub use lists::{Names, Pairs};
-pub use procs::ProcPart;
+pub use procs::{ProcPart, Procs};
 pub use refusal::ImageRefusal;
 pub use types::{TypeView, Types};
 pub use variables::{VarView, Variables};

@@ -16,7 +16,7 @@ pub struct ProcPart {
 
 /// Procedures one after the other, in sixteen bytes each.
 #[derive(Clone, Copy)]
-pub(crate) struct Procs<'a> {
+pub struct Procs<'a> {
     pub(crate) count: usize,
     pub(crate) bytes: &'a [u8],
     ghost held: { 16 * count ≤ length bytes.now },

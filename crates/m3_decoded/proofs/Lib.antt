@@ -1,0 +1,4 @@
+pub mod AncestorLemmas
+pub mod Lists
+pub mod RowLemmas
+pub mod TypeLemmas
