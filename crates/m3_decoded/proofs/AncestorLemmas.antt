@@ -1,10 +1,11 @@
 -- Ancestors of ancestors, and jumps to them.
-use Rattle.std.proofs.Common.{◌≡◌, ℕ, zero, suc, ◌+◌, ◌-◌, ◌<◌, ◌≤◌, List, Option, Some, None, refl, sym, ◌∙◌, ap, subst, arith, inl, inr, ◌⊎◌}
+use Rattle.std.proofs.Common.{◌≡◌, ℕ, zero, suc, ◌+◌, ◌-◌, ◌<◌, ◌≤◌, List, Option, Some, None, refl, sym, ◌∙◌, arith, inl, inr}
 use Rattle.std.specs.Option.{option_and_then}
 use Rattle.std.proofs.lemmas.Bool.{cases_lt}
 use Rattle.m3_image.specs.Parts.{CellType}
 use Rattle.m3_decoded.specs.declared.jumps.Jump.{Jump}
 use Rattle.std.proofs.Common.{length, get_or, map}
+use Rattle.std.specs.List.{slice_get}
 use Rattle.std.proofs.lemmas.Option.{slice_get-map, slice_get-get_or}
 use Rattle.m3_decoded.specs.declared.types.ReadyType.{ReadyType}
 use Rattle.m3_decoded.specs.ReadyTypes.{ready_type}
@@ -86,6 +87,10 @@ at_jump types forest t u j fits below found =
           let rest : j.up + (found.0 - j.up) ≡ found.0 = omega arith in
           (found.0 - j.up, sym (ancestor_add types j.up (found.0 - j.up) t j.to fits.lands) ∙ rw rest found.1))
     ]
+
+-- a type in a list
+pub ready_at : (types : List ReadyType) (t : ℕ) (r : ReadyType) → t < length types → r ≡ get_or types t r → slice_get (map ready_type types) t ≡ Some (ready_type r)
+ready_at types t r there e = rw (slice_get-map ready_type types t, slice_get-get_or types t r there, ← e) refl
 
 -- the parent of a type in a list
 pub parent_at : (types : List ReadyType) (t : ℕ) (r : ReadyType) → t < length types → r ≡ get_or types t r → parent_of (map ready_type types) t ≡ parent_in (ready_type r)

@@ -2,3 +2,4 @@ pub mod AncestorLemmas
 pub mod Lists
 pub mod RowLemmas
 pub mod TypeLemmas
+pub mod InstructionLemmas

@@ -1,5 +1,5 @@
 -- Tidy places of one row more.
-use Rattle.std.proofs.Common.{◌≡◌, ℕ, ◌+◌, ◌≤◌, List, [], ◌∷◌, ◌++◌, length, Some, suc, refl, sym, ◌∙◌, arith}
+use Rattle.std.proofs.Common.{◌≡◌, ℕ, ◌+◌, List, [], ◌∷◌, ◌++◌, length, Some, suc, refl, ◌∙◌, arith}
 use Rattle.std.specs.List.{slice_get}
 use Rattle.m3_tables.specs.Sections.{tidy_list, was_list}
 use Rattle.m3_decoded.specs.declared.span.Span.{Span}

@@ -1,12 +1,10 @@
 //! The instructions of an image, each decoded once, and the procedure that each is in.
 ghost use Rattle.std.specs.Prelude.{◌≡◌, ◌≤◌, ℕ, Some, length, IfOk, IfSome};
 ghost use Rattle.std.specs.List.{slice_get};
-ghost use Rattle.m3_isa.specs.declared.instructions.Instr.{Instr};
-ghost use Rattle.m3_isa.specs.Instructions.{row_of, IsInstruction};
-ghost use Rattle.m3_isa.specs.CodeBytes.{fields_fit};
 ghost use Rattle.m3_image.specs.declared.procs.ProcPart.{ProcPart};
 ghost use Rattle.m3_image.specs.Programs.{containing};
 ghost use Rattle.m3_image.specs.Views.{image_view};
+ghost use Rattle.m3_decoded.specs.Code.{AreInstructions};
 
 use m3_base::NoMemory;
 use m3_image::{ImageView, ProcPart};
@@ -16,7 +14,7 @@ use std::alloc::Global;
 /// The instructions of an image.
 pub(crate) fn instructions(alloc: Global, image: &ImageView<'_>) -> Result<Vec<Instr>, NoMemory>
     ensures code { IfOk result (λ v. v.items ≡ (image_view image.now).program.code) }
-    ensures good { IfOk result (λ v. (n : ℕ) (i : Instr) → slice_get v.items n ≡ Some i → IsInstruction i) }
+    ensures good { IfOk result (λ v. AreInstructions v.items) }
 {
     let mut found = Vec::new(alloc);
     for n in 0..image.code_len() {

@@ -1,7 +1,6 @@
 use Rattle.std.proofs.Common.{◌<◌, length, map, slice_index_or, arith}
 use Rattle.m3_decoded.specs.declared.jumps.Jump.{Jump}
 use Rattle.m3_decoded.specs.ReadyTypes.{ready_type}
-use Rattle.m3_decoded.specs.Jumps.{JumpFits}
 use Rattle.m3_decoded.proofs.AncestorLemmas.{over_jump}
 use Rattle.m3_decoded.proofs.jumps.jump_over.Goals as goal
 

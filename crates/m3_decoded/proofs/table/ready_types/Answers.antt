@@ -1,6 +1,4 @@
-use Rattle.std.proofs.Common.{◌≡◌, ◌+◌, List, [], ◌∷◌, ◌++◌, length, map, true, sym, ◌∙◌, ap, subst, arith, append_assoc, length-append}
-use Rattle.std.proofs.lemmas.List.{map-append}
-use Rattle.m3_image.specs.Parts.{CellType}
+use Rattle.std.proofs.Common.{◌≡◌, ◌+◌, List, [], ◌∷◌, ◌++◌, length, map, true, ◌∙◌, ap, subst, arith, length-append}
 use Rattle.m3_image.specs.Forms.{types_fit_from}
 use Rattle.m3_image.specs.Views.{image_view, types_of, type_of}
 use Rattle.m3_decoded.specs.declared.types.ReadyType.{ReadyType}

@@ -1,6 +1,6 @@
-use Rattle.std.proofs.Common.{◌≡◌, ℕ, ◌+◌, List, [], ◌∷◌, ◌++◌, length, sym, refl, ◌∙◌, ap, subst, arith, length-append}
+use Rattle.std.proofs.Common.{◌≡◌, List, [], ◌∷◌, length, sym, refl, ◌∙◌, ap, subst, arith, length-append}
 use Rattle.m3_tables.specs.Sections.{tidy_list}
-use Rattle.m3_tables.specs.Tables.{section_of, section_of_row, number_of_row}
+use Rattle.m3_tables.specs.Tables.{section_of}
 use Rattle.m3_decoded.specs.declared.span.Span.{Span}
 use Rattle.m3_decoded.specs.Parts.{part, IsSpan}
 use Rattle.m3_decoded.proofs.RowLemmas.{AreTold, told_more, was_next}
