@@ -8,3 +8,4 @@ pub mod PartViews
 pub mod ProgramViews
 pub mod Views
 pub mod Shapes
+pub mod Sound

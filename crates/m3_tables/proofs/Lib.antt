@@ -8,3 +8,4 @@ pub mod Again
 pub mod Missing
 pub mod AgainRows
 pub mod PlainFits
+pub mod KeepingLemmas

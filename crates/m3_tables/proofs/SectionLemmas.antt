@@ -158,7 +158,7 @@ row_rises_then : (row : ℕ) (was tidy : ℕ → Bool) (o : Option (Tidies × Li
 row_rises_then row was tidy None before b e = absurd cc
 row_rises_then row was tidy (Some x) before b e = told_rises tidy x.0 x.1 before b (and_parts (tidies_fit row was x.0) (rest_fits tidy x.0 x.1) e).1
 
-good_fits : (section : List ℕ) (row : ℕ) → is_good section row ≡ true → row_fits section row ≡ true
+pub good_fits : (section : List ℕ) (row : ℕ) → is_good section row ≡ true → row_fits section row ≡ true
 unfolding is_good
 good_fits section row e =
     (and_parts (row_rises section row) (row_fits section row) (and_parts (instruction_rises section row && offset_in section row == start_of section row) (row_rises section row && row_fits section row) e).1).1

@@ -8,3 +8,4 @@ pub mod Tables
 pub mod Plain
 pub mod Writing
 pub mod Tabulates
+pub mod Keeping

@@ -26,6 +26,7 @@ impl<'a> Row<'a> {
     ghost use Rattle.std.specs.Prelude.{IfOk};
     ghost use Rattle.m3_tables.specs.Numbers.{has};
     ghost use Rattle.m3_tables.specs.Sections.{contents_in, instruction_in, is_tidy, was_list};
+    ghost use Rattle.m3_tables.specs.Keeping.{RowKept};
     ghost use Rattle.m3_tables.specs.Views.{contents_of, entry_of, numbers_of, entries_of};
     ghost use Rattle.m3_tables.specs.Tables.{section_of_row, number_of_row, is_tidy_in, is_argument_in, is_passed_in, tidy_in, arguments_in, passed_in, derived_in};
 
@@ -37,6 +38,11 @@ impl<'a> Row<'a> {
     {
         Row { section, number }
     }
+
+    /// What every row keeps: it holds of each, however it was come by.
+    pub fn keeps_its_form(&self)
+        ensures { RowKept (section_of_row self.now) (number_of_row self.now) }
+    {}
 
     /// The row's instruction.
     pub fn instruction(&self) -> u32
