@@ -26,7 +26,7 @@ covered_from start (p ∷ ps) pc le e =
           covered_from (p.first + p.count) ps pc later (cc (others)))
     ]
 
-suits : (p : Program) → fault_of p ≡ None → procs_suit p ≡ true
+pub suits : (p : Program) → fault_of p ≡ None → procs_suit p ≡ true
 unfolding fault_of
 suits p e =
     elim (choice (procs_suit p)) [

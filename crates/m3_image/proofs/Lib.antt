@@ -5,3 +5,4 @@ pub mod ProcLemmas
 pub mod RowLemmas
 pub mod ShapeLemmas
 pub mod CoverLemmas
+pub mod SoundLemmas

@@ -37,6 +37,7 @@ impl<'a> ImageView<'a> {
     ghost use Rattle.m3_isa.specs.Instructions.{IsInstruction};
     ghost use Rattle.m3_image.specs.Images.{seen, read_of, IsImage};
     ghost use Rattle.m3_image.specs.Programs.{containing};
+    ghost use Rattle.m3_image.specs.Sound.{IsSoundProgram};
     ghost use Rattle.std.specs.Prelude.{◌≤◌, IfNone, length};
     ghost use Rattle.m3_tables.specs.Views.{numbers_of};
     ghost use Rattle.m3_image.specs.Views.{image_view, type_of, types_of, procs_of, names_of, variable_of};
@@ -62,6 +63,13 @@ impl<'a> ImageView<'a> {
     /// What every image keeps: it holds of each view, however it was come by.
     pub fn keeps_its_form(&self)
         ensures { IsImage (image_view self.now) }
+    {}
+
+    /// What the code, the procedures and the rows of every image keep beside each other: the procedures have all of
+    /// the code, each jump stays in its procedure, and each row's places are in the frame of its procedure.
+    #[tactic(auto, using(crate::proofs::SoundLemmas::sound_program))]
+    pub fn keeps_together(&self)
+        ensures { IsSoundProgram (image_view self.now).program }
     {}
 
     /// The version, 1 or 2.
