@@ -5,4 +5,5 @@ pub mod ProcLemmas
 pub mod RowLemmas
 pub mod ShapeLemmas
 pub mod CoverLemmas
+pub mod PointLemmas
 pub mod SoundLemmas

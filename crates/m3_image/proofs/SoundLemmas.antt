@@ -21,6 +21,7 @@ use Rattle.m3_image.specs.Programs.{or_else, first_failing, containing, contains
 use Rattle.m3_image.specs.Sound.{IsInFrame, EntryPlaces, RowInFrame, RowSparesRegisters, ProgramRow, JumpStays, IsSoundProgram}
 use Rattle.m3_image.proofs.FirstLemmas.{first_none}
 use Rattle.m3_image.proofs.CoverLemmas.{suits, all_contained}
+use Rattle.m3_image.proofs.PointLemmas.{each_point, only_points}
 
 -- ---- which tests were passed
 
@@ -40,13 +41,13 @@ both_none p e =
     let parts = or_none (option_map refusal.Target (first_failing (target_fits p) (length p.code))) (option_map refusal.Table (tables_fault p)) rest in
     (map_none refusal.Target (first_failing (target_fits p) (length p.code)) parts.0, map_none refusal.Table (tables_fault p) parts.1)
 
-rows_none : (p : Program) → tables_fault p ≡ None → first_failing (row_fits p) (word_in p.tables) ≡ None
+tables_parts : (p : Program) → tables_fault p ≡ None → (directory_fault p.tables ≡ None) × (lists_points p ≡ true) × (first_failing (row_fits p) (word_in p.tables) ≡ None)
 unfolding tables_fault
-rows_none p e =
-    let rest = (or_none (directory_fault p.tables) _ e).1 in
+tables_parts p e =
+    let parts = or_none (directory_fault p.tables) _ e in
     elim (choice (lists_points p)) [
-      | inl listed ↦ (or_none (first_failing (row_fits p) (word_in p.tables)) (end_fault p.tables) (rw listed at rest)).0
-      | inr missing ↦ (let h = rw missing at rest in absurd cc)
+      | inl listed ↦ (parts.0, listed, (or_none (first_failing (row_fits p) (word_in p.tables)) (end_fault p.tables) (rw listed at parts.1)).0)
+      | inr missing ↦ (let h = rw missing at parts.1 in absurd cc)
     ]
 
 -- ---- jumps
@@ -137,7 +138,7 @@ program_row p row (Some home) (Some i) h f good e =
     }
 
 rows_fit : (p : Program) → fault_of p ≡ None → (row : ℕ) → row < word_in p.tables → row_fits p row ≡ true
-rows_fit p sound row lt = first_none (row_fits p) (word_in p.tables) (rows_none p (both_none p sound).1) row lt
+rows_fit p sound row lt = first_none (row_fits p) (word_in p.tables) (tables_parts p (both_none p sound).1).2 row lt
 
 rows_kept : (p : Program) → fault_of p ≡ None → (row : ℕ) → row < word_in p.tables → ProgramRow p row
 rows_kept p sound row lt =
@@ -149,5 +150,7 @@ pub sound_program : (p : Program) → fault_of p ≡ None → IsSoundProgram p
 sound_program p sound = record {
   covered = λ pc h. all_contained p pc sound h;
   jumps = jumps_stay p sound;
+  points = λ pc point. (let parts = tables_parts p (both_none p sound).1 in each_point p parts.0 parts.1 pc point);
+  only_points = λ row less. (let parts = tables_parts p (both_none p sound).1 in only_points p parts.0 parts.1 row less);
   rows = rows_kept p sound;
 }

@@ -53,8 +53,11 @@ pub record JumpStays (p : Program) (pc : ℕ) (i : Instr) : Type 0 where
   pub from_first : home.first ≤ to
   pub to_last : to < home.first + home.count
 
--- what every program that was read keeps
+-- what every program that was read keeps: each instruction is in a procedure, jumps stay in theirs, each point
+-- instruction has a row and no other has one, and what each row keeps
 pub record IsSoundProgram (p : Program) : Type 0 where
   pub covered : (pc : ℕ) → containing p.procs pc ≡ None → length p.code ≤ pc
   pub jumps : (pc : ℕ) (i : Instr) → slice_get p.code pc ≡ Some i → target_of i.op ≡ Jump → JumpStays p pc i
+  pub points : (pc : ℕ) → is_point_at p.code pc ≡ true → (row : ℕ) × (row < word_in p.tables) × (row_instruction p.tables row ≡ pc)
+  pub only_points : (row : ℕ) → row < word_in p.tables → is_point_at p.code (row_instruction p.tables row) ≡ true
   pub rows : (row : ℕ) → row < word_in p.tables → ProgramRow p row
