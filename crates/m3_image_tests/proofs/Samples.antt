@@ -10,7 +10,7 @@ use Rattle.m3_isa.specs.Instructions.{IsInstruction}
 use Rattle.m3_tables.specs.Numbers.{word_in, half_in}
 use Rattle.m3_tables.specs.Fields.{word_at, half_at, list_at, bases_at, ways_in, past_ways, entry_at, entries_in, past_entries, contents_at, tidies_at}
 use Rattle.m3_tables.specs.Sections.{is_tidy, contents_in, past_row, is_good, tidy_all, are_free}
-use Rattle.m3_tables.specs.Writing.{word_bytes, list_bytes}
+use Rattle.m3_table_writer.specs.Writing.{word_bytes, list_bytes}
 use Rattle.m3_image.specs.declared.procs.ProcPart.{ProcPart}
 use Rattle.m3_image.specs.Parts.{CellType, Globals, Program, Variable, Image}
 use Rattle.m3_image.specs.Forms.{procs_fit, types_fit, globals_fit, places_fit}

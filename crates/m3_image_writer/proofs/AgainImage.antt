@@ -14,7 +14,7 @@ use Rattle.m3_image.specs.Fields.{text_at, each}
 use Rattle.m3_image.specs.Sections.{Sections, ninth_at, sections_at, magic, sections_of}
 use Rattle.m3_tables.specs.Numbers.{word_in}
 use Rattle.m3_tables.specs.Fields.{word_at}
-use Rattle.m3_tables.specs.Writing.{word_bytes, list_bytes}
+use Rattle.m3_table_writer.specs.Writing.{word_bytes, list_bytes}
 use Rattle.m3_image.specs.Parts.{CellType, proc_in, procs_at, type_at, types_at, variables_at}
 use Rattle.m3_image.specs.Programs.{first_failing, variable_fits}
 use Rattle.m3_image.specs.Images.{instruction_at, somes, code_of, program_of, variables_of, read_of}

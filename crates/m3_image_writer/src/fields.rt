@@ -1,7 +1,7 @@
 //! The fields of a section: numbers with the lowest byte first, and lists and texts behind their counts.
 ghost use Rattle.std.specs.Prelude.{◌≡◌, ◌<◌, ◌^◌, ◌++◌, length, OnOk};
 ghost use Rattle.std.specs.List.{flat_map, AllByRecursion};
-ghost use Rattle.m3_tables.specs.Writing.{word_bytes, list_bytes};
+ghost use Rattle.m3_table_writer.specs.Writing.{word_bytes, list_bytes};
 ghost use Rattle.m3_tables.specs.Fields.{list_at};
 ghost use Rattle.m3_image_writer.specs.Again.{Reads};
 ghost use Rattle.m3_image_writer.specs.Fields.{long_bytes, text_bytes};
