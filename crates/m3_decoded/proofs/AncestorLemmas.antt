@@ -2,7 +2,7 @@
 use Rattle.std.proofs.Common.{◌≡◌, ℕ, zero, suc, ◌+◌, ◌-◌, ◌<◌, ◌≤◌, List, Option, Some, None, refl, sym, ◌∙◌, arith, inl, inr}
 use Rattle.std.specs.Option.{option_and_then}
 use Rattle.std.proofs.lemmas.Bool.{cases_lt}
-use Rattle.m3_image.specs.Parts.{CellType}
+use Rattle.m3_sections.specs.Parts.{CellType}
 use Rattle.m3_decoded.specs.declared.jumps.Jump.{Jump}
 use Rattle.std.proofs.Common.{length, get_or, map}
 use Rattle.std.specs.List.{slice_get}

@@ -7,9 +7,9 @@ use Rattle.std.proofs.lemmas.List.{map-append}
 use Rattle.std.proofs.lemmas.Bool.Decides.{nat_tests}
 use Rattle.m3_tables.specs.Numbers.{rises}
 use Rattle.m3_tables.specs.Sections.{is_between}
-use Rattle.m3_image.specs.Parts.{CellType}
-use Rattle.m3_image.specs.Forms.{none, parent_fits, type_fits, types_fit_from, types_fit}
-use Rattle.m3_image.proofs.ShapeLemmas.{type_pointers}
+use Rattle.m3_sections.specs.Parts.{CellType}
+use Rattle.m3_sections.specs.Forms.{none, parent_fits, type_fits, types_fit_from, types_fit}
+use Rattle.m3_sections.proofs.ShapeLemmas.{type_pointers}
 use Rattle.m3_decoded.specs.declared.types.ReadyType.{ReadyType}
 use Rattle.m3_decoded.specs.ReadyTypes.{ready_type}
 use Rattle.m3_decoded.specs.Ancestors.{parent_in, IsForest}

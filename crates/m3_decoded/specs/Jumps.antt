@@ -1,6 +1,6 @@
 -- What a type's jump has to keep.
 use Rattle.std.specs.Prelude.{◌≡◌, ℕ, ◌+◌, ◌≤◌, ◌<◌, List, length, Some, slice_index_or}
-use Rattle.m3_image.specs.Parts.{CellType}
+use Rattle.m3_sections.specs.Parts.{CellType}
 use Rattle.m3_decoded.specs.declared.jumps.Jump.{Jump}
 use Rattle.m3_decoded.specs.Ancestors.{ancestor}
 

@@ -1,5 +1,5 @@
 -- The image that was made ready.
-use Rattle.m3_image.specs.Parts.{Image}
+use Rattle.m3_sections.specs.Parts.{Image}
 use Rattle.m3_image.specs.Views.{image_view}
 use Rattle.m3_decoded.specs.declared.decoded.Decoded.{Decoded}
 

@@ -1,6 +1,6 @@
 -- What a type that was made ready stands for.
-use Rattle.m3_image.specs.Parts.{CellType}
-use Rattle.m3_image.specs.Views.{type_of}
+use Rattle.m3_sections.specs.Parts.{CellType}
+use Rattle.m3_sections.specs.PartViews.{type_of}
 use Rattle.m3_decoded.specs.declared.types.ReadyType.{ReadyType}
 
 abbrev pub ready_type : ReadyType → CellType

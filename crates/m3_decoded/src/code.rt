@@ -1,8 +1,8 @@
 //! The instructions of an image, each decoded once, and the procedure that each is in.
 ghost use Rattle.std.specs.Prelude.{◌≡◌, ◌≤◌, ℕ, Some, length, IfOk, IfSome};
 ghost use Rattle.std.specs.List.{slice_get};
-ghost use Rattle.m3_image.specs.declared.procs.ProcPart.{ProcPart};
-ghost use Rattle.m3_image.specs.Programs.{containing};
+ghost use Rattle.m3_sections.specs.declared.procs.ProcPart.{ProcPart};
+ghost use Rattle.m3_sections.specs.Ranges.{containing};
 ghost use Rattle.m3_image.specs.Views.{image_view};
 ghost use Rattle.m3_decoded.specs.Code.{AreInstructions};
 

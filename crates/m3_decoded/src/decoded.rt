@@ -3,8 +3,8 @@ ghost use Rattle.std.specs.List.{slice_get};
 ghost use Rattle.m3_tables.specs.Numbers.{word_in};
 ghost use Rattle.m3_tables.specs.Tables.{section_of, row_count};
 ghost use Rattle.m3_isa.specs.Instructions.{IsInstruction};
-ghost use Rattle.m3_image.specs.declared.procs.ProcPart.{ProcPart};
-ghost use Rattle.m3_image.specs.Programs.{containing};
+ghost use Rattle.m3_sections.specs.declared.procs.ProcPart.{ProcPart};
+ghost use Rattle.m3_sections.specs.Ranges.{containing};
 ghost use Rattle.m3_image.specs.Views.{image_view};
 ghost use Rattle.m3_decoded.specs.Code.{AreInstructions};
 ghost use Rattle.m3_decoded.specs.Jumps.{JumpsFit};
@@ -51,7 +51,7 @@ impl<'a> Decoded<'a> {
     ghost use Rattle.std.specs.Option.{option_map, option_copied};
     ghost use Rattle.m3_tables.specs.Sections.{instruction_in, tidy_list};
     ghost use Rattle.m3_tables.specs.Tables.{section_of_row, number_of_row};
-    ghost use Rattle.m3_image.specs.Views.{type_of};
+    ghost use Rattle.m3_sections.specs.PartViews.{type_of};
     ghost use Rattle.m3_decoded.specs.Ancestors.{IsSubtype};
     ghost use Rattle.m3_decoded.specs.Ready.{image_of};
 
@@ -165,7 +165,7 @@ impl<'a> Decoded<'a> {
 }
 
 impl<'a> Maps for Decoded<'a> {
-    ghost use Rattle.m3_image.specs.Shapes.{shape_of};
+    ghost use Rattle.m3_sections.specs.Shapes.{shape_of};
     ghost use Rattle.m3_decoded.specs.Ready.{image_of};
 
     ghost shapes = { λ d. map shape_of (image_of d).program.types };

@@ -1,7 +1,7 @@
 use Rattle.std.proofs.Common.{◌≡◌, ℕ, List, [], ◌∷◌, length, Some, sym, ap, subst, arith, length-append}
 use Rattle.std.specs.List.{slice_get}
-use Rattle.m3_image.specs.declared.procs.ProcPart.{ProcPart}
-use Rattle.m3_image.specs.Programs.{containing}
+use Rattle.m3_sections.specs.declared.procs.ProcPart.{ProcPart}
+use Rattle.m3_sections.specs.Ranges.{containing}
 use Rattle.m3_image.specs.Views.{image_view}
 use Rattle.m3_decoded.proofs.Lists.{all_more}
 use Rattle.m3_decoded.proofs.code.homes.Goals as goal

@@ -1,5 +1,6 @@
 use Rattle.std.proofs.Common.{◌≡◌, ◌++◌}
-use Rattle.m3_image.specs.Views.{image_view, procs_of}
+use Rattle.m3_image.specs.Views.{image_view}
+use Rattle.m3_sections.specs.PartViews.{procs_of}
 use Rattle.m3_decoded.proofs.code.procedures.Given as goal
 
 abbrev pub invariant-loop-proc : goal.invariant-loop-proc

@@ -1,6 +1,7 @@
 use Rattle.std.proofs.Common.{◌≡◌, ◌++◌, map, length, true}
-use Rattle.m3_image.specs.Forms.{types_fit_from}
-use Rattle.m3_image.specs.Views.{image_view, types_of}
+use Rattle.m3_sections.specs.Forms.{types_fit_from}
+use Rattle.m3_image.specs.Views.{image_view}
+use Rattle.m3_sections.specs.PartViews.{types_of}
 use Rattle.m3_decoded.specs.ReadyTypes.{ready_type}
 use Rattle.m3_decoded.proofs.table.ready_types.Given as goal
 

@@ -1,5 +1,5 @@
 use Rattle.std.proofs.Common.{◌≡◌, List, length, map, sym, ◌∙◌, ap, subst}
-use Rattle.m3_image.specs.Parts.{CellType}
+use Rattle.m3_sections.specs.Parts.{CellType}
 use Rattle.m3_image.specs.Views.{image_view}
 use Rattle.m3_decoded.specs.declared.types.ReadyType.{ReadyType}
 use Rattle.m3_decoded.specs.Ancestors.{IsForest}

@@ -1,8 +1,9 @@
 use Rattle.std.proofs.Common.{◌≡◌, ◌<◌, List, length, Some, sym, ◌∙◌, subst, arith}
 use Rattle.std.specs.List.{slice_get}
-use Rattle.m3_image.specs.Parts.{CellType}
-use Rattle.m3_image.specs.Views.{image_view, type_of}
-use Rattle.m3_image.proofs.ShapeLemmas.{pointer_some}
+use Rattle.m3_sections.specs.Parts.{CellType}
+use Rattle.m3_image.specs.Views.{image_view}
+use Rattle.m3_sections.specs.PartViews.{type_of}
+use Rattle.m3_sections.proofs.ShapeLemmas.{pointer_some}
 use Rattle.m3_decoded.proofs.AncestorLemmas.{ready_at}
 use Rattle.m3_decoded.proofs.decoded.DecodedMaps.is_pointer.Goals as goal
 

@@ -1,6 +1,6 @@
 use Rattle.std.proofs.Common.{◌≡◌, ℕ, ◌<◌, get_or, length, false}
 use Rattle.m3_heap.specs.Shapes.{is_listed}
-use Rattle.m3_image.specs.Views.{type_of}
+use Rattle.m3_sections.specs.PartViews.{type_of}
 use Rattle.m3_decoded.proofs.types.ReadyType.of.Given as goal
 
 abbrev pub invariant-loop-k : goal.invariant-loop-k
