@@ -1,14 +1,14 @@
 -- What every good row keeps, from the tests that it passed.
-use Rattle.std.proofs.Common.{◌≡◌, ℕ, zero, suc, ◌+◌, ◌-◌, ◌<◌, ◌≤◌, Bool, true, false, ◌&&◌, ◌||◌, not, List, [], ◌∷◌, length, drop, Option, Some, None, ◌⊎◌, inl, inr, refl, sym, subst, ◌∙◌, arith}
+use Rattle.std.proofs.Common.{◌≡◌, ℕ, zero, suc, ◌+◌, ◌-◌, ◌≤◌, Bool, true, false, ◌&&◌, ◌||◌, not, List, [], ◌∷◌, length, drop, Option, Some, None, ◌⊎◌, inl, inr, refl, sym, subst, arith}
 use Rattle.std.specs.Prelude.{◌==◌, nat_lt}
 use Rattle.std.specs.Option.{option_map_or}
-use Rattle.std.specs.List.{slice_get, list_any, list_all}
+use Rattle.std.specs.List.{slice_get, list_all}
 use Rattle.std.proofs.lemmas.Bool.{cases_lt, ltb-true}
 use Rattle.std.proofs.lemmas.Bool.Decides.{nat_tests}
 use Rattle.m3_tables.specs.Numbers.{has, rises}
 use Rattle.m3_tables.specs.Rows.{Bases, Entry, Contents, nothing, Tidies, All_of, Changed, Unchanged}
 use Rattle.m3_tables.specs.Fields.{tidies_at, contents_at}
-use Rattle.m3_tables.specs.Sections.{row_in, is_listed, is_derived, is_path, bases_known, path_fits, entry_fits, entries_fit, contents_fit, rest_fits, tidies_fit, row_fits, was_tidy, tidies, tidies_then, is_tidy, contents_then, contents_in, is_good, told_pass, told_all, tidy_all, are_free}
+use Rattle.m3_tables.specs.Sections.{row_in, is_listed, is_derived, is_path, bases_known, path_fits, entry_fits, entries_fit, contents_fit, rest_fits, tidies_fit, was_tidy, tidies, tidies_then, is_tidy, contents_then, contents_in, is_good, told_pass, told_all, tidy_all, are_free}
 use Rattle.m3_tables.specs.Keeping.{BasesKept, EntryKept, ContentsKept, RowKept}
 use Rattle.m3_tables.proofs.SectionLemmas.{good_fits, free_stop, tidy_same}
 

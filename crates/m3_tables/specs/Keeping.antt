@@ -1,5 +1,5 @@
 -- What every good row keeps.
-use Rattle.std.specs.Prelude.{◌≡◌, ℕ, ◌+◌, ◌≤◌, ◌||◌, Bool, true, false, List, length, drop, Option, Some, None}
+use Rattle.std.specs.Prelude.{◌≡◌, ℕ, ◌+◌, ◌≤◌, ◌||◌, Bool, true, false, List, length, drop, Some, None}
 use Rattle.std.specs.List.{slice_get}
 use Rattle.m3_tables.specs.Numbers.{has, rises}
 use Rattle.m3_tables.specs.Rows.{Bases, Entry, Contents}
