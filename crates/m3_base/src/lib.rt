@@ -7,8 +7,7 @@ mod outcomes;
 mod places;
 mod refusals;
 mod rules;
-#[cfg(test)]
-mod tests;
+mod schedules;
 
 pub use byte_list::Bytes;
 pub use memory::{NoMemory, gap};
@@ -16,3 +15,4 @@ pub use outcomes::{Entry, FaultKind, Options, Outcome, fault_name};
 pub use places::{Pos, Source};
 pub use refusals::{Refusal, Refused};
 pub use rules::rule_text;
+pub use schedules::{ScheduleRefusal, read_schedule};

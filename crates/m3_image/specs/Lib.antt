@@ -1,10 +1,5 @@
-pub mod Fields
-pub mod Parts
-pub mod Sections
-pub mod Forms
 pub mod Programs
 pub mod Images
-pub mod PartViews
 pub mod ProgramViews
 pub mod Views
-pub mod Shapes
+pub mod Sound

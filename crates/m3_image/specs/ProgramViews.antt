@@ -2,10 +2,10 @@
 use Rattle.std.specs.Option.{option_map}
 use Rattle.m3_image.specs.declared.program.Places as code_places
 use Rattle.m3_image.specs.declared.program.Program as code_program
-use Rattle.m3_image.specs.declared.sections.Sections as code_sections
-use Rattle.m3_image.specs.Parts.{Places, Program}
-use Rattle.m3_image.specs.Sections.{Sections}
-use Rattle.m3_image.specs.PartViews.{longs_of, pairs_of, names_of, procs_of, types_of, globals_of, code_list}
+use Rattle.m3_sections.specs.declared.sections.Sections as code_sections
+use Rattle.m3_sections.specs.Parts.{Places, Program}
+use Rattle.m3_sections.specs.Sections.{Sections}
+use Rattle.m3_sections.specs.PartViews.{longs_of, pairs_of, names_of, procs_of, types_of, globals_of, code_list}
 
 abbrev pub places_of : code_places.Places → Places
 places_of p = record { files = names_of p.files; places = pairs_of p.places }
@@ -21,18 +21,4 @@ program_view p = record {
   places = pairs_of p.places;
   exceptions = names_of p.exceptions;
   tables = p.tables.now;
-}
-
-abbrev pub sections_view : code_sections.Sections → Sections
-sections_view s = record {
-  version = s.version;
-  code = s.code.now;
-  procs = s.procs.now;
-  types = s.types.now;
-  globals = s.globals.now;
-  constants = s.constants.now;
-  places = s.places.now;
-  exceptions = s.exceptions.now;
-  tables = s.tables.now;
-  variables = option_map (λ x. x.now) s.variables;
 }

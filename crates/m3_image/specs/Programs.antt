@@ -9,35 +9,17 @@ use Rattle.m3_isa.specs.declared.instructions.Instr.{Instr}
 use Rattle.m3_isa.specs.declared.instructions.Op.{Op}
 use Rattle.m3_isa.specs.declared.instructions.Op.TheVariants as op
 use Rattle.m3_isa.specs.Instructions.{is_point}
-use Rattle.m3_image.specs.declared.procs.ProcPart.{ProcPart}
-use Rattle.m3_image.specs.declared.refusal.ImageRefusal.{ImageRefusal}
-use Rattle.m3_image.specs.declared.refusal.ImageRefusal.TheVariants as refusal
+use Rattle.m3_sections.specs.declared.procs.ProcPart.{ProcPart}
+use Rattle.m3_sections.specs.declared.refusal.ImageRefusal.{ImageRefusal}
+use Rattle.m3_sections.specs.declared.refusal.ImageRefusal.TheVariants as refusal
 use Rattle.m3_image.specs.declared.targets.Target.{Target}
 use Rattle.m3_image.specs.declared.targets.Target.TheVariants as target
-use Rattle.m3_image.specs.Fields.{each}
-use Rattle.m3_image.specs.Parts.{Variable, Program}
-use Rattle.m3_image.specs.Forms.{none}
-
--- the first, or else the second
-abbrev pub or_else : {A : Type 0} → Option A → Option A → Option A
-or_else (Some x) second = Some x
-or_else None second = second
-
--- the first of so many numbers that fails a test
-unfoldable pub first_failing : (ℕ → Bool) → ℕ → Option ℕ
-first_failing test zero = None
-first_failing test (suc n) = or_else (first_failing test n) (if test n then None else Some n)
+use Rattle.m3_sections.specs.Fields.{each}
+use Rattle.m3_sections.specs.Parts.{Variable, Program}
+use Rattle.m3_sections.specs.Forms.{none}
+use Rattle.m3_sections.specs.Ranges.{or_else, first_failing, is_point_at, end_from, containing, contains, points_from}
 
 -- ---- the code and its procedures
-
--- whether a point instruction stands at a place of the code
-abbrev pub is_point_at : List Instr → ℕ → Bool
-is_point_at code pc = option_map_or (λ i. is_point i.op) (slice_get code pc) false
-
--- where the last procedure ends
-abbrev pub end_from : ℕ → List ProcPart → ℕ
-end_from start [] = start
-end_from start (p ∷ ps) = end_from (p.first + p.count) ps
 
 -- whether a procedure is there and begins with a point instruction
 abbrev pub begins_with_point : Program → ℕ → Bool
@@ -46,11 +28,6 @@ begins_with_point p number = option_map_or (λ q. is_point_at p.code q.first) (s
 -- the procedures have all of the code, and those that threads begin with begin with points
 unfoldable pub procs_suit : Program → Bool
 procs_suit p = end_from 0 p.procs == length p.code && (begins_with_point p 0 && begins_with_point p 1)
-
--- The procedure that an instruction is in: the first that ends behind it, since they follow each other.
-abbrev pub containing : List ProcPart → ℕ → Option ProcPart
-containing [] pc = None
-containing (p ∷ ps) pc = if nat_lt pc (p.first + p.count) then Some p else containing ps pc
 
 -- ---- targets
 
@@ -95,11 +72,6 @@ abbrev pub is_below : ℕ → ℤ → Bool
 is_below limit (pos n) = nat_lt n limit
 is_below limit (negsuc n) = false
 
--- an instruction of a procedure
-abbrev pub contains : ProcPart → ℤ → Bool
-contains p (pos n) = nat_le p.first n && nat_lt n (p.first + p.count)
-contains p (negsuc n) = false
-
 -- The number names what is there. A jump stays in its procedure. A method's number and a slot's may be any from
 -- 0 on. A fault has one of sixteen kinds.
 abbrev pub names : Program → ℕ → Instr → Target → Bool
@@ -118,11 +90,6 @@ abbrev pub target_fits : Program → ℕ → Bool
 target_fits p pc = option_map_or (λ i. names p pc i (target_of i.op)) (slice_get p.code pc) true
 
 -- ---- the tables
-
--- the numbers of the point instructions, where the first instruction has a number
-abbrev pub points_from : ℕ → List Instr → List ℕ
-points_from number [] = []
-points_from number (i ∷ is) = if is_point i.op then number ∷ points_from (suc number) is else points_from (suc number) is
 
 -- the directory has the point instructions, in the order of the code
 unfoldable pub lists_points : Program → Bool

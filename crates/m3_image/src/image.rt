@@ -3,18 +3,16 @@ ghost use Rattle.std.specs.List.{list_all};
 ghost use Rattle.m3_tables.specs.Numbers.{word_in};
 ghost use Rattle.m3_tables.specs.Tables.{section_of, row_count};
 ghost use Rattle.m3_image.specs.Programs.{fault_of, variable_fits};
-ghost use Rattle.m3_image.specs.PartViews.{variables_list};
+ghost use Rattle.m3_sections.specs.PartViews.{variables_list};
 ghost use Rattle.m3_image.specs.ProgramViews.{program_view};
 
-use crate::procs::ProcPart;
 use crate::program::Program;
-use crate::refusal::ImageRefusal;
-use crate::sections::Sections;
-use crate::types::TypeView;
-use crate::variables::{VarView, Variables};
 use m3_heap::Maps;
 use m3_isa::Instr;
-use m3_tables::TableView;
+use m3_sections::{
+    ImageRefusal, Names, ProcPart, Procs, Sections, TypeView, Types, VarView, Variables,
+};
+use m3_tables::{Numbers, TableView};
 
 /// An image, as it stands in its bytes. A view takes no memory.
 #[derive(Clone, Copy)]
@@ -34,9 +32,14 @@ impl<'a> ImageView<'a> {
     ghost use Rattle.std.specs.List.{slice_get};
     ghost use Rattle.std.specs.Prelude.{IfSome};
     ghost use Rattle.m3_isa.specs.Instructions.{IsInstruction};
-    ghost use Rattle.m3_image.specs.Images.{seen, read_of, IsImage};
-    ghost use Rattle.m3_image.specs.Programs.{containing};
-    ghost use Rattle.m3_image.specs.Views.{image_view, type_of, variable_of};
+    ghost use Rattle.m3_sections.specs.Reading.{seen};
+    ghost use Rattle.m3_image.specs.Images.{read_of, IsImage};
+    ghost use Rattle.m3_sections.specs.Ranges.{containing};
+    ghost use Rattle.m3_image.specs.Sound.{IsSoundProgram};
+    ghost use Rattle.std.specs.Prelude.{◌≤◌, IfNone, length};
+    ghost use Rattle.m3_tables.specs.Views.{numbers_of};
+    ghost use Rattle.m3_image.specs.Views.{image_view};
+    ghost use Rattle.m3_sections.specs.PartViews.{type_of, types_of, procs_of, names_of, variable_of};
 
     /// The image that bytes are. The error is the first condition that the bytes meet, in the order in which the
     /// conditions are tested.
@@ -61,6 +64,13 @@ impl<'a> ImageView<'a> {
         ensures { IsImage (image_view self.now) }
     {}
 
+    /// What the code, the procedures and the rows of every image keep beside each other: the procedures have all of
+    /// the code, each jump stays in its procedure, and each row's places are in the frame of its procedure.
+    #[tactic(auto, using(crate::proofs::SoundLemmas::sound_program))]
+    pub fn keeps_together(&self)
+        ensures { IsSoundProgram (image_view self.now).program }
+    {}
+
     /// The version, 1 or 2.
     pub fn version(&self) -> u32
         ensures { result ≡ (image_view self.now).version }
@@ -76,6 +86,76 @@ impl<'a> ImageView<'a> {
         self.program.code.get(n)
     }
 
+    /// How many instructions there are.
+    pub fn code_len(&self) -> u32
+        ensures { result ≡ length (image_view self.now).program.code }
+    {
+        self.program.code.len()
+    }
+
+    /// The procedures, one after the other.
+    pub fn procs(&self) -> Procs<'a>
+        ensures { procs_of result ≡ (image_view self.now).program.procs }
+    {
+        self.program.procs
+    }
+
+    /// How many procedures there are.
+    pub fn proc_count(&self) -> usize
+        ensures { result ≡ length (image_view self.now).program.procs }
+    {
+        self.program.procs.len()
+    }
+
+    /// How many constants there are.
+    pub fn constant_count(&self) -> usize
+        ensures { result ≡ length (image_view self.now).program.constants }
+    {
+        self.program.constants.len()
+    }
+
+    /// How many places there are.
+    pub fn place_count(&self) -> usize
+        ensures { result ≡ length (image_view self.now).program.places }
+    {
+        self.program.places.len()
+    }
+
+    /// The types, one after the other.
+    pub fn types(&self) -> Types<'a>
+        ensures { types_of result ≡ (image_view self.now).program.types }
+    {
+        self.program.types
+    }
+
+    /// The names of the files, one after the other.
+    pub fn files(&self) -> Names<'a>
+        ensures { names_of result ≡ (image_view self.now).program.files }
+    {
+        self.program.files
+    }
+
+    /// The names of the exceptions, one after the other, each with its unit before it.
+    pub fn exceptions(&self) -> Names<'a>
+        ensures { names_of result ≡ (image_view self.now).program.exceptions }
+    {
+        self.program.exceptions
+    }
+
+    /// The numbers of the global words that are pointers, which rise.
+    pub fn global_pointers(&self) -> Numbers<'a>
+        ensures { numbers_of result ≡ (image_view self.now).program.globals.pointers }
+    {
+        self.program.globals.pointers
+    }
+
+    /// The shown variables, one after the other; none in version 1.
+    pub fn variables(&self) -> Variables<'a>
+        ensures { variables_list result ≡ (image_view self.now).variables }
+    {
+        self.variables
+    }
+
     /// The procedure of a number, from 0. None exactly past the last.
     pub fn proc(&self, n: u32) -> Option<ProcPart>
         ensures { result ≡ slice_get (image_view self.now).program.procs n }
@@ -85,7 +165,8 @@ impl<'a> ImageView<'a> {
 
     /// The procedure that an instruction is in. None exactly past the code.
     pub fn containing(&self, instr: u32) -> Option<ProcPart>
-        ensures { result ≡ containing (image_view self.now).program.procs instr }
+        ensures value { result ≡ containing (image_view self.now).program.procs instr }
+        ensures all { IfNone result (length (image_view self.now).program.code ≤ instr) }
     {
         self.program.procs.containing(instr)
     }
@@ -158,7 +239,7 @@ impl<'a> ImageView<'a> {
 impl<'a> Maps for ImageView<'a> {
     ghost use Rattle.std.specs.Prelude.{map};
     ghost use Rattle.m3_image.specs.Views.{image_view};
-    ghost use Rattle.m3_image.specs.Shapes.{shape_of};
+    ghost use Rattle.m3_sections.specs.Shapes.{shape_of};
 
     ghost shapes = { λ v. map shape_of (image_view v).program.types };
 

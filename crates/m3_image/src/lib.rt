@@ -1,20 +1,13 @@
 //! The image: how a program stands in bytes, the reader that refuses all else, and views of its parts.
 #![tactic(auto)]
 
-mod code;
 mod image;
-mod lists;
-mod procs;
 mod program;
-mod refusal;
 mod rows;
-mod sections;
+mod shown;
 mod targets;
-mod types;
-mod variables;
 
 pub use image::ImageView;
-pub use procs::ProcPart;
-pub use refusal::ImageRefusal;
-pub use types::TypeView;
-pub use variables::VarView;
+pub use m3_sections::{
+    ImageRefusal, Names, Pairs, ProcPart, Procs, TypeView, Types, VarView, Variables,
+};

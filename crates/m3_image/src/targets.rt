@@ -2,7 +2,6 @@
 ghost use Rattle.std.specs.Prelude.{◌≡◌, length};
 ghost use Rattle.m3_image.specs.Programs.{is_below};
 
-use crate::procs::ProcPart;
 use crate::program::Program;
 use m3_isa::{Instr, Op};
 
@@ -53,19 +52,9 @@ fn is_below(number: i32, limit: usize) -> bool
     number >= 0 && (number as usize) < limit
 }
 
-impl ProcPart {
-    ghost use Rattle.m3_image.specs.Programs.{contains};
-
-    /// Whether a number is that of an instruction of the procedure.
-    fn contains(&self, number: i32) -> bool
-        ensures { result ≡ contains self.now number }
-    {
-        number >= 0 && number as u32 >= self.first && (number as u64) < self.end()
-    }
-}
-
 impl<'a> Program<'a> {
-    ghost use Rattle.m3_image.specs.Programs.{names, target_fits, first_failing};
+    ghost use Rattle.m3_image.specs.Programs.{names, target_fits};
+    ghost use Rattle.m3_sections.specs.Ranges.{first_failing};
     ghost use Rattle.m3_image.specs.Views.{program_view};
 
     /// Whether the number of an instruction at a place names what is there, where there are so many types.

@@ -2,9 +2,4 @@ pub mod NumberLemmas
 pub mod FieldLemmas
 pub mod SectionLemmas
 pub mod ViewLemmas
-pub mod WriteLemmas
-pub mod PlainLemmas
-pub mod Again
-pub mod Missing
-pub mod AgainRows
-pub mod PlainFits
+pub mod KeepingLemmas

@@ -1,13 +1,14 @@
 -- What a row says, by what the row before said.
-use Rattle.std.proofs.Common.{◌≡◌, ℕ, zero, suc, ◌+◌, ◌-◌, ◌<◌, ◌≤◌, Bool, true, false, ◌&&◌, List, Option, Some, None, ◌⊎◌, inl, inr, refl, sym, subst, ◌∙◌, arith}
+use Rattle.std.proofs.Common.{◌≡◌, ℕ, zero, suc, ◌+◌, ◌-◌, ◌<◌, ◌≤◌, Bool, true, false, ◌&&◌, ◌||◌, not, filter, List, [], ◌∷◌, ◌++◌, Option, Some, None, ◌⊎◌, inl, inr, refl, sym, subst, ◌∙◌, arith}
 use Rattle.std.specs.Prelude.{◌==◌}
 use Rattle.std.proofs.lemmas.Bool.{cases_lt, ltb-true}
+use Rattle.std.proofs.lemmas.Bool.Decides.{nat_tests}
 use Rattle.std.specs.Option.{option_map_or}
 use Rattle.std.specs.List.{list_all}
 use Rattle.m3_tables.specs.Numbers.{has, rises}
 use Rattle.m3_tables.specs.Rows.{Contents, nothing, Tidies, All_of, Changed, Unchanged}
 use Rattle.m3_tables.specs.Fields.{tidies_at, contents_at}
-use Rattle.m3_tables.specs.Sections.{row_in, tidies, tidies_then, is_tidy, was_tidy, instruction_in, offset_in, instruction_rises, start_of, row_rises, row_fits, is_good, first_bad, contents_then, contents_in, contents_fit, rest_fits, tidies_fit, told_all, tidy_all, are_free}
+use Rattle.m3_tables.specs.Sections.{row_in, tidies, tidies_list, tidy_list, was_list, tidies_then, is_tidy, was_tidy, instruction_in, offset_in, instruction_rises, start_of, row_rises, row_fits, is_good, first_bad, contents_then, contents_in, contents_fit, rest_fits, tidies_fit, told_all, tidy_all, are_free}
 
 and_not : (b : Bool) → (b && false) ≡ false
 and_not true = refl
@@ -157,7 +158,7 @@ row_rises_then : (row : ℕ) (was tidy : ℕ → Bool) (o : Option (Tidies × Li
 row_rises_then row was tidy None before b e = absurd cc
 row_rises_then row was tidy (Some x) before b e = told_rises tidy x.0 x.1 before b (and_parts (tidies_fit row was x.0) (rest_fits tidy x.0 x.1) e).1
 
-good_fits : (section : List ℕ) (row : ℕ) → is_good section row ≡ true → row_fits section row ≡ true
+pub good_fits : (section : List ℕ) (row : ℕ) → is_good section row ≡ true → row_fits section row ≡ true
 unfolding is_good
 good_fits section row e =
     (and_parts (row_rises section row) (row_fits section row) (and_parts (instruction_rises section row && offset_in section row == start_of section row) (row_rises section row && row_fits section row) e).1).1
@@ -298,3 +299,46 @@ free_stop tidy (suc m) n lt f =
       | inl less ↦ free_kept tidy m (free_stop tidy m n less f)
       | inr more ↦ (let same : m ≡ n = omega arith in rw same (free_here tidy n f))
     ]
+
+-- ---- the tidy places in a list
+
+pub tidy_list_at : (section : List ℕ) (row : ℕ) → tidy_list section row ≡ option_map_or (λ found. tidies_list found.0 (was_list section row)) (tidies_at (row_in section row)) []
+unfolding tidy_list
+tidy_list_at section zero = refl
+tidy_list_at section (suc row) = refl
+
+has_append : (xs ys : List ℕ) (l : ℕ) → has (xs ++ ys) l ≡ (has xs l || has ys l)
+has_append [] ys l = refl
+has_append (x ∷ xs) ys l =
+    elim (x == l) as (λ b. (b || has (xs ++ ys) l) ≡ ((b || has xs l) || has ys l)) [ true ↦ refl | false ↦ has_append xs ys l ]
+
+has_filter : (p : ℕ → Bool) (xs : List ℕ) (l : ℕ) → has (filter p xs) l ≡ (has xs l && p l)
+has_filter p [] l = refl
+has_filter p (x ∷ xs) l =
+    elim (choice (x == l)) [
+      | inl here ↦ (let same : x ≡ l = grind (arith, nat_tests) in
+          elim (choice (p x)) [
+            | inl passes ↦ (let also : p l ≡ true = subst (λ (m : ℕ). p m ≡ true) same passes in rw (passes, here, also) refl)
+            | inr fails ↦ (let also : p l ≡ false = subst (λ (m : ℕ). p m ≡ false) same fails in rw (fails, here, has_filter p xs l, also) (and_not (has xs l)))
+          ])
+      | inr there ↦ elim (choice (p x)) [
+        | inl passes ↦ rw (passes, there) (has_filter p xs l)
+        | inr fails ↦ rw (fails, there) (has_filter p xs l)
+      ]
+    ]
+
+tidies_has : (told : Tidies) (before : List ℕ) (was : ℕ → Bool) → ((l : ℕ) → has before l ≡ was l) → (l : ℕ) → has (tidies_list told before) l ≡ tidies told (was l) l
+tidies_has (All_of places) before was same l = refl
+tidies_has (Changed removed added) before was same l =
+    rw (has_append added (filter (λ m. not (has removed m)) before) l, has_filter (λ m. not (has removed m)) before l, same l)
+tidies_has Unchanged before was same l = same l
+
+then_has : (o : Option (Tidies × List ℕ)) (before : List ℕ) (was : ℕ → Bool) → ((l : ℕ) → has before l ≡ was l) → (l : ℕ) → has (option_map_or (λ found. tidies_list found.0 before) o []) l ≡ tidies_then o (was l) l
+then_has None before was same l = refl
+then_has (Some found) before was same l = tidies_has found.0 before was same l
+
+-- a place is in the list exactly where it is tidy
+pub has_tidy_list : (section : List ℕ) (row l : ℕ) → has (tidy_list section row) l ≡ is_tidy section row l
+unfolding tidy_list is_tidy
+has_tidy_list section zero l = then_has (tidies_at (row_in section 0)) [] (λ m. false) (λ m. refl) l
+has_tidy_list section (suc row) l = then_has (tidies_at (row_in section (suc row))) (tidy_list section row) (is_tidy section row) (has_tidy_list section row) l

@@ -5,6 +5,4 @@ pub mod Rows
 pub mod Sections
 pub mod Views
 pub mod Tables
-pub mod Plain
-pub mod Writing
-pub mod Tabulates
+pub mod Keeping

@@ -1,7 +1,7 @@
 -- The section of the tables: a count of rows, a directory with each row's instruction and where the row
 -- begins after the directory, and the rows. What each row says, which rows are bad, and what is wrong
 -- with the section first.
-use Rattle.std.specs.Prelude.{ℕ, zero, suc, ◌+◌, ◌*◌, ◌-◌, ◌%◌, ◌^◌, nat_lt, ◌==◌, if◌then◌else◌, Bool, true, false, not, ◌&&◌, ◌||◌, List, [], ◌∷◌, length, drop, Option, Some, None, is_none}
+use Rattle.std.specs.Prelude.{ℕ, zero, suc, ◌+◌, ◌*◌, ◌-◌, ◌%◌, ◌^◌, nat_lt, ◌==◌, if◌then◌else◌, Bool, true, false, not, ◌&&◌, ◌||◌, List, [], ◌∷◌, ◌++◌, filter, length, drop, Option, Some, None, is_none}
 use Rattle.std.specs.List.{list_any, list_all}
 use Rattle.std.specs.Option.{option_map_or}
 use Rattle.m3_tables.specs.Numbers.{word_in, has, rises}
@@ -47,6 +47,22 @@ is_tidy section (suc row) l = tidies_then (tidies_at (row_in section (suc row)))
 abbrev pub was_tidy : List ℕ → ℕ → ℕ → Bool
 was_tidy section zero l = false
 was_tidy section (suc row) l = is_tidy section row l
+
+-- the tidy places, by those of the row before: the ones that come, and those that stay
+abbrev pub tidies_list : Tidies → List ℕ → List ℕ
+tidies_list (All_of places) before = places
+tidies_list (Changed removed added) before = added ++ filter (λ l. not (has removed l)) before
+tidies_list Unchanged before = before
+
+-- the tidy places of a row
+unfoldable pub tidy_list : List ℕ → ℕ → List ℕ
+tidy_list section zero = option_map_or (λ found. tidies_list found.0 []) (tidies_at (row_in section 0)) []
+tidy_list section (suc row) = option_map_or (λ found. tidies_list found.0 (tidy_list section row)) (tidies_at (row_in section (suc row))) []
+
+-- those of the row before
+abbrev pub was_list : List ℕ → ℕ → List ℕ
+was_list section zero = []
+was_list section (suc row) = tidy_list section row
 
 -- what a row says of the rest, by what the row before said
 abbrev pub contents_then : Tidies → Contents → List ℕ → Contents

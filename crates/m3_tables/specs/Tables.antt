@@ -8,7 +8,7 @@ use Rattle.m3_tables.specs.declared.row.Row.{Row}
 use Rattle.m3_tables.specs.Numbers.{word_in, has}
 use Rattle.m3_tables.specs.Places.{number_of}
 use Rattle.m3_tables.specs.Rows.{Entry}
-use Rattle.m3_tables.specs.Sections.{is_tidy, contents_in, first_bad, end_fault, or_else}
+use Rattle.m3_tables.specs.Sections.{is_tidy, tidy_list, contents_in, first_bad, end_fault, or_else}
 
 -- the bytes of the section
 abbrev pub section_of : TableView → List ℕ
@@ -43,6 +43,16 @@ is_argument_in r l = is_place_in (has (contents_in (section_of_row r) (number_of
 
 abbrev pub is_passed_in : Row → Location → Bool
 is_passed_in r l = is_place_in (has (contents_in (section_of_row r) (number_of_row r)).passed) l
+
+-- the tidy places of a row, its arguments, and the formals that the caller describes
+abbrev pub tidy_in : Row → List ℕ
+tidy_in r = tidy_list (section_of_row r) (number_of_row r)
+
+abbrev pub arguments_in : Row → List ℕ
+arguments_in r = (contents_in (section_of_row r) (number_of_row r)).arguments
+
+abbrev pub passed_in : Row → List ℕ
+passed_in r = (contents_in (section_of_row r) (number_of_row r)).passed
 
 -- the derived words of a row
 abbrev pub derived_in : Row → List Entry

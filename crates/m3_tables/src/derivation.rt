@@ -18,8 +18,15 @@ impl<'a> Derivation<'a> {
     ghost use Rattle.m3_tables.specs.Fields.{path_of};
     ghost use Rattle.m3_tables.specs.Views.{ways_of, entry_of};
 
+    /// The number of the word's place.
+    pub fn place_number(&self) -> u32
+        ensures { result ≡ (entry_of self.now).location }
+    {
+        self.location
+    }
+
     /// The number of the path's place, where there is a path.
-    pub(crate) fn path_number(&self) -> Option<u32>
+    pub fn path_number(&self) -> Option<u32>
         ensures { result ≡ (entry_of self.now).path }
     {
         if self.path == u32::MAX {
@@ -30,7 +37,7 @@ impl<'a> Derivation<'a> {
     }
 
     /// The ways, one after the other.
-    pub(crate) fn every_way(&self) -> Ways<'a>
+    pub fn every_way(&self) -> Ways<'a>
         ensures { ways_of result ≡ (entry_of self.now).ways }
     {
         Ways {

@@ -10,21 +10,21 @@ use crate::numbers::{Numbers, half, word};
 
 /// The bases that are added on one way to a derived word, and those that are subtracted.
 #[derive(Clone, Copy)]
-pub(crate) struct WayView<'a> {
-    pub(crate) added: Numbers<'a>,
-    pub(crate) subtracted: Numbers<'a>,
+pub struct WayView<'a> {
+    pub added: Numbers<'a>,
+    pub subtracted: Numbers<'a>,
 }
 
 /// Ways one after the other.
 #[derive(Clone, Copy)]
-pub(crate) struct Ways<'a> {
+pub struct Ways<'a> {
     pub(crate) count: u16,
     pub(crate) bytes: &'a [u8],
 }
 
 /// Derived words one after the other.
 #[derive(Clone, Copy)]
-pub(crate) struct Entries<'a> {
+pub struct Entries<'a> {
     pub(crate) count: u32,
     pub(crate) bytes: &'a [u8],
 }

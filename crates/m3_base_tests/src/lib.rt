@@ -1,0 +1,5 @@
+//! The tests of the numbers, places and answers.
+#![tactic(auto)]
+
+#[cfg(test)]
+mod tests;

@@ -1,0 +1,13 @@
+//! An image made ready to run, once: its instructions decoded, its types by number with their ancestors, and
+//! the tidy places of each row.
+#![tactic(auto)]
+
+mod code;
+mod decoded;
+mod jumps;
+mod rows;
+mod span;
+mod table;
+mod types;
+
+pub use decoded::Decoded;

@@ -1,8 +1,0 @@
-use Rattle.std.proofs.Common.{◌≡◌, None}
-use Rattle.std.specs.Prelude.{is_some}
-use Rattle.m3_image.specs.Programs.{first_failing}
-use Rattle.m3_image.specs.Images.{instruction_at}
-use Rattle.m3_image.proofs.code.first_bad.Given as goal
-
-abbrev pub invariant-loop-n : goal.invariant-loop-n
-invariant-loop-n l = first_failing (λ k. is_some (instruction_at l.section k)) l.n ≡ None

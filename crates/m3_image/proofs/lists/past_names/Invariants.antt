@@ -1,6 +1,0 @@
-use Rattle.std.proofs.Common.{◌≡◌, ◌-◌}
-use Rattle.m3_image.specs.Fields.{past_many, text_at}
-use Rattle.m3_image.proofs.lists.past_names.Given as goal
-
-abbrev pub invariant-loop : goal.invariant-loop
-invariant-loop l = past_many text_at (l.count - l.counter) l.rest ≡ past_many text_at l.count l.bytes

@@ -1,6 +1,0 @@
-use Rattle.std.proofs.Common.{◌≡◌, ◌+◌, length}
-use Rattle.m3_image.specs.Views.{types_of}
-use Rattle.m3_image.proofs.types.Types.len.Given as goal
-
-abbrev pub invariant-loop : goal.invariant-loop
-invariant-loop l = l.count + length (types_of l.iterator') ≡ length (types_of l.self)

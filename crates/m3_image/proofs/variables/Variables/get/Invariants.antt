@@ -1,7 +1,0 @@
-use Rattle.std.proofs.Common.{◌≡◌, ◌-◌}
-use Rattle.std.specs.List.{slice_get}
-use Rattle.m3_image.specs.Views.{variables_list}
-use Rattle.m3_image.proofs.variables.Variables.get.Given as goal
-
-abbrev pub invariant-loop : goal.invariant-loop
-invariant-loop l = slice_get (variables_list l.variables) (l.number - l.counter) ≡ slice_get (variables_list l.self) l.number

@@ -1,7 +1,0 @@
-use Rattle.std.proofs.Common.{◌≡◌, ◌-◌}
-use Rattle.m3_image.specs.Fields.{past_many}
-use Rattle.m3_image.specs.Parts.{variable_at}
-use Rattle.m3_image.proofs.variables.Variables.past.Given as goal
-
-abbrev pub invariant-loop : goal.invariant-loop
-invariant-loop l = past_many variable_at (l.count - l.counter) l.rest ≡ past_many variable_at l.count l.bytes

@@ -1,0 +1,9 @@
+pub mod Fields
+pub mod Parts
+pub mod Ranges
+pub mod Reading
+pub mod Sections
+pub mod Forms
+pub mod PartViews
+pub mod SectionViews
+pub mod Shapes

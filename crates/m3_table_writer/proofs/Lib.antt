@@ -1,0 +1,6 @@
+pub mod WriteLemmas
+pub mod PlainLemmas
+pub mod Again
+pub mod Missing
+pub mod AgainRows
+pub mod PlainFits
