@@ -1,71 +1,65 @@
 use crate::names::Name;
-use crate::statements::{Block, Decl};
+use crate::statements::Block;
 use m3_base::Pos;
 
 /// A unit (the report, section 2.5): a file's whole text. Its place is that of its first token, and
 /// `closing` is the name behind its last END.
-#[derive(Drop)]
+#[derive(Clone, Copy)]
 pub struct Unit<'a> {
     pub pos: Pos,
     pub is_unsafe: bool,
     pub name: Name<'a>,
     pub kind: UnitKind<'a>,
+    pub imports: &'a [Import<'a>],
+    /// The declarations of an interface, without statements; a module's block. Empty in an instance.
+    pub block: Block<'a>,
     pub closing: Name<'a>,
     /// How many tokens its file has.
     pub tokens: u32,
 }
 
 /// What a unit is. A module without EXPORTS exports the interface of its own name.
-#[derive(Drop)]
+#[derive(Clone, Copy)]
 pub enum UnitKind<'a> {
-    Interface {
-        imports: Vec<Import<'a>>,
-        declarations: Vec<Decl<'a>>,
-    },
+    Interface,
     /// `INTERFACE I = G(A1, A2) END I.`
     InterfaceInstance {
         generic: Name<'a>,
-        actuals: Vec<Name<'a>>,
+        actuals: &'a [Name<'a>],
     },
     Module {
-        exports: Option<Vec<Name<'a>>>,
-        imports: Vec<Import<'a>>,
-        block: Block<'a>,
+        exports: Option<&'a [Name<'a>]>,
     },
     /// `MODULE M = G(A1, A2) END M.`
     ModuleInstance {
-        exports: Option<Vec<Name<'a>>>,
+        exports: Option<&'a [Name<'a>]>,
         generic: Name<'a>,
-        actuals: Vec<Name<'a>>,
+        actuals: &'a [Name<'a>],
     },
     GenericInterface {
-        formals: Vec<Name<'a>>,
-        imports: Vec<Import<'a>>,
-        declarations: Vec<Decl<'a>>,
+        formals: &'a [Name<'a>],
     },
     GenericModule {
-        formals: Vec<Name<'a>>,
-        imports: Vec<Import<'a>>,
-        block: Block<'a>,
+        formals: &'a [Name<'a>],
     },
 }
 
 /// What a unit imports, by the place of the first word: interfaces, or names of one interface.
-#[derive(Drop)]
+#[derive(Clone, Copy)]
 pub enum Import<'a> {
     Interfaces {
         pos: Pos,
-        items: Vec<ImportItem<'a>>,
+        items: &'a [ImportItem<'a>],
     },
     Names {
         pos: Pos,
         interface: Name<'a>,
-        names: Vec<Name<'a>>,
+        names: &'a [Name<'a>],
     },
 }
 
 /// An imported interface, with the name that it has here where AS gives one.
-#[derive(Clone, Copy, Debug)]
+#[derive(Clone, Copy)]
 pub struct ImportItem<'a> {
     pub interface: Name<'a>,
     pub alias: Option<Name<'a>>,
