@@ -2,6 +2,7 @@
 #![tactic(auto)]
 
 mod byte_list;
+mod least;
 mod memory;
 mod outcomes;
 mod places;
@@ -11,6 +12,7 @@ mod rules;
 mod tests;
 
 pub use byte_list::Bytes;
+pub use least::Least;
 pub use memory::{NoMemory, gap};
 pub use outcomes::{Entry, FaultKind, Options, Outcome, fault_name};
 pub use places::{Pos, Source};
