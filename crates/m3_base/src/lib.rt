@@ -13,7 +13,7 @@ mod tests;
 
 pub use byte_list::Bytes;
 pub use least::Least;
-pub use memory::{NoMemory, gap};
+pub use memory::{NoMemory, gap, place_number};
 pub use outcomes::{Entry, FaultKind, Options, Outcome, fault_name};
 pub use places::{Pos, Source};
 pub use refusals::{Refusal, Refused};
