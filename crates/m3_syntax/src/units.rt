@@ -4,7 +4,7 @@ use m3_base::Pos;
 
 /// A unit (the report, section 2.5): a file's whole text. Its place is that of its first token, and
 /// `closing` is the name behind its last END.
-#[derive(Drop)]
+#[derive(Clone, Copy)]
 pub struct Unit<'a> {
     pub pos: Pos,
     pub is_unsafe: bool,
@@ -16,51 +16,51 @@ pub struct Unit<'a> {
 }
 
 /// What a unit is. A module without EXPORTS exports the interface of its own name.
-#[derive(Drop)]
+#[derive(Clone, Copy)]
 pub enum UnitKind<'a> {
     Interface {
-        imports: Vec<Import<'a>>,
-        declarations: Vec<Decl<'a>>,
+        imports: &'a [Import<'a>],
+        declarations: &'a [Decl<'a>],
     },
     /// `INTERFACE I = G(A1, A2) END I.`
     InterfaceInstance {
         generic: Name<'a>,
-        actuals: Vec<Name<'a>>,
+        actuals: &'a [Name<'a>],
     },
     Module {
-        exports: Option<Vec<Name<'a>>>,
-        imports: Vec<Import<'a>>,
+        exports: Option<&'a [Name<'a>]>,
+        imports: &'a [Import<'a>],
         block: Block<'a>,
     },
     /// `MODULE M = G(A1, A2) END M.`
     ModuleInstance {
-        exports: Option<Vec<Name<'a>>>,
+        exports: Option<&'a [Name<'a>]>,
         generic: Name<'a>,
-        actuals: Vec<Name<'a>>,
+        actuals: &'a [Name<'a>],
     },
     GenericInterface {
-        formals: Vec<Name<'a>>,
-        imports: Vec<Import<'a>>,
-        declarations: Vec<Decl<'a>>,
+        formals: &'a [Name<'a>],
+        imports: &'a [Import<'a>],
+        declarations: &'a [Decl<'a>],
     },
     GenericModule {
-        formals: Vec<Name<'a>>,
-        imports: Vec<Import<'a>>,
+        formals: &'a [Name<'a>],
+        imports: &'a [Import<'a>],
         block: Block<'a>,
     },
 }
 
 /// What a unit imports, by the place of the first word: interfaces, or names of one interface.
-#[derive(Drop)]
+#[derive(Clone, Copy, Debug)]
 pub enum Import<'a> {
     Interfaces {
         pos: Pos,
-        items: Vec<ImportItem<'a>>,
+        items: &'a [ImportItem<'a>],
     },
     Names {
         pos: Pos,
         interface: Name<'a>,
-        names: Vec<Name<'a>>,
+        names: &'a [Name<'a>],
     },
 }
 
