@@ -1,11 +1,10 @@
 use crate::names::{Mode, Name, Qualid, Raises, TypeName};
-use crate::statements::Stmt;
 use m3_base::Pos;
 
 /// An expression (the report, section 2.6). Its place is that of its first token. What stands in a row,
 /// as operators of one level, selectors and prefix signs, is a list, so that no chain is deep. The parts
 /// of a tree stand in the arena that it was read into.
-#[cycle(trees)]
+#[cycle(expressions)]
 #[derive(Clone, Copy)]
 pub enum Expr<'a> {
     /// Operands with operators of one level between them, which group to the left.
@@ -58,12 +57,9 @@ pub enum Expr<'a> {
         elements: &'a [Element<'a>],
         is_filled: bool,
     },
-    /// Nothing: it stands only in what was read past an error, which no caller is given. Its row is
-    /// empty. It makes all trees one family of types, whose fields the prover counts once and not again
-    /// at each reference.
+    /// Nothing: it stands only in what was read past an error, which no caller is given.
     Missing {
         pos: Pos,
-        family: &'a [Stmt<'a>],
     },
 }
 
@@ -81,7 +77,7 @@ impl Expr<'_> {
             | Expr::TextLit { pos, .. }
             | Expr::Parenthesis { pos, .. }
             | Expr::Constructor { pos, .. }
-            | Expr::Missing { pos, .. } => *pos,
+            | Expr::Missing { pos } => *pos,
         }
     }
 }
@@ -109,7 +105,7 @@ pub enum Operator {
 }
 
 /// An operator with its place and its right operand.
-#[cycle(trees)]
+#[cycle(expressions)]
 #[derive(Clone, Copy)]
 pub struct Operation<'a> {
     pub operator: Operator,
@@ -125,7 +121,7 @@ pub struct PrefixSign {
 }
 
 /// What selects a part of the operand before it, or calls it.
-#[cycle(trees)]
+#[cycle(expressions)]
 #[derive(Clone, Copy)]
 pub enum Selector<'a> {
     /// `^`
@@ -139,7 +135,7 @@ pub enum Selector<'a> {
 }
 
 /// An actual of a call. What is both an expression and a type is an expression.
-#[cycle(trees)]
+#[cycle(expressions)]
 #[derive(Clone, Copy)]
 pub enum Actual<'a> {
     Value(&'a Expr<'a>),
@@ -148,7 +144,7 @@ pub enum Actual<'a> {
 }
 
 /// An element of a constructor.
-#[cycle(trees)]
+#[cycle(expressions)]
 #[derive(Clone, Copy)]
 pub enum Element<'a> {
     Value(&'a Expr<'a>),
@@ -157,7 +153,7 @@ pub enum Element<'a> {
 }
 
 /// A type expression (the report, section 2.2). Its place is that of its first token.
-#[cycle(trees)]
+#[cycle(expressions)]
 #[derive(Clone, Copy)]
 pub enum TypeExp<'a> {
     Named(TypeName<'a>),
@@ -237,7 +233,7 @@ impl TypeExp<'_> {
 }
 
 /// `BRANDED`, with the text that brands, where one is written.
-#[cycle(trees)]
+#[cycle(expressions)]
 #[derive(Clone, Copy)]
 pub struct Brand<'a> {
     pub pos: Pos,
@@ -245,7 +241,7 @@ pub struct Brand<'a> {
 }
 
 /// `OBJECT .. END` with its brand, by the place of its first token.
-#[cycle(trees)]
+#[cycle(expressions)]
 #[derive(Clone, Copy)]
 pub struct ObjectPart<'a> {
     pub pos: Pos,
@@ -256,7 +252,7 @@ pub struct ObjectPart<'a> {
 }
 
 /// The type and the value that a declaration gives to its names: at least one of them.
-#[cycle(trees)]
+#[cycle(expressions)]
 #[derive(Clone, Copy)]
 pub enum Init<'a> {
     Typed(&'a TypeExp<'a>, Option<&'a Expr<'a>>),
@@ -264,7 +260,7 @@ pub enum Init<'a> {
 }
 
 /// Fields of one type and default.
-#[cycle(trees)]
+#[cycle(expressions)]
 #[derive(Clone, Copy)]
 pub struct Field<'a> {
     pub names: &'a [Name<'a>],
@@ -272,7 +268,7 @@ pub struct Field<'a> {
 }
 
 /// A method with its signature, without the object itself, and its default.
-#[cycle(trees)]
+#[cycle(expressions)]
 #[derive(Clone, Copy)]
 pub struct Method<'a> {
     pub name: Name<'a>,
@@ -281,7 +277,7 @@ pub struct Method<'a> {
 }
 
 /// `name := value` under OVERRIDES.
-#[cycle(trees)]
+#[cycle(expressions)]
 #[derive(Clone, Copy)]
 pub struct Override<'a> {
     pub name: Name<'a>,
@@ -289,7 +285,7 @@ pub struct Override<'a> {
 }
 
 /// Formals of one mode, type and default, by the place of their first token.
-#[cycle(trees)]
+#[cycle(expressions)]
 #[derive(Clone, Copy)]
 pub struct Formal<'a> {
     pub pos: Pos,
@@ -299,7 +295,7 @@ pub struct Formal<'a> {
 }
 
 /// The formals, the result and the exceptions of a procedure, by the place of its parenthesis.
-#[cycle(trees)]
+#[cycle(expressions)]
 #[derive(Clone, Copy)]
 pub struct Signature<'a> {
     pub pos: Pos,

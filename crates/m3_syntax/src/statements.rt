@@ -3,7 +3,7 @@ use crate::names::{Name, Qualid};
 use m3_base::Pos;
 
 /// A statement (the report, section 2.3). Its place is that of its first token.
-#[cycle(trees)]
+#[cycle(statements)]
 #[derive(Clone, Copy)]
 pub enum Stmt<'a> {
     Assign {
@@ -99,7 +99,7 @@ pub enum Stmt<'a> {
 }
 
 /// Declarations with the statements that follow BEGIN, and the place of END.
-#[cycle(trees)]
+#[cycle(statements)]
 #[derive(Clone, Copy)]
 pub struct Block<'a> {
     pub pos: Pos,
@@ -109,7 +109,7 @@ pub struct Block<'a> {
 }
 
 /// A condition, behind IF or ELSIF, with its statements.
-#[cycle(trees)]
+#[cycle(statements)]
 #[derive(Clone, Copy)]
 pub struct Arm<'a> {
     pub pos: Pos,
@@ -118,7 +118,7 @@ pub struct Arm<'a> {
 }
 
 /// A branch of CASE.
-#[cycle(trees)]
+#[cycle(statements)]
 #[derive(Clone, Copy)]
 pub struct CaseBranch<'a> {
     pub labels: &'a [Label<'a>],
@@ -126,7 +126,6 @@ pub struct CaseBranch<'a> {
 }
 
 /// A label of CASE: one value, or all from the first to the last.
-#[cycle(trees)]
 #[derive(Clone, Copy)]
 pub struct Label<'a> {
     pub first: &'a Expr<'a>,
@@ -134,7 +133,7 @@ pub struct Label<'a> {
 }
 
 /// A handler of TRY EXCEPT, with the name that its argument gets.
-#[cycle(trees)]
+#[cycle(statements)]
 #[derive(Clone, Copy)]
 pub struct Handler<'a> {
     pub exceptions: &'a [Qualid<'a>],
@@ -143,7 +142,7 @@ pub struct Handler<'a> {
 }
 
 /// A branch of TYPECASE, with the name that the value gets in it.
-#[cycle(trees)]
+#[cycle(statements)]
 #[derive(Clone, Copy)]
 pub struct TypeBranch<'a> {
     pub kinds: &'a [TypeExp<'a>],
@@ -152,7 +151,6 @@ pub struct TypeBranch<'a> {
 }
 
 /// `name = value` under WITH.
-#[cycle(trees)]
 #[derive(Clone, Copy)]
 pub struct Binding<'a> {
     pub name: Name<'a>,
@@ -161,7 +159,7 @@ pub struct Binding<'a> {
 
 /// What one word declares (the report, section 2.4): a list of declarations behind CONST, TYPE,
 /// EXCEPTION, VAR or REVEAL, or one procedure. Its place is that of the word.
-#[cycle(trees)]
+#[cycle(statements)]
 #[derive(Clone, Copy)]
 pub enum Decl<'a> {
     Const {
@@ -193,7 +191,6 @@ pub enum Decl<'a> {
     },
 }
 
-#[cycle(trees)]
 #[derive(Clone, Copy)]
 pub struct ConstDecl<'a> {
     pub name: Name<'a>,
@@ -202,7 +199,6 @@ pub struct ConstDecl<'a> {
 }
 
 /// A type's name with its definition, or where it is opaque with its bound.
-#[cycle(trees)]
 #[derive(Clone, Copy)]
 pub struct TypeDecl<'a> {
     pub name: Name<'a>,
@@ -210,7 +206,6 @@ pub struct TypeDecl<'a> {
     pub kind: &'a TypeExp<'a>,
 }
 
-#[cycle(trees)]
 #[derive(Clone, Copy)]
 pub struct ExceptionDecl<'a> {
     pub name: Name<'a>,
@@ -218,7 +213,6 @@ pub struct ExceptionDecl<'a> {
 }
 
 /// Variables of one type and initial value.
-#[cycle(trees)]
 #[derive(Clone, Copy)]
 pub struct VarDecl<'a> {
     pub names: &'a [Name<'a>],
@@ -226,7 +220,7 @@ pub struct VarDecl<'a> {
 }
 
 /// A procedure's block, with the name behind its END.
-#[cycle(trees)]
+#[cycle(statements)]
 #[derive(Clone, Copy)]
 pub struct ProcedureBody<'a> {
     pub block: Block<'a>,
@@ -234,7 +228,6 @@ pub struct ProcedureBody<'a> {
 }
 
 /// What is revealed of an opaque type: itself, or where the reveal is partial a supertype.
-#[cycle(trees)]
 #[derive(Clone, Copy)]
 pub struct Revelation<'a> {
     pub name: Qualid<'a>,

@@ -1,6 +1,11 @@
 use crate::names::Name;
 use crate::statements::{Block, Decl};
+use bumpalo::Bump;
 use m3_base::Pos;
+
+/// What an arena keeps for a unit. The box ends what the prover counts of a type that holds units: all
+/// fields that its references lead to.
+pub type Kept<'a, T> = &'a Box<T, &'a Bump>;
 
 /// A unit (the report, section 2.5): a file's whole text. Its place is that of its first token, and
 /// `closing` is the name behind its last END.
@@ -20,7 +25,7 @@ pub struct Unit<'a> {
 pub enum UnitKind<'a> {
     Interface {
         imports: &'a [Import<'a>],
-        declarations: &'a [Decl<'a>],
+        declarations: Kept<'a, &'a [Decl<'a>]>,
     },
     /// `INTERFACE I = G(A1, A2) END I.`
     InterfaceInstance {
@@ -30,7 +35,7 @@ pub enum UnitKind<'a> {
     Module {
         exports: Option<&'a [Name<'a>]>,
         imports: &'a [Import<'a>],
-        block: Block<'a>,
+        block: Kept<'a, Block<'a>>,
     },
     /// `MODULE M = G(A1, A2) END M.`
     ModuleInstance {
@@ -41,12 +46,12 @@ pub enum UnitKind<'a> {
     GenericInterface {
         formals: &'a [Name<'a>],
         imports: &'a [Import<'a>],
-        declarations: &'a [Decl<'a>],
+        declarations: Kept<'a, &'a [Decl<'a>]>,
     },
     GenericModule {
         formals: &'a [Name<'a>],
         imports: &'a [Import<'a>],
-        block: Block<'a>,
+        block: Kept<'a, Block<'a>>,
     },
 }
 
