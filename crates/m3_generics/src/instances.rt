@@ -80,7 +80,7 @@ impl<'a> Expansion<'_, 'a> {
                 let found = self.tables.generic_module(generic.text);
                 self.instance(arena, unit, generic, actuals, found)?;
             }
-            UnitKind::Interface | UnitKind::Module { .. } => self.expanded.push(*unit)?,
+            UnitKind::Interface { .. } | UnitKind::Module { .. } => self.expanded.push(*unit)?,
         }
         self.count(unit.pos, unit.tokens);
         Ok(())
@@ -113,12 +113,9 @@ impl<'a> Expansion<'_, 'a> {
             self.note(unit.pos.file, generic.pos, 16);
         }
         self.count(unit.pos, text.tokens);
-        self.expanded.push(Unit {
-            kind: written_out(unit.kind),
-            imports: imports_of(arena, actuals, formals, text.imports)?,
-            block: text.block,
-            ..*unit
-        })?;
+        let imports = imports_of(arena, actuals, formals, text.imports())?;
+        let kind = written_out(unit.kind, text.kind, imports);
+        self.expanded.push(Unit { kind, ..*unit })?;
         Ok(())
     }
 
@@ -138,16 +135,34 @@ impl<'a> Expansion<'_, 'a> {
 /// The formals of a generic unit.
 fn formals_of<'a>(generic: UnitKind<'a>) -> &'a [Name<'a>] {
     match generic {
-        UnitKind::GenericInterface { formals } | UnitKind::GenericModule { formals } => formals,
+        UnitKind::GenericInterface { formals, .. } | UnitKind::GenericModule { formals, .. } => {
+            formals
+        }
         _ => &[],
     }
 }
 
-/// What the unit of an instance is, by its head.
-fn written_out<'a>(head: UnitKind<'a>) -> UnitKind<'a> {
-    match head {
-        UnitKind::ModuleInstance { exports, .. } => UnitKind::Module { exports },
-        _ => UnitKind::Interface,
+/// What the unit of an instance is: its head's exports, these imports, and the text of its generic.
+fn written_out<'a>(
+    head: UnitKind<'a>,
+    generic: UnitKind<'a>,
+    imports: &'a [Import<'a>],
+) -> UnitKind<'a> {
+    let exports = match head {
+        UnitKind::ModuleInstance { exports, .. } => exports,
+        _ => None,
+    };
+    match generic {
+        UnitKind::GenericInterface { declarations, .. } => UnitKind::Interface {
+            imports,
+            declarations,
+        },
+        UnitKind::GenericModule { block, .. } => UnitKind::Module {
+            exports,
+            imports,
+            block,
+        },
+        other => other,
     }
 }
 

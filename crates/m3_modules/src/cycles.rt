@@ -105,7 +105,7 @@ fn judge_unit(linker: &mut Linker<'_>, reach: &Reachability, place: usize) -> Re
     if !is_given_interface(linker, linker.unit) {
         return Ok(());
     }
-    for import in unit.imports {
+    for import in unit.imports() {
         match import {
             Import::Interfaces { items, .. } => {
                 for item in *items {

@@ -11,7 +11,9 @@ const BUILT_IN: [&[u8]; 5] = [b"Main", b"IO", b"Text", b"Word", b"Thread"];
 fn is_interface(kind: UnitKind<'_>) -> bool {
     matches!(
         kind,
-        UnitKind::Interface | UnitKind::InterfaceInstance { .. } | UnitKind::GenericInterface { .. }
+        UnitKind::Interface { .. }
+            | UnitKind::InterfaceInstance { .. }
+            | UnitKind::GenericInterface { .. }
     )
 }
 
@@ -99,7 +101,7 @@ fn declare_unit(linker: &mut Linker<'_>, place: usize) -> Result<(), NoMemory> {
     linker.unit = place_number(place)?;
     let first = linker.binds.entities().len();
     linker.scopes.enter()?;
-    declare_all(linker, unit.block.declarations, true)?;
+    declare_all(linker, unit.declarations(), true)?;
     linker.scopes.leave();
     let count = linker.binds.entities().len().saturating_sub(first);
     let first = place_number(first)?;
@@ -128,15 +130,15 @@ fn walk_unit(linker: &mut Linker<'_>, place: usize) -> Result<(), NoMemory> {
         linker.note(unit.pos, 29);
     }
     linker.scopes.enter()?;
-    for import in unit.imports {
+    for import in unit.imports() {
         read_import(linker, import)?;
     }
     show_own(linker)?;
-    if let UnitKind::Module { exports } = unit.kind {
+    if let UnitKind::Module { exports, .. } = unit.kind {
         read_exports(linker, unit.name, exports)?;
     }
-    walk_declarations(linker, unit.block.declarations, true)?;
-    walk_statements(linker, unit.block.body)?;
+    walk_declarations(linker, unit.declarations(), true)?;
+    walk_statements(linker, unit.statements())?;
     linker.scopes.leave();
     Ok(())
 }

@@ -45,7 +45,7 @@ impl Revealed {
     /// The revelation as it is written.
     pub fn written<'a>(&self, units: &[Unit<'a>]) -> Option<&'a Revelation<'a>> {
         let unit = units.get(self.unit as usize)?;
-        match unit.block.declarations.get(self.declaration as usize)? {
+        match unit.declarations().get(self.declaration as usize)? {
             Decl::Reveal { reveals, .. } => reveals.get(self.place as usize),
             _ => None,
         }

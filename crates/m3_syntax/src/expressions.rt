@@ -114,7 +114,7 @@ pub struct Operation<'a> {
 }
 
 /// A sign before an operand, and whether it is a minus.
-#[derive(Clone, Copy)]
+#[derive(Clone, Copy, Debug)]
 pub struct PrefixSign {
     pub pos: Pos,
     pub is_minus: bool,
