@@ -1,58 +1,40 @@
-ghost use Rattle.std.specs.Prelude.{◌↔◌, IsTrue, IfOk};
+ghost use Rattle.std.specs.Prelude.{◌≡◌, ◌<◌, ◌++◌, ◌∷◌, [], length, slice_set, OnOk, OnErr, IfOk, OnSome};
 
-use crate::assign::Assign;
-use crate::nodes::{TypeGraph, TypeId};
-use crate::{assigning, same, upward};
+use crate::nodes::{ConstId, ConstValue, Reveal, TypeId, TypeNode};
 use m3_base::NoMemory;
 use std::alloc::Global;
 
-impl TypeGraph {
-    ghost use Rattle.m3_types.specs.Sameness.{Same};
-    ghost use Rattle.m3_types.specs.Subtypes.{Subtype};
-    ghost use Rattle.m3_types.specs.Assignments.{IsAssign};
+/// The types of a program and the constants in them, which grow while a program is read. A definition
+/// may name places that are given later; what is asked of a type is answered by what stands by then.
+#[derive(Drop)]
+pub struct TypeGraph<'a> {
+    pub nodes: Vec<TypeNode<'a>>,
+    pub reveals: Vec<Reveal>,
+}
 
-    /// Whether two types are the same: their definitions are equal, written out without end (the
-    /// report, section 2.2.7, where this profile's brands, opaque types and parts of a type apply).
-    pub fn same(&self, alloc: Global, a: TypeId, b: TypeId) -> Result<bool, NoMemory>
-        ensures { IfOk result (λ yes. IsTrue yes ↔ Same self.now.nodes.items a.0 b.0) }
+impl<'a> TypeGraph<'a> {
+    pub fn new(alloc: Global) -> TypeGraph<'a>
+        ensures nodes { result.nodes.items ≡ [] }
+        ensures reveals { result.reveals.items ≡ [] }
     {
-        same::same_types(alloc, &self.nodes, a.0 as usize, b.0 as usize)
+        TypeGraph {
+            nodes: Vec::new(alloc),
+            reveals: Vec::new(alloc),
+        }
     }
 
-    /// Whether the first type is a subtype of the second (the report, section 2.2.8), by the reveals
-    /// that apply in a unit.
-    pub fn subtype(&self, alloc: Global, view: u32, a: TypeId, b: TypeId) -> Result<bool, NoMemory>
-        ensures { IfOk result (λ yes. IsTrue yes ↔ Subtype self.now.nodes.items self.now.reveals.items view a.0 b.0) }
+    /// Adds a definition behind all others.
+    pub fn push(&mut self, node: TypeNode<'a>) -> Result<TypeId, NoMemory>
+        ensures place { IfOk result (λ t. t.0 ≡ length self.old.nodes.items) }
+        ensures nodes { OnOk result (self.new.nodes.items ≡ self.old.nodes.items ++ node.entry ∷ []) }
+        ensures unchanged { OnErr result (self.new.nodes.items ≡ self.old.nodes.items) }
+        ensures reveals { self.new.reveals.items ≡ self.old.reveals.items }
     {
-        let yes = upward::subtype(
-            alloc,
-            &self.nodes,
-            &self.reveals,
-            view,
-            a.0 as usize,
-            b.0 as usize,
-        )?;
-        Ok(yes)
-    }
-
-    /// How a value of the first type may be assigned to a variable of the second (the report, section
-    /// 2.3.1), by the reveals that apply in a unit.
-    pub fn assignable(
-        &self,
-        alloc: Global,
-        view: u32,
-        a: TypeId,
-        b: TypeId,
-    ) -> Result<Assign, NoMemory>
-        ensures { IfOk result (λ assign. IsAssign self.now.nodes.items self.now.reveals.items view a.0 b.0 assign) }
-    {
-        assigning::assignable(
-            alloc,
-            &self.nodes,
-            &self.reveals,
-            view,
-            a.0 as usize,
-            b.0 as usize,
-        )
+        let place = self.nodes.len();
+        if place >= u32::MAX as usize {
+            return Err(NoMemory);
+        }
+        self.nodes.push(node)?;
+        Ok(TypeId(place as u32))
     }
 }
