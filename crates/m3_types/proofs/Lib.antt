@@ -1,17 +1,1 @@
-pub mod Forest
-pub mod Parents
-pub mod Joining
 pub mod Lists
-pub mod Agreement
-pub mod Keeping
-pub mod Comparing
-pub mod Shapes
-pub mod Transitivity
-pub mod Closure
-pub mod Dimensions
-pub mod Signatures
-pub mod Refuting
-pub mod Adding
-pub mod Stepping
-pub mod Exhausting
-pub mod Measuring

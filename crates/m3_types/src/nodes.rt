@@ -16,8 +16,8 @@ pub enum ConstValue<'a> {
     Text(&'a [u8]),
     /// A procedure, by its number.
     Procedure(u32),
-    /// The members of a set, by their numbers, rising.
-    Set(&'a [i64]),
+    /// The members of a set, rising: each by its place in the base type, from 0 on.
+    Set(&'a [u8]),
     /// The fields of a record, in order.
     Fields(&'a [ConstId]),
     /// An array of the given number of elements: those listed, of which the last stands for all that
