@@ -5,8 +5,8 @@ use Rattle.std.specs.Ordering.{nat_cmp}
 use Rattle.std.specs.BTreeMap.{BTreeMap, get}
 
 -- the parent of a number: one without an entry is a root
-abbrev pub parent_in : BTreeMap ℕ ℕ → ℕ → ℕ
-parent_in parents i = unwrap_or (get nat_cmp parents i) i
+abbrev pub parent_of : BTreeMap ℕ ℕ → ℕ → ℕ
+parent_of parents i = unwrap_or (get nat_cmp parents i) i
 
 -- what is reached from a number in so many steps
 unfoldable pub ancestor : (ℕ → ℕ) → ℕ → ℕ → ℕ

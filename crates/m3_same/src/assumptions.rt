@@ -1,5 +1,5 @@
 ghost use Rattle.std.specs.Prelude.{◌≡◌, ℕ, length, OnOk, [], All};
-ghost use Rattle.m3_same.specs.Classes.{parent_in, SameClass};
+ghost use Rattle.m3_same.specs.Classes.{parent_of, SameClass};
 ghost use Rattle.m3_same.specs.Assumptions.{IsKept, AddsPair, AddsPairs};
 ghost use Rattle.m3_same.specs.Sameness.{Matched};
 
@@ -17,7 +17,7 @@ pub(crate) struct Assumptions {
 
 impl Assumptions {
     pub(crate) fn new(alloc: Global) -> Assumptions
-        ensures kept { IsKept (parent_in result.classes.parents) result.pairs.items }
+        ensures kept { IsKept (parent_of result.classes.parents) result.pairs.items }
         ensures none { result.pairs.items ≡ [] }
     {
         Assumptions {
@@ -28,11 +28,11 @@ impl Assumptions {
 
     /// Takes two types to be the same.
     pub(crate) fn assume(&mut self, x: usize, y: usize) -> Result<(), NoMemory>
-        requires { IsKept (parent_in self.old.classes.parents) self.old.pairs.items }
-        ensures kept { OnOk result (IsKept (parent_in self.new.classes.parents) self.new.pairs.items) }
-        ensures joined { OnOk result (SameClass (parent_in self.new.classes.parents) x y) }
+        requires { IsKept (parent_of self.old.classes.parents) self.old.pairs.items }
+        ensures kept { OnOk result (IsKept (parent_of self.new.classes.parents) self.new.pairs.items) }
+        ensures joined { OnOk result (SameClass (parent_of self.new.classes.parents) x y) }
         ensures keeps { OnOk result ((i j : ℕ) →
-            SameClass (parent_in self.old.classes.parents) i j → SameClass (parent_in self.new.classes.parents) i j) }
+            SameClass (parent_of self.old.classes.parents) i j → SameClass (parent_of self.new.classes.parents) i j) }
         ensures adds { OnOk result (AddsPair x y self.old.pairs.items self.new.pairs.items) }
     {
         if self.classes.join(x, y)? {
@@ -43,12 +43,12 @@ impl Assumptions {
 
     /// Takes the types at each place of two lists to be the same.
     pub(crate) fn assume_all(&mut self, xs: &[usize], ys: &[usize]) -> Result<(), NoMemory>
-        requires kept { IsKept (parent_in self.old.classes.parents) self.old.pairs.items }
+        requires kept { IsKept (parent_of self.old.classes.parents) self.old.pairs.items }
         requires alike { length xs.now ≡ length ys.now }
-        ensures kept { OnOk result (IsKept (parent_in self.new.classes.parents) self.new.pairs.items) }
-        ensures joined { OnOk result (Matched (SameClass (parent_in self.new.classes.parents)) xs.now ys.now) }
+        ensures kept { OnOk result (IsKept (parent_of self.new.classes.parents) self.new.pairs.items) }
+        ensures joined { OnOk result (Matched (SameClass (parent_of self.new.classes.parents)) xs.now ys.now) }
         ensures keeps { OnOk result ((i j : ℕ) →
-            SameClass (parent_in self.old.classes.parents) i j → SameClass (parent_in self.new.classes.parents) i j) }
+            SameClass (parent_of self.old.classes.parents) i j → SameClass (parent_of self.new.classes.parents) i j) }
         ensures adds { OnOk result (AddsPairs xs.now ys.now self.old.pairs.items self.new.pairs.items) }
     {
         for (i, x) in xs.iter().enumerate() {

@@ -1,5 +1,5 @@
 ghost use Rattle.std.specs.Prelude.{◌≡◌, ℕ, ◌+◌, ◌≤◌, ◌<◌, ◌⊎◌, IfOk, OnOk, false, if◌then◌else◌};
-ghost use Rattle.m3_same.specs.Classes.{parent_in, root_of, SameClass, root_count, Joins, MovesRoot};
+ghost use Rattle.m3_same.specs.Classes.{parent_of, root_of, SameClass, root_count, Joins, MovesRoot};
 
 use m3_base::NoMemory;
 use std::alloc::Global;
@@ -10,12 +10,12 @@ use std::collections::BTreeMap;
 #[derive(Drop)]
 pub(crate) struct Partition {
     pub(crate) parents: BTreeMap<usize, usize>,
-    ghost descends: { (i : ℕ) → parent_in parents i ≤ i },
+    ghost descends: { (i : ℕ) → parent_of parents i ≤ i },
 }
 
 impl Partition {
     pub(crate) fn new(alloc: Global) -> Partition
-        ensures { (i : ℕ) → parent_in result.parents i ≡ i }
+        ensures { (i : ℕ) → parent_of result.parents i ≡ i }
     {
         Partition {
             parents: BTreeMap::new(alloc),
@@ -23,26 +23,26 @@ impl Partition {
     }
 
     fn parent(&self, i: usize) -> usize
-        ensures { result ≡ parent_in self.now.parents i }
+        ensures { result ≡ parent_of self.now.parents i }
     {
         self.parents.get(&i).copied().unwrap_or(i)
     }
 
     /// Makes the parent's parent the parent of a number. Where memory is short the way stays as long.
     fn lift(&mut self, i: usize, top: usize)
-        requires { top ≡ parent_in self.old.parents (parent_in self.old.parents i) }
-        ensures classes { (j : ℕ) → root_of (parent_in self.new.parents) j ≡ root_of (parent_in self.old.parents) j }
-        ensures count { (n : ℕ) → root_count (parent_in self.new.parents) n ≡ root_count (parent_in self.old.parents) n }
+        requires { top ≡ parent_of self.old.parents (parent_of self.old.parents i) }
+        ensures classes { (j : ℕ) → root_of (parent_of self.new.parents) j ≡ root_of (parent_of self.old.parents) j }
+        ensures count { (n : ℕ) → root_count (parent_of self.new.parents) n ≡ root_count (parent_of self.old.parents) n }
     {
         let _ = self.parents.insert(i, top);
     }
 
     /// The root of a number's class.
     fn root(&mut self, i: usize) -> usize
-        ensures root { result ≡ root_of (parent_in self.old.parents) i }
-        ensures classes { (j : ℕ) → root_of (parent_in self.new.parents) j ≡ root_of (parent_in self.old.parents) j }
-        ensures count { (n : ℕ) → root_count (parent_in self.new.parents) n ≡ root_count (parent_in self.old.parents) n }
-        ensures stands { parent_in self.new.parents result ≡ result }
+        ensures root { result ≡ root_of (parent_of self.old.parents) i }
+        ensures classes { (j : ℕ) → root_of (parent_of self.new.parents) j ≡ root_of (parent_of self.old.parents) j }
+        ensures count { (n : ℕ) → root_count (parent_of self.new.parents) n ≡ root_count (parent_of self.old.parents) n }
+        ensures stands { parent_of self.new.parents result ≡ result }
         ensures below { result ≤ i }
     {
         let mut at = i;
@@ -59,13 +59,13 @@ impl Partition {
 
     /// Puts a root below another, lower one.
     fn link(&mut self, high: usize, low: usize) -> Result<(), NoMemory>
-        requires low { parent_in self.old.parents low ≡ low }
-        requires high { parent_in self.old.parents high ≡ high }
+        requires low { parent_of self.old.parents low ≡ low }
+        requires high { parent_of self.old.parents high ≡ high }
         requires apart { low < high }
         ensures roots { OnOk result ((j : ℕ) →
-            MovesRoot high low (root_of (parent_in self.old.parents) j) (root_of (parent_in self.new.parents) j)) }
+            MovesRoot high low (root_of (parent_of self.old.parents) j) (root_of (parent_of self.new.parents) j)) }
         ensures count { OnOk result ((n : ℕ) → high < n →
-            root_count (parent_in self.new.parents) n + 1 ≡ root_count (parent_in self.old.parents) n) }
+            root_count (parent_of self.new.parents) n + 1 ≡ root_count (parent_of self.old.parents) n) }
     {
         self.parents.insert(high, low)?;
         Ok(())
@@ -73,14 +73,14 @@ impl Partition {
 
     /// Takes two numbers to be equal: their classes become one. Whether they were two.
     pub(crate) fn join(&mut self, a: usize, b: usize) -> Result<bool, NoMemory>
-        ensures joined { IfOk result (λ _. SameClass (parent_in self.new.parents) a b) }
-        ensures apart { IfOk result (λ two. two ≡ false → SameClass (parent_in self.old.parents) a b) }
+        ensures joined { IfOk result (λ _. SameClass (parent_of self.new.parents) a b) }
+        ensures apart { IfOk result (λ two. two ≡ false → SameClass (parent_of self.old.parents) a b) }
         ensures keeps { IfOk result (λ _. (i j : ℕ) →
-            SameClass (parent_in self.old.parents) i j → SameClass (parent_in self.new.parents) i j) }
-        ensures only { IfOk result (λ _. (i j : ℕ) → SameClass (parent_in self.new.parents) i j →
-            Joins (SameClass (parent_in self.old.parents)) a b i j) }
+            SameClass (parent_of self.old.parents) i j → SameClass (parent_of self.new.parents) i j) }
+        ensures only { IfOk result (λ _. (i j : ℕ) → SameClass (parent_of self.new.parents) i j →
+            Joins (SameClass (parent_of self.old.parents)) a b i j) }
         ensures count { IfOk result (λ two. (n : ℕ) → a < n → b < n →
-            root_count (parent_in self.new.parents) n + (if two then 1 else 0) ≡ root_count (parent_in self.old.parents) n) }
+            root_count (parent_of self.new.parents) n + (if two then 1 else 0) ≡ root_count (parent_of self.old.parents) n) }
     {
         let x = self.root(a);
         let y = self.root(b);

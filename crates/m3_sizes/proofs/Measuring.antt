@@ -7,7 +7,7 @@ use Rattle.std.specs.Option.{option_map_or, option_and_then, unwrap_or, is_some}
 use Rattle.std.proofs.lemmas.Bool.{cases_eq}
 use Rattle.m3_types.specs.declared.nodes.Field.{Field}
 use Rattle.m3_types.specs.declared.nodes.TypeNode.{TypeNode}
-use Rattle.m3_types.specs.declared.nodes.TypeNode.TheVariants.{Integer, Boolean, Character, Enumeration, Subrange, FixedArray, OpenArray, Fields, SetOf, RefTo, Object, Procedure, Opaque, Null, RefAny, Text, Mutex, Root}
+use Rattle.m3_types.specs.declared.nodes.TypeNode.TheVariants.{Reserved, Integer, Boolean, Character, Enumeration, Subrange, FixedArray, OpenArray, Fields, SetOf, RefTo, Object, Procedure, Opaque, Null, RefAny, Text, Mutex, Root, Constant}
 use Rattle.m3_types.specs.Definitions.{node_at, head_at}
 use Rattle.m3_types.specs.Kinds.{size_of}
 use Rattle.m3_sizes.specs.Sizes.{most_words, field_words, words_of_node, words_to_depth, EachField, EachPart, HasParts, IsSized, known_at, Known, known_words, IsRight, AreSized, having, HasSize, IsLow, IsFull, CanBeTold, IsTold}
@@ -25,19 +25,23 @@ fields_equal v w [] p = refl
 fields_equal v w (f ∷ fs) p = ap (λ n. n + field_words v fs) p.0 ∙ ap (λ n. w f.kind.0 + n) (fields_equal v w fs p.1)
 
 pub each_part : (P Q : ℕ → Type 0) → ((j : ℕ) → P j → Q j) → (n : TypeNode) → EachPart P n → EachPart Q n
-each_part P Q h (Fields fields) p = each_field P Q h fields.items p
+each_part P Q h (Fields fields) p = each_field P Q h fields.now p
 each_part P Q h (FixedArray index element) p = h element.0 p
 each_part P Q h (OpenArray element) p = p
+each_part P Q h Reserved p = p
+each_part P Q h (Constant value) p = p
 each_part P Q h _ p = tt
 
 both_parts : (P Q : ℕ → Type 0) → (n : TypeNode) → EachPart P n → EachPart Q n → EachPart (λ j. P j × Q j) n
-both_parts P Q (Fields fields) p q = both_fields P Q fields.items p q
+both_parts P Q (Fields fields) p q = both_fields P Q fields.now p q
 both_parts P Q (FixedArray index element) p q = (p, q)
 both_parts P Q (OpenArray element) p q = p
+both_parts P Q Reserved p q = p
+both_parts P Q (Constant value) p q = p
 both_parts P Q _ p q = tt
 
 words_equal : (nodes : List TypeNode) (v w : ℕ → ℕ) (n : TypeNode) → EachPart (λ j. v j ≡ w j) n → words_of_node nodes v n ≡ words_of_node nodes w n
-words_equal nodes v w (Fields fields) p = fields_equal v w fields.items p
+words_equal nodes v w (Fields fields) p = fields_equal v w fields.now p
 words_equal nodes v w (FixedArray index element) p = ap (λ k. size_of (head_at nodes index.0) * k) p
 words_equal nodes v w _ p = refl
 
@@ -195,9 +199,11 @@ module _ (nodes : List TypeNode) where
       ∥∥₁_elim p.0 ∥∥₁_prop (λ a. ∥∥₁_elim (fields_sized depth fs p.1) ∥∥₁_prop (λ b. ∣ (a, b) ∣₁))
 
   parts_sized : (depth : ℕ) (n : TypeNode) → EachPart (λ j. ∥ IsSized nodes depth j ∥₁) n → ∥ EachPart (IsSized nodes depth) n ∥₁
-  parts_sized depth (Fields fields) p = fields_sized depth fields.items p
+  parts_sized depth (Fields fields) p = fields_sized depth fields.now p
   parts_sized depth (FixedArray index element) p = p
   parts_sized depth (OpenArray element) p = absurd p
+  parts_sized depth Reserved p = absurd p
+  parts_sized depth (Constant value) p = absurd p
   parts_sized depth _ p = ∣ tt ∣₁
 
   pub settled_size : (table : List (Option ℕ)) (i : ℕ) (n : TypeNode) (words : ℕ) → IsRight nodes table → AreSized nodes table → node_at nodes i ≡ Some n → words ≡ words_of_node nodes (known_words table) n → words ≤ most_words → EachPart (Known table) n → ∥ IsSized nodes (suc (having table)) i ∥₁
@@ -242,9 +248,11 @@ module _ (nodes : List TypeNode) where
   fields_prop P h (f ∷ fs) = ×_prop (h f.kind.0) (fields_prop P h fs)
 
   part_prop : (P : ℕ → Type 0) → ((j : ℕ) → IsProp (P j)) → (n : TypeNode) → IsProp (EachPart P n)
-  part_prop P h (Fields fields) = fields_prop P h fields.items
+  part_prop P h (Fields fields) = fields_prop P h fields.now
   part_prop P h (FixedArray index element) = h element.0
   part_prop P h (OpenArray element) = absurd_prop
+  part_prop P h Reserved = absurd_prop
+  part_prop P h (Constant value) = absurd_prop
   part_prop P h _ = Unit-prop
 
   node_prop : (P : ℕ → Type 0) → ((j : ℕ) → IsProp (P j)) → (o : Option TypeNode) → IsProp (HasParts P o)

@@ -3,7 +3,7 @@ use Rattle.std.specs.Prelude.{◌≡◌, ℕ, zero, suc, ◌+◌, ◌*◌, ◌/�
 use Rattle.std.specs.Option.{option_map_or, option_and_then, unwrap_or}
 use Rattle.m3_types.specs.declared.nodes.Field.{Field}
 use Rattle.m3_types.specs.declared.nodes.TypeNode.{TypeNode}
-use Rattle.m3_types.specs.declared.nodes.TypeNode.TheVariants.{Fields, FixedArray, OpenArray, SetOf, Procedure}
+use Rattle.m3_types.specs.declared.nodes.TypeNode.TheVariants.{Reserved, Fields, FixedArray, OpenArray, SetOf, Procedure, Constant}
 use Rattle.m3_types.specs.Definitions.{node_at, head_at}
 use Rattle.m3_types.specs.Kinds.{size_of}
 
@@ -23,9 +23,11 @@ field_words w (f ∷ fs) = w f.kind.0 + field_words w fs
 -- The words of a value: 1 for an ordinal or a reference, 2 for a procedure, a bit for each member of
 -- a set's base, and for a record or fixed array the sum of its parts, whose words w has.
 abbrev pub words_of_node : List TypeNode → (ℕ → ℕ) → TypeNode → ℕ
-words_of_node nodes w (Fields fields) = field_words w fields.items
+words_of_node nodes w (Fields fields) = field_words w fields.now
 words_of_node nodes w (FixedArray index element) = size_of (head_at nodes index.0) * w element.0
 words_of_node nodes w (OpenArray element) = 0
+words_of_node nodes w Reserved = 0
+words_of_node nodes w (Constant value) = 0
 words_of_node nodes w (SetOf base) = set_words (size_of (head_at nodes base.0))
 words_of_node nodes w (Procedure formals result raises) = 2
 words_of_node nodes w _ = 1
@@ -40,11 +42,14 @@ abbrev pub EachField : (ℕ → Type 0) → List Field → Type 0
 EachField P [] = Unit {0}
 EachField P (f ∷ fs) = P f.kind.0 × EachField P fs
 
--- P holds of the types of the fields or elements; there is no open array
+-- P holds of the types of the fields or elements; there is no open array, and the definition is that
+-- of a type
 abbrev pub EachPart : (ℕ → Type 0) → TypeNode → Type 0
-EachPart P (Fields fields) = EachField P fields.items
+EachPart P (Fields fields) = EachField P fields.now
 EachPart P (FixedArray index element) = P element.0
 EachPart P (OpenArray element) = ⊥
+EachPart P Reserved = ⊥
+EachPart P (Constant value) = ⊥
 EachPart P _ = Unit {0}
 
 abbrev pub HasParts : (ℕ → Type 0) → Option TypeNode → Type 0

@@ -1,9 +1,8 @@
 ghost use Rattle.std.specs.Prelude.{Some, None, ◌≡◌, ◌≤◌, ◌<◌, ◌+◌, ◌*◌, ◌/◌, ℕ, length, max, IfSome, IfNone, IfOk, slice_get, true, false};
 ghost use Rattle.m3_sizes.specs.Sizes.{most_words, set_words, field_words, words_of_node, EachField, EachPart, Known, known_at, known_words, IsRight, AreSized, IsLow, IsFull, CanBeTold, IsTold, lacking};
 
-use crate::arrays::size_at;
-use crate::nodes::{Field, TypeNode};
 use m3_base::NoMemory;
+use m3_types::{Field, TypeNode, size_at};
 use std::alloc::Global;
 
 /// The most words that a type of a program may take.
@@ -68,10 +67,10 @@ fn words_of_set(members: u128) -> Option<u64>
 }
 
 /// The words of a type by its definition, within the limit, where the table has those of its parts.
-fn words_of_node(nodes: &[TypeNode], table: &[Option<u64>], node: &TypeNode) -> Option<u64>
+fn words_of_node(nodes: &[TypeNode], table: &[Option<u64>], node: TypeNode) -> Option<u64>
     requires { IsLow table.now }
-    ensures some { IfSome result (λ w. (w ≡ words_of_node nodes.now (known_words table.now) node.now) × (w ≤ most_words) × EachPart (Known table.now) node.now) }
-    ensures none { IfNone result (CanBeTold nodes.now table.now node.now → ⊥) }
+    ensures some { IfSome result (λ w. (w ≡ words_of_node nodes.now (known_words table.now) node.entry) × (w ≤ most_words) × EachPart (Known table.now) node.entry) }
+    ensures none { IfNone result (CanBeTold nodes.now table.now node.entry → ⊥) }
 {
     match node {
         TypeNode::Fields(fields) => words_of_fields(table, fields),
@@ -79,7 +78,7 @@ fn words_of_node(nodes: &[TypeNode], table: &[Option<u64>], node: &TypeNode) -> 
             let words = known(table, element.0 as usize)?;
             words_of_elements(size_at(nodes, index.0 as usize), words)
         }
-        TypeNode::OpenArray(_) => None,
+        TypeNode::OpenArray(_) | TypeNode::Reserved | TypeNode::Constant(_) => None,
         TypeNode::SetOf(base) => words_of_set(size_at(nodes, base.0 as usize)),
         TypeNode::Procedure(_, _, _) => Some(2),
         _ => Some(1),
@@ -103,7 +102,7 @@ fn settle(nodes: &[TypeNode], table: &mut [Option<u64>], i: usize) -> bool
     if table[i].is_some() {
         return false;
     }
-    match words_of_node(nodes, table, &nodes[i]) {
+    match words_of_node(nodes, table, nodes[i]) {
         Some(words) => {
             table[i] = Some(words);
             true
@@ -134,7 +133,7 @@ fn settle_all(nodes: &[TypeNode], table: &mut [Option<u64>]) -> bool
 }
 
 /// Puts the types that a value of a type holds onto the stack: the types of fields and elements.
-fn push_held(stack: &mut Vec<(usize, bool)>, node: &TypeNode) -> Result<(), NoMemory> {
+fn push_held(stack: &mut Vec<(usize, bool)>, node: TypeNode) -> Result<(), NoMemory> {
     match node {
         TypeNode::Fields(fields) => {
             for field in fields {
@@ -164,7 +163,7 @@ fn add_inner_first(
         } else if place < nodes.len() && place < entered.len() && !entered[place] {
             entered[place] = true;
             stack.push((place, true))?;
-            push_held(stack, &nodes[place])?;
+            push_held(stack, nodes[place])?;
         }
     }
     Ok(())

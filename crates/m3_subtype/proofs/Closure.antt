@@ -2,7 +2,7 @@
 use Rattle.std.proofs.Common.{◌≡◌, ℕ, List, Some, true, false, refl, sym, ◌∙◌, ap, subst, ⊎_elim}
 use Rattle.m3_types.specs.declared.nodes.TypeNode.{TypeNode}
 use Rattle.m3_types.specs.declared.nodes.Reveal.{Reveal}
-use Rattle.m3_types.specs.Definitions.{node_at, parts_at, Head, head_at, ASubrange, AFixedArray, AnOpenArray, AProcedure, AnOpaque, ANull, ARefAny, ARoot}
+use Rattle.m3_types.specs.Definitions.{node_at, types_at, Head, head_at, ASubrange, AFixedArray, AnOpenArray, AProcedure, AnOpaque, ANull, ARefAny, ARoot}
 use Rattle.m3_same.specs.Sameness.{Matched, Same}
 use Rattle.m3_types.specs.Kinds.{named_above}
 use Rattle.m3_subtype.specs.Subtypes.{Directly, same, null, refany, root, subrange, array, procedure, Subtype, directly, transitive, above, revealed, hidden, Step, up, reveal, hide, nil, Steps, start, further}
@@ -36,7 +36,7 @@ module _ (nodes : List TypeNode) (reveals : List Reveal) (view : ℕ) where
       ⊎_elim
       (λ o. absurd (let e : ASubrange d.2 d.3 ≡ AnOpaque y = sym d.5 ∙ o in let w : ⊥ = cc in w))
       (λ o.
-      let q = one_part nodes p o.1.0 (parts_at nodes z) (subst (Matched (Same nodes) (parts_at nodes z)) o.1.1 d.6) in
+      let q = one_part nodes p o.1.0 (types_at nodes z) (subst (Matched (Same nodes) (types_at nodes z)) o.1.1 d.6) in
       one_step z q.0 p (up (shape_up z q.0 q.1.0 (node_at nodes z) (ap is_upward d.4) q.1.1)) (same q.1.2))
       (up_shape y p (node_at nodes y) u)
   up_follows z y p (array d) u =

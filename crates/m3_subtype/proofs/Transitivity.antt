@@ -3,12 +3,12 @@ use Rattle.std.proofs.Common.{◌≡◌, ℕ, ℤ, zero, suc, ◌⊎◌, inl, in
 use Rattle.std.specs.Prelude.{IsTrue}
 use Rattle.std.proofs.lemmas.Int.{ints}
 use Rattle.m3_types.specs.declared.nodes.TypeNode.{TypeNode}
-use Rattle.m3_types.specs.Definitions.{node_at, parts_at, FormalHead, RaisesHead, AnyException, Exceptions, Head, head_at, ASubrange, AFixedArray, AnOpenArray, AnObject, AProcedure, ANull, ARefAny, AMutex, ARoot}
+use Rattle.m3_types.specs.Definitions.{node_at, types_at, FormalHead, RaisesHead, AnyException, Exceptions, Head, head_at, ASubrange, AFixedArray, AnOpenArray, AnObject, AProcedure, ANull, ARefAny, AMutex, ARoot}
 use Rattle.m3_same.specs.Sameness.{Matched, Same}
 use Rattle.m3_types.specs.Kinds.{has_nil, is_below_refany, is_below_root}
 use Rattle.m3_subtype.specs.Subtypes.{IsWithin, SubrangeBelow, FitsDimension, DimensionsFit, OpenFirst, ArrayBelow, RaisesWithin, ProcedureBelow, modes_of, Directly, same, null, refany, root, subrange, array, procedure}
 use Rattle.m3_same.proofs.Agreement.{pairwise_chained, same_chained, same_turned}
-use Rattle.m3_subtype.proofs.Shapes.{same_head, same_parts, same_dimension, dimension_shape, size_is, element_is}
+use Rattle.m3_subtype.proofs.Shapes.{same_head, same_named, same_dimension, dimension_shape, size_is, element_is}
 
 -- ---- small relations
 
@@ -104,18 +104,18 @@ module _ (nodes : List TypeNode) where
   directly_from_same x y z p (null q) = null (same_head nodes x y p ∙ q.0, q.1)
   directly_from_same x y z p (refany q) = refany (subst (λ h. IsTrue (is_below_refany h)) (sym (same_head nodes x y p)) q.0, q.1)
   directly_from_same x y z p (root q) = root (subst (λ h. IsTrue (is_below_root h)) (sym (same_head nodes x y p)) q.0, q.1)
-  directly_from_same x y z p (subrange q) = subrange (q.0, q.1, q.2, q.3, same_head nodes x y p ∙ q.4, q.5, chain (parts_at nodes x) (parts_at nodes y) (parts_at nodes z) (same_parts nodes x y p) q.6, q.7)
+  directly_from_same x y z p (subrange q) = subrange (q.0, q.1, q.2, q.3, same_head nodes x y p ∙ q.4, q.5, chain (types_at nodes x) (types_at nodes y) (types_at nodes z) (same_named nodes x y p) q.6, q.7)
   directly_from_same x y z p (array q) = array (open_first_same (length nodes) x y p q.0, q.1, (q.2.0, q.2.1, dimensions_same_left (suc q.2.0) x y z p q.2.2))
-  directly_from_same x y z p (procedure q) = procedure ((q.0.0, q.0.1, q.0.2, q.0.3, q.0.4, q.0.5, same_head nodes x y p ∙ q.0.6, q.0.7, q.0.8, q.0.9, q.0.10), chain (parts_at nodes x) (parts_at nodes y) (parts_at nodes z) (same_parts nodes x y p) q.1)
+  directly_from_same x y z p (procedure q) = procedure ((q.0.0, q.0.1, q.0.2, q.0.3, q.0.4, q.0.5, same_head nodes x y p ∙ q.0.6, q.0.7, q.0.8, q.0.9, q.0.10), chain (types_at nodes x) (types_at nodes y) (types_at nodes z) (same_named nodes x y p) q.1)
 
   pub directly_to_same : (x y z : ℕ) → Directly nodes x y → Same nodes y z → Directly nodes x z
   directly_to_same x y z (same q) p = same (same_chained nodes x y z q p)
   directly_to_same x y z (null q) p = null (q.0, subst (λ h. IsTrue (has_nil h)) (same_head nodes y z p) q.1)
   directly_to_same x y z (refany q) p = refany (q.0, sym (same_head nodes y z p) ∙ q.1)
   directly_to_same x y z (root q) p = root (q.0, sym (same_head nodes y z p) ∙ q.1)
-  directly_to_same x y z (subrange q) p = subrange (q.0, q.1, q.2, q.3, q.4, sym (same_head nodes y z p) ∙ q.5, chain (parts_at nodes x) (parts_at nodes y) (parts_at nodes z) q.6 (same_parts nodes y z p), q.7)
+  directly_to_same x y z (subrange q) p = subrange (q.0, q.1, q.2, q.3, q.4, sym (same_head nodes y z p) ∙ q.5, chain (types_at nodes x) (types_at nodes y) (types_at nodes z) q.6 (same_named nodes y z p), q.7)
   directly_to_same x y z (array q) p = array (q.0, open_first_same (length nodes) z y (same_turned nodes y z p) q.1, (q.2.0, q.2.1, dimensions_same_right (suc q.2.0) x y z q.2.2 p))
-  directly_to_same x y z (procedure q) p = procedure ((q.0.0, q.0.1, q.0.2, q.0.3, q.0.4, q.0.5, q.0.6, sym (same_head nodes y z p) ∙ q.0.7, q.0.8, q.0.9, q.0.10), chain (parts_at nodes x) (parts_at nodes y) (parts_at nodes z) q.1 (same_parts nodes y z p))
+  directly_to_same x y z (procedure q) p = procedure ((q.0.0, q.0.1, q.0.2, q.0.3, q.0.4, q.0.5, q.0.6, sym (same_head nodes y z p) ∙ q.0.7, q.0.8, q.0.9, q.0.10), chain (types_at nodes x) (types_at nodes y) (types_at nodes z) q.1 (same_named nodes y z p))
 
   -- ---- heads that differ
 
@@ -168,7 +168,7 @@ module _ (nodes : List TypeNode) where
   after_subrange x y z p (subrange q) =
       let e : ASubrange p.2 p.3 ≡ ASubrange q.0 q.1 = sym p.5 ∙ q.4 in
       let w : IsWithin p.0 p.1 q.0 q.1 = subst (λ a. IsWithin p.0 p.1 a q.1) (first_of_range e) (subst (λ a. IsWithin p.0 p.1 p.2 a) (last_of_range e) p.7) in
-      subrange (p.0, p.1, q.2, q.3, p.4, q.5, chain (parts_at nodes x) (parts_at nodes y) (parts_at nodes z) p.6 q.6, within_chained p.0 p.1 q.0 q.1 q.2 q.3 w q.7)
+      subrange (p.0, p.1, q.2, q.3, p.4, q.5, chain (types_at nodes x) (types_at nodes y) (types_at nodes z) p.6 q.6, within_chained p.0 p.1 q.0 q.1 q.2 q.3 w q.7)
   after_subrange x y z p (array q) = absurd (⊎_elim (λ o. apart y (ASubrange p.2 p.3) AnOpenArray p.5 o (λ h. cc)) (λ o. apart y (ASubrange p.2 p.3) AFixedArray p.5 o (λ h. cc)) (array_left q.2.0 y z q.2.2))
   after_subrange x y z p (procedure q) = absurd (apart y (ASubrange p.2 p.3) (AProcedure q.0.0 q.0.1 q.0.2) p.5 q.0.6 (λ h. cc))
 
@@ -192,7 +192,7 @@ module _ (nodes : List TypeNode) where
       let a = p.0 in
       let b = q.0 in
       let e : AProcedure a.3 a.4 a.5 ≡ AProcedure b.0 b.1 b.2 = sym a.7 ∙ b.6 in
-      procedure ((a.0, a.1, a.2, b.3, b.4, b.5, a.6, b.7, a.8 ∙ ap modes_of (formals_is e) ∙ b.8, a.9 ∙ result_is e ∙ b.9, raises_chained a.2 b.2 b.5 (subst (RaisesWithin a.2) (raises_is e) a.10) b.10), chain (parts_at nodes x) (parts_at nodes y) (parts_at nodes z) p.1 q.1)
+      procedure ((a.0, a.1, a.2, b.3, b.4, b.5, a.6, b.7, a.8 ∙ ap modes_of (formals_is e) ∙ b.8, a.9 ∙ result_is e ∙ b.9, raises_chained a.2 b.2 b.5 (subst (RaisesWithin a.2) (raises_is e) a.10) b.10), chain (types_at nodes x) (types_at nodes y) (types_at nodes z) p.1 q.1)
 
   pub directly_chained : (x y z : ℕ) → Directly nodes x y → Directly nodes y z → Directly nodes x z
   directly_chained x y z (same p) q = directly_from_same x y z p q

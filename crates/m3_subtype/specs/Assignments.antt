@@ -20,7 +20,7 @@ abbrev pub members_of : ℕ → TypeNode → Option Members
 members_of place Integer = Some (record { base = place; first = negsuc 9223372036854775807; last = pos 9223372036854775807 })
 members_of place Boolean = Some (record { base = place; first = pos 0; last = pos 1 })
 members_of place Character = Some (record { base = place; first = pos 0; last = pos 255 })
-members_of place (Enumeration names) = Some (record { base = place; first = pos 0; last = pos (length names.items) -ℤ pos 1 })
+members_of place (Enumeration names) = Some (record { base = place; first = pos 0; last = pos (length names.now) -ℤ pos 1 })
 members_of place (Subrange base first last) = Some (record { base = base.0; first = first; last = last })
 members_of place _ = None
 

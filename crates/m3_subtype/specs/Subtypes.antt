@@ -4,8 +4,9 @@ use Rattle.std.specs.Prelude.{◌≡◌, ℕ, ℤ, zero, suc, pos, negsuc, ◌+�
 use Rattle.m3_types.specs.declared.nodes.Mode.{Mode}
 use Rattle.m3_types.specs.declared.nodes.Reveal.{Reveal}
 use Rattle.m3_types.specs.declared.nodes.TypeNode.{TypeNode}
-use Rattle.m3_types.specs.declared.nodes.TypeNode.TheVariants.{Subrange, FixedArray, OpenArray, Object, Opaque}
-use Rattle.m3_types.specs.Definitions.{node_at, parts_at, FormalHead, RaisesHead, AnyException, Exceptions, Head, head_at, AnInteger, ABoolean, ACharacter, AnEnumeration, ASubrange, ARef, AnObject, AProcedure, AnOpaque, ANull, ARefAny, AText, AMutex, ARoot}
+use Rattle.m3_types.specs.declared.nodes.TypeNode.TheVariants.{FixedArray, OpenArray}
+use Rattle.m3_types.specs.Definitions.{node_at, types_at, FormalHead, RaisesHead, AnyException, Exceptions, Head, head_at, AnInteger, ABoolean, ACharacter, AnEnumeration, ASubrange, ARef, AnObject, AProcedure, AnOpaque, ANull, ARefAny, AText, AMutex, ARoot}
+use Rattle.m3_types.specs.Kinds.{is_below_refany, is_below_root, has_nil, size_of, named_above}
 use Rattle.m3_same.specs.Sameness.{Matched, Same}
 
 -- ---- ordinal types
@@ -16,7 +17,7 @@ IsWithin first last low high = (last <ℤ first) ⊎ ((low ≤ℤ first) × (las
 
 -- a subrange of the same base that the other contains
 abbrev pub SubrangeBelow : List TypeNode → ℕ → ℕ → Type 0
-SubrangeBelow nodes a b = (f : ℤ) × (l : ℤ) × (g : ℤ) × (m : ℤ) × (head_at nodes a ≡ ASubrange f l) × (head_at nodes b ≡ ASubrange g m) × Matched (Same nodes) (parts_at nodes a) (parts_at nodes b) × IsWithin f l g m
+SubrangeBelow nodes a b = (f : ℤ) × (l : ℤ) × (g : ℤ) × (m : ℤ) × (head_at nodes a ≡ ASubrange f l) × (head_at nodes b ≡ ASubrange g m) × Matched (Same nodes) (types_at nodes a) (types_at nodes b) × IsWithin f l g m
 
 -- ---- arrays
 
@@ -77,7 +78,7 @@ SignaturesFit h k = (fs : List FormalHead) × (r : Bool) × (x : RaisesHead) × 
 
 -- and the types of the formals and of the result are the same
 abbrev pub ProcedureBelow : List TypeNode → ℕ → ℕ → Type 0
-ProcedureBelow nodes a b = SignaturesFit (head_at nodes a) (head_at nodes b) × Matched (Same nodes) (parts_at nodes a) (parts_at nodes b)
+ProcedureBelow nodes a b = SignaturesFit (head_at nodes a) (head_at nodes b) × Matched (Same nodes) (types_at nodes a) (types_at nodes b)
 
 -- ---- references
 

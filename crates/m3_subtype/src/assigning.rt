@@ -5,11 +5,10 @@ ghost use Rattle.m3_subtype.specs.Ranges.{members};
 ghost use Rattle.m3_subtype.specs.Assignments.{Members, members_of, members_at, CommonMember, ShareMember, is_array_or_reference, NeedsCheck, IsAssign};
 
 use crate::assign::Assign;
-use crate::kinds::{is_reference_at, node_at};
-use crate::nodes::{Reveal, TypeNode};
-use crate::same::same_types;
-use crate::upward::subtype;
+use crate::upward::is_below;
 use m3_base::NoMemory;
+use m3_same::same_types;
+use m3_types::{Reveal, TypeNode, is_reference_at, node_at};
 use std::alloc::Global;
 
 /// The members of an ordinal type: its base type, and the numbers of the first and the last.
@@ -20,8 +19,8 @@ struct Range {
     last: i128,
 }
 
-fn range_of(place: usize, node: &TypeNode) -> Option<Range>
-    ensures { option_map members result ≡ members_of place node.now }
+fn range_of(place: usize, node: TypeNode) -> Option<Range>
+    ensures { option_map members result ≡ members_of place node.entry }
 {
     match node {
         TypeNode::Integer => Some(Range {
@@ -46,8 +45,8 @@ fn range_of(place: usize, node: &TypeNode) -> Option<Range>
         }),
         TypeNode::Subrange(base, first, last) => Some(Range {
             base: base.0 as usize,
-            first: i128::from(*first),
-            last: i128::from(*last),
+            first: i128::from(first),
+            last: i128::from(last),
         }),
         _ => None,
     }
@@ -98,7 +97,7 @@ fn is_array_or_reference_at(nodes: &[TypeNode], place: usize) -> bool
 }
 
 /// How a value of the first type may be assigned to a variable of the second, in the view of a unit.
-pub(crate) fn assignable(
+pub(crate) fn way_to_assign(
     alloc: Global,
     nodes: &[TypeNode],
     reveals: &[Reveal],
@@ -108,11 +107,11 @@ pub(crate) fn assignable(
 ) -> Result<Assign, NoMemory>
     ensures { IfOk result (λ assign. IsAssign nodes.now reveals.now view a b assign) }
 {
-    if subtype(alloc, nodes, reveals, view, a, b)? {
+    if is_below(alloc, nodes, reveals, view, a, b)? {
         return Ok(Assign::Yes);
     }
     if is_array_or_reference_at(nodes, a) {
-        if subtype(alloc, nodes, reveals, view, b, a)? {
+        if is_below(alloc, nodes, reveals, view, b, a)? {
             return Ok(Assign::Checked);
         }
     }

@@ -6,10 +6,9 @@ ghost use Rattle.m3_subtype.specs.Reaching.{Has, IsVisited, AddsSteps, BoundAbov
 ghost use Rattle.m3_types.specs.declared.nodes.Reveal.{Reveal as AReveal};
 
 use crate::direct::directly;
-use crate::kinds::{has_nil_at, is_null_at, is_opaque_at, named_above_at};
-use crate::nodes::{Reveal, TypeNode};
 use crate::reached::Reached;
 use m3_base::NoMemory;
+use m3_types::{Reveal, TypeNode, has_nil_at, is_null_at, is_opaque_at, named_above_at};
 use std::alloc::Global;
 
 /// Adds what a type's own definition puts above it.
@@ -155,7 +154,7 @@ fn add_steps(
 
 /// Whether the first type is a subtype of the second in the view: whether going upwards from it comes
 /// to a type that is directly below the second.
-pub(crate) fn subtype(
+pub(crate) fn is_below(
     alloc: Global,
     nodes: &[TypeNode],
     reveals: &[Reveal],

@@ -1,5 +1,5 @@
 use Rattle.std.proofs.Common.{get_or, length, arith, below_more}
-use Rattle.m3_same.specs.Classes.{parent_in, SameClass}
+use Rattle.m3_same.specs.Classes.{parent_of, SameClass}
 use Rattle.m3_same.specs.Sameness.{Same}
 use Rattle.m3_same.proofs.Agreement.{pairwise_at, pairwise_from_places}
 use Rattle.m3_same.proofs.Keeping.{front_stays, longer_stays, forced_stays}
@@ -25,4 +25,4 @@ loop-i-preserved c =
     }
 
 pub returns-clause-joined : goal.returns-clause-joined
-returns-clause-joined c = pairwise_from_places (SameClass (parent_in c.loop-i.self.classes.parents)) c.args.xs.now c.args.ys.now c.requires.alike (λ k l. c.loop-i.invariant.joined k (omega arith))
+returns-clause-joined c = pairwise_from_places (SameClass (parent_of c.loop-i.self.classes.parents)) c.args.xs.now c.args.ys.now c.requires.alike (λ k l. c.loop-i.invariant.joined k (omega arith))

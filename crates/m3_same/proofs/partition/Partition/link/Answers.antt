@@ -1,4 +1,4 @@
-use Rattle.m3_same.specs.Classes.{parent_in}
+use Rattle.m3_same.specs.Classes.{parent_of}
 use Rattle.m3_same.proofs.Forest.{root_of_joined, root_count_joined}
 use Rattle.m3_same.proofs.Parents.{parent_written, parent_elsewhere, linked_descends}
 use Rattle.m3_same.proofs.partition.Partition.link.Goals as goal
@@ -10,7 +10,7 @@ returns-clause-roots c =
     let low = c.args.low in
     let high = c.args.high in
     let u = c.in_ok-insert.ensures.updates in
-    root_of_joined (parent_in m) (parent_in n) c.args.self.now.descends (linked_descends m n high low c.args.self.now.descends c.requires.apart u) low high c.requires.low c.requires.high c.requires.apart (parent_written m n high low u) (parent_elsewhere m n high low u)
+    root_of_joined (parent_of m) (parent_of n) c.args.self.now.descends (linked_descends m n high low c.args.self.now.descends c.requires.apart u) low high c.requires.low c.requires.high c.requires.apart (parent_written m n high low u) (parent_elsewhere m n high low u)
 
 pub returns-clause-count : goal.returns-clause-count
 returns-clause-count c =
@@ -19,4 +19,4 @@ returns-clause-count c =
     let low = c.args.low in
     let high = c.args.high in
     let u = c.in_ok-insert.ensures.updates in
-    root_count_joined (parent_in m) (parent_in n) c.args.self.now.descends (linked_descends m n high low c.args.self.now.descends c.requires.apart u) low high c.requires.low c.requires.high c.requires.apart (parent_written m n high low u) (parent_elsewhere m n high low u)
+    root_count_joined (parent_of m) (parent_of n) c.args.self.now.descends (linked_descends m n high low c.args.self.now.descends c.requires.apart u) low high c.requires.low c.requires.high c.requires.apart (parent_written m n high low u) (parent_elsewhere m n high low u)

@@ -1,16 +1,15 @@
 ghost use Rattle.std.specs.Prelude.{◌≡◌, ◌↔◌, ℕ, IfOk, IsTrue};
 ghost use Rattle.m3_same.specs.Sameness.{Matched, Same};
 
+
 use crate::assumptions::Assumptions;
-use crate::heads::heads_match_at;
-use crate::nodes::TypeNode;
-use crate::parts::parts_at;
 use m3_base::NoMemory;
+use m3_types::{TypeGraph, TypeId, TypeNode, heads_match_at, parts_at};
 use std::alloc::Global;
 
 /// Whether the types at each place of two lists are the same. What is compared is taken to be the same
 /// from then on, so no pair of classes is compared twice (Hopcroft and Karp's test of equivalence, 1971).
-pub(crate) fn same_lists(
+pub fn same_lists(
     alloc: Global,
     nodes: &[TypeNode],
     xs: &[usize],
@@ -40,8 +39,8 @@ pub(crate) fn same_lists(
     Ok(true)
 }
 
-/// Whether the types at two places are the same.
-pub(crate) fn same_types(
+/// Whether the definitions at two places are the same.
+pub fn same_types(
     alloc: Global,
     nodes: &[TypeNode],
     a: usize,
@@ -49,5 +48,17 @@ pub(crate) fn same_types(
 ) -> Result<bool, NoMemory>
     ensures { IfOk result (λ yes. IsTrue yes ↔ Same nodes.now a b) }
 {
+    if a == b {
+        return Ok(true);
+    }
     same_lists(alloc, nodes, &[a], &[b])
+}
+
+/// Whether two types are the same: their definitions are equal, written out without end (the report,
+/// section 2.2.7, where this profile's brands, opaque types and parts of a type apply). Constants in
+/// them are compared by value.
+pub fn same(alloc: Global, graph: &TypeGraph, a: TypeId, b: TypeId) -> Result<bool, NoMemory>
+    ensures { IfOk result (λ yes. IsTrue yes ↔ Same graph.now.nodes.items a.0 b.0) }
+{
+    same_types(alloc, &graph.nodes, a.0 as usize, b.0 as usize)
 }

@@ -6,7 +6,7 @@ use Rattle.m3_subtype.proofs.Adding.{has_stays, all_added}
 use Rattle.m3_same.proofs.Comparing.{at_place}
 use Rattle.m3_subtype.proofs.Closure.{reaches_subtype}
 use Rattle.m3_subtype.proofs.Exhausting.{extends_longer, done_more, all_done, no_subtype}
-use Rattle.m3_subtype.proofs.upward.subtype.Goals as goal
+use Rattle.m3_subtype.proofs.upward.is_below.Goals as goal
 
 pub loop-next-init : goal.loop-next-init
 loop-next-init c =

@@ -1,11 +1,11 @@
 use Rattle.std.proofs.Common.{◌≡◌, ◌<◌, ◌^◌, length, refl, sym, ◌∙◌, ap, subst, arith}
-use Rattle.m3_same.specs.Classes.{parent_in, SameClass}
+use Rattle.m3_same.specs.Classes.{parent_of, SameClass}
 use Rattle.m3_types.specs.Definitions.{parts_at}
 use Rattle.m3_same.specs.Sameness.{Matched, Same}
 use Rattle.m3_same.specs.Assumptions.{Agrees}
 use Rattle.m3_same.proofs.Agreement.{same_agrees, pairwise_length, pairwise_weaker, classes_same}
 use Rattle.m3_same.proofs.Comparing.{at_place, step_done, shrinks, whole}
-use Rattle.m3_same.proofs.same.same_lists.Goals as goal
+use Rattle.m3_same.proofs.sameness.same_lists.Goals as goal
 
 pub returns-then-not-heads_match_at : goal.returns-then-not-heads_match_at
 returns-then-not-heads_match_at c =
@@ -36,8 +36,8 @@ loop-next-preserved c =
     let nodes = c.args.nodes.now in
     let p = c.index.result.now in
     let e = c.in_ok-assume_all-2.ensures in
-    let f = parent_in c.loop-next.assumed.classes.parents in
-    let g = parent_in c.assume_all-in-loop-next.new.self.classes.parents in
+    let f = parent_of c.loop-next.assumed.classes.parents in
+    let g = parent_of c.assume_all-in-loop-next.new.self.classes.parents in
     let old = c.loop-next.assumed.pairs.items in
     let new = c.assume_all-in-loop-next.new.self.pairs.items in
     let was = c.loop-next.invariant in
@@ -63,7 +63,7 @@ loop-next-preserved c =
 pub returns : goal.returns
 returns c =
     let nodes = c.args.nodes.now in
-    let f = parent_in c.loop-next.assumed.classes.parents in
+    let f = parent_of c.loop-next.assumed.classes.parents in
     let pairs = c.loop-next.assumed.pairs.items in
     (λ h. pairwise_weaker (SameClass f) (Same nodes) (classes_same nodes f pairs c.loop-next.invariant.kept.sound (whole (λ p. Agrees nodes (SameClass f) p.0 p.1) pairs c.loop-next.next (omega arith) c.loop-next.invariant.done)) c.args.xs.now c.args.ys.now c.loop-next.invariant.first, λ s. refl)
 
