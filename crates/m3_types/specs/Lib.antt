@@ -1,3 +1,5 @@
 pub mod Definitions
 pub mod Kinds
 pub mod Reveals
+pub mod Noting
+pub mod Marks

@@ -4,8 +4,10 @@
 mod graph;
 mod heads;
 mod kinds;
+mod marks;
 mod nodes;
 mod parts;
+mod places;
 
 pub use graph::TypeGraph;
 pub use heads::heads_match_at;
