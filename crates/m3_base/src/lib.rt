@@ -2,6 +2,7 @@
 #![tactic(auto)]
 
 mod byte_list;
+mod least;
 mod memory;
 mod outcomes;
 mod places;
@@ -10,7 +11,8 @@ mod rules;
 mod schedules;
 
 pub use byte_list::Bytes;
-pub use memory::{NoMemory, gap};
+pub use least::Least;
+pub use memory::{NoMemory, gap, place_number};
 pub use outcomes::{Entry, FaultKind, Options, Outcome, fault_name};
 pub use places::{Pos, Source};
 pub use refusals::{Refusal, Refused};

@@ -1,3 +1,5 @@
+ghost use Rattle.std.specs.Prelude.{◌≡◌, ◌↔◌, ◌^◌, ◌≤◌, IfOk, IsErr};
+
 use std::alloc::{AllocError, AllocFailed};
 use thiserror::Error;
 
@@ -23,4 +25,16 @@ impl<T: Drop> From<AllocFailed<T>> for NoMemory {
 /// debt that docs/PROOFS.md counts, and a crate whose contracts are exact has none.
 pub fn gap() -> NoMemory {
     NoMemory
+}
+
+/// A place in a list as a number of 32 bits. No list of the compiler grows so long that a place has
+/// none; one that did would be want of memory.
+pub fn place_number(place: usize) -> Result<u32, NoMemory>
+    ensures same { IfOk result (λ number. number ≡ place) }
+    ensures fits { IsErr result ↔ (2 ^ 32 ≤ place) }
+{
+    match u32::try_from(place) {
+        Ok(number) => Ok(number),
+        Err(_) => Err(NoMemory),
+    }
 }

@@ -8,7 +8,7 @@ use m3_types::{TypeGraph, TypeId};
 #[derive(Drop)]
 pub struct Core<'a> {
     /// All types. The `source` of a default names a constant of `values`.
-    pub types: TypeGraph,
+    pub types: TypeGraph<'a>,
     /// The procedures with bodies and the module bodies, by unit and place, a module's body behind
     /// the procedures of its unit. The number of a procedure is its place here.
     pub procs: &'a [ProcDef<'a>],

@@ -1,12 +1,10 @@
-//! A place in the tokens of a file, how deep constructs may nest there, and the names that stand there.
+//! A reader of the tokens of a file that keeps its first error, and the names that stand among them.
 #![tactic(auto)]
 
-mod cursor;
 mod kinds;
 mod names;
-mod room;
+mod reader;
 
-pub use cursor::Cursor;
 pub use kinds::{begins_expression, begins_type, goes_on, operator_of};
-pub use names::{name_list, qualid, raises};
-pub use room::Room;
+pub use names::{name_list, qualid, qualid_list, raises};
+pub use reader::Reader;

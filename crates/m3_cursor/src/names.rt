@@ -1,59 +1,67 @@
-ghost use Rattle.m3_cursor.specs.Cursors.{Takes};
+ghost use Rattle.m3_cursor.specs.Readers.{Follows};
 
-use crate::cursor::Cursor;
-use m3_base::Refused;
+use crate::reader::Reader;
 use m3_syntax::{Name, Qualid, Raises, Sign, Word};
-use std::alloc::Global;
 
 /// Names with commas between them, at least one.
-pub fn name_list<'a>(alloc: Global, cursor: &mut Cursor<'_, 'a>) -> Result<Vec<Name<'a>>, Refused>
-    ensures { Takes cursor.old cursor.new result }
+pub fn name_list<'a>(reader: &mut Reader<'_, 'a>) -> &'a [Name<'a>]
+    ensures { Follows reader.old reader.new }
 {
-    let mut names = Vec::new(alloc);
-    loop {
-        names.push(cursor.take_name()?)?;
-        if !cursor.skip_sign(Sign::Comma) {
-            return Ok(names);
+    let mut names = Vec::new(reader.alloc());
+    'names: loop {
+        let name = reader.take_name();
+        reader.put(&mut names, name);
+        if !reader.skip_sign(Sign::Comma) {
+            break;
         }
     }
+    reader.row(names)
 }
 
 /// A name, or an interface's name, a dot and a name of it.
-pub fn qualid<'a>(cursor: &mut Cursor<'_, 'a>) -> Result<Qualid<'a>, Refused>
-    ensures { Takes cursor.old cursor.new result }
+pub fn qualid<'a>(reader: &mut Reader<'_, 'a>) -> Qualid<'a>
+    ensures { Follows reader.old reader.new }
 {
-    let first = cursor.take_name()?;
-    if cursor.skip_sign(Sign::Dot) {
-        let second = cursor.take_name()?;
-        Ok(Qualid {
-            first,
-            second: Some(second),
-        })
+    let first = reader.take_name();
+    let second = if reader.skip_sign(Sign::Dot) {
+        Some(reader.take_name())
     } else {
-        Ok(Qualid {
-            first,
-            second: None,
-        })
-    }
+        None
+    };
+    Qualid { first, second }
 }
 
-/// What stands behind RAISES: ANY, or qualified names in braces.
-pub fn raises<'a>(alloc: Global, cursor: &mut Cursor<'_, 'a>) -> Result<Raises<'a>, Refused>
-    ensures { Takes cursor.old cursor.new result }
+/// Qualified names with commas between them, at least one.
+pub fn qualid_list<'a>(reader: &mut Reader<'_, 'a>) -> &'a [Qualid<'a>]
+    ensures { Follows reader.old reader.new }
 {
-    if cursor.skip_word(Word::Any) {
-        return Ok(Raises::Any);
-    }
-    cursor.take_sign(Sign::OpenBrace)?;
-    let mut exceptions = Vec::new(alloc);
-    if cursor.skip_sign(Sign::CloseBrace) {
-        return Ok(Raises::Only(exceptions));
-    }
-    loop {
-        exceptions.push(qualid(cursor)?)?;
-        if !cursor.skip_sign(Sign::Comma) {
-            cursor.take_sign(Sign::CloseBrace)?;
-            return Ok(Raises::Only(exceptions));
+    let mut names = Vec::new(reader.alloc());
+    'names: loop {
+        let name = qualid(reader);
+        reader.put(&mut names, name);
+        if !reader.skip_sign(Sign::Comma) {
+            break;
         }
     }
+    reader.row(names)
+}
+
+/// RAISES with ANY or with qualified names in braces; no exception where it isn't here.
+pub fn raises<'a>(reader: &mut Reader<'_, 'a>) -> Raises<'a>
+    ensures { Follows reader.old reader.new }
+{
+    if !reader.skip_word(Word::Raises) {
+        return Raises::Only(reader.no_items());
+    }
+    if reader.skip_word(Word::Any) {
+        return Raises::Any;
+    }
+    reader.take_sign(Sign::OpenBrace);
+    let names = if reader.is_sign(Sign::CloseBrace) {
+        reader.no_items()
+    } else {
+        qualid_list(reader)
+    };
+    reader.take_sign(Sign::CloseBrace);
+    Raises::Only(names)
 }

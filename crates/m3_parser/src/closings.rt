@@ -27,24 +27,23 @@ fn wrong_closing(name: &Name, closing: &Name) -> Option<Pos>
 
 fn in_kind(kind: &UnitKind) -> Option<Pos> {
     match kind {
-        UnitKind::Interface { declarations, .. } => in_declarations(declarations),
-        UnitKind::GenericInterface { declarations, .. } => in_declarations(declarations),
-        UnitKind::Module { block, .. } => in_block(block),
-        UnitKind::GenericModule { block, .. } => in_block(block),
+        UnitKind::Interface { declarations, .. }
+        | UnitKind::GenericInterface { declarations, .. } => in_declarations(declarations),
+        UnitKind::Module { block, .. } | UnitKind::GenericModule { block, .. } => in_block(block),
         UnitKind::InterfaceInstance { .. } | UnitKind::ModuleInstance { .. } => None,
     }
 }
 
 #[cycle(closings)]
 fn in_block(block: &Block) -> Option<Pos> {
-    match in_declarations(&block.declarations) {
+    match in_declarations(block.declarations) {
         Some(pos) => Some(pos),
-        None => in_statements(&block.body),
+        None => in_statements(block.body),
     }
 }
 
 #[cycle(closings)]
-fn in_declarations(declarations: &Vec<Decl>) -> Option<Pos> {
+fn in_declarations(declarations: &[Decl]) -> Option<Pos> {
     for declaration in declarations {
         if let Some(pos) = in_declaration(declaration) {
             return Some(pos);
@@ -69,7 +68,7 @@ fn in_declaration(declaration: &Decl) -> Option<Pos> {
 }
 
 #[cycle(closings)]
-fn in_statements(statements: &Vec<Stmt>) -> Option<Pos> {
+fn in_statements(statements: &[Stmt]) -> Option<Pos> {
     for statement in statements {
         if let Some(pos) = in_statement(statement) {
             return Some(pos);
@@ -123,9 +122,9 @@ fn in_else(statement: &Stmt) -> Option<Pos> {
 }
 
 #[cycle(closings)]
-fn in_arms(arms: &Vec<Arm>) -> Option<Pos> {
+fn in_arms(arms: &[Arm]) -> Option<Pos> {
     for arm in arms {
-        if let Some(pos) = in_statements(&arm.body) {
+        if let Some(pos) = in_statements(arm.body) {
             return Some(pos);
         }
     }
@@ -133,9 +132,9 @@ fn in_arms(arms: &Vec<Arm>) -> Option<Pos> {
 }
 
 #[cycle(closings)]
-fn in_cases(branches: &Vec<CaseBranch>) -> Option<Pos> {
+fn in_cases(branches: &[CaseBranch]) -> Option<Pos> {
     for branch in branches {
-        if let Some(pos) = in_statements(&branch.body) {
+        if let Some(pos) = in_statements(branch.body) {
             return Some(pos);
         }
     }
@@ -143,9 +142,9 @@ fn in_cases(branches: &Vec<CaseBranch>) -> Option<Pos> {
 }
 
 #[cycle(closings)]
-fn in_handlers(handlers: &Vec<Handler>) -> Option<Pos> {
+fn in_handlers(handlers: &[Handler]) -> Option<Pos> {
     for handler in handlers {
-        if let Some(pos) = in_statements(&handler.body) {
+        if let Some(pos) = in_statements(handler.body) {
             return Some(pos);
         }
     }
@@ -153,9 +152,9 @@ fn in_handlers(handlers: &Vec<Handler>) -> Option<Pos> {
 }
 
 #[cycle(closings)]
-fn in_type_cases(branches: &Vec<TypeBranch>) -> Option<Pos> {
+fn in_type_cases(branches: &[TypeBranch]) -> Option<Pos> {
     for branch in branches {
-        if let Some(pos) = in_statements(&branch.body) {
+        if let Some(pos) = in_statements(branch.body) {
             return Some(pos);
         }
     }

@@ -1,17 +1,19 @@
-ghost use Rattle.std.specs.Prelude.{◌≡◌, ◌<◌, ◌≤◌, IfOk, IfErr, OnOk, length};
-ghost use Rattle.m3_cursor.specs.Cursors.{Takes, MayTake, place_at};
-ghost use Rattle.m3_parser.specs.Refusals.{IsRefusal};
+ghost use Rattle.std.specs.Prelude.{◌≡◌, ◌<◌, ◌≤◌, IfOk, IfErr, OnOk, OnSome, length};
+ghost use Rattle.m3_cursor.specs.Readers.{Follows};
 
-use crate::blocks::{block, procedure};
 use crate::closings::first_wrong_closing;
-use crate::declarations::{Declared, declaration};
-use m3_base::{Pos, Refusal, Refused};
-use m3_cursor::{Cursor, Room, name_list};
-use m3_syntax::{Decl, Import, ImportItem, Lexed, Name, Sign, Token, Unit, UnitKind, Word};
+use bumpalo::Bump;
+use m3_base::{NoMemory, Pos, Refusal, Refused};
+use m3_cursor::{Reader, name_list};
+use m3_statements::{block, declarations};
+use m3_syntax::{Import, ImportItem, Kept, Lexed, Name, Sign, Unit, UnitKind, Word};
 use std::alloc::Global;
 
 /// How many tokens a file may have.
 const MAX_TOKENS: usize = 500_000;
+
+/// How many constructs may be open at a place.
+const MAX_OPEN: u32 = 200;
 
 /// The rule that a closing name breaks that differs from the name that it closes.
 const END_NAME_DIFFERS: u16 = 12;
@@ -20,348 +22,228 @@ const END_NAME_DIFFERS: u16 = 12;
 const TOO_MANY_TOKENS: u16 = 14;
 
 /// The unit of a file (the report, section 2.5), given its tokens. Its names and texts borrow those of
-/// the tokens.
+/// the tokens, and its tree stands in the arena.
 ///
 /// An `Err` is the first broken rule of 10 to 14: of phase 2, with its place, and with the file of
 /// `lexed.end` as its unit. Rule 12 is judged only where no other is broken. Want of memory is the other
 /// `Err`.
-#[tactic(auto, using(crate::proofs::RefusalLaws::refused_at))]
-pub fn parse<'a>(alloc: Global, lexed: &Lexed<'a>) -> Result<Unit<'a>, Refused>
-    ensures tokens { IfOk result (λ unit. unit.tokens ≡ length lexed.now.tokens.items) }
-    ensures within_limit { OnOk result (length lexed.now.tokens.items ≤ 500000) }
-    ensures refused { IfErr result (IsRefusal lexed.now.end lexed.now.tokens.items) }
-{
-    let mut cursor = Cursor::new(lexed);
-    let outcome = unit(alloc, &mut cursor);
+pub fn parse<'a>(alloc: Global, arena: &'a Bump, lexed: &Lexed<'a>) -> Result<Unit<'a>, Refused> {
+    let mut reader = Reader::new(alloc, arena, lexed)?;
+    let unit = unit(&mut reader);
     let count = lexed.tokens.len();
-    if count - cursor.remaining() > MAX_TOKENS {
-        return Err(too_many_tokens(lexed));
+    if count - reader.unread() > MAX_TOKENS {
+        return Err(refused(lexed, place_of_token(lexed, MAX_TOKENS), TOO_MANY_TOKENS));
     }
-    let mut unit = outcome?;
+    let mut unit = reader.whole(unit?)?;
     unit.tokens = count as u32;
     match first_wrong_closing(&unit) {
-        Some(pos) => Err(end_name_differs(lexed, pos)),
+        Some(pos) => Err(refused(lexed, pos, END_NAME_DIFFERS)),
         None => Ok(unit),
     }
 }
 
-/// The refusal of a closing name that is another than the one that it closes.
-fn end_name_differs(lexed: &Lexed, pos: Pos) -> Refused
-    ensures { IsRefusal lexed.now.end lexed.now.tokens.items result }
-{
+fn refused(lexed: &Lexed<'_>, pos: Pos, rule: u16) -> Refused {
     Refused::Rule(Refusal {
         phase: 2,
         unit: lexed.end.file,
         pos,
-        rule: END_NAME_DIFFERS,
+        rule,
     })
 }
 
-/// The refusal of token 500,001.
-fn too_many_tokens(lexed: &Lexed) -> Refused
-    requires { 500000 < length lexed.now.tokens.items }
-    ensures { IsRefusal lexed.now.end lexed.now.tokens.items result }
-{
-    let rest = &lexed.tokens.as_slice()[MAX_TOKENS..];
-    Refused::Rule(Refusal {
-        phase: 2,
-        unit: lexed.end.file,
-        pos: first_place(rest, lexed.end),
-        rule: TOO_MANY_TOKENS,
-    })
-}
-
-/// The place of the first token, or the end of the file.
-fn first_place(tokens: &[Token], end: Pos) -> Pos
-    ensures { result ≡ place_at end tokens.now }
-{
-    match tokens {
-        [] => end,
-        [token, ..] => token.pos,
+/// The place of a token by its number from 0, or the end of the file where there is none.
+fn place_of_token(lexed: &Lexed<'_>, number: usize) -> Pos {
+    match lexed.tokens.get(number) {
+        Some(token) => token.pos,
+        None => lexed.end,
     }
 }
 
 /// The unit that all tokens make. The number of tokens is left at 0.
-fn unit<'a>(alloc: Global, cursor: &mut Cursor<'_, 'a>) -> Result<Unit<'a>, Refused>
-    ensures all { OnOk result (length cursor.new.rest.now ≡ 0) }
-    ensures takes { Takes cursor.old cursor.new result }
+fn unit<'a>(reader: &mut Reader<'_, 'a>) -> Result<Unit<'a>, NoMemory>
+    ensures { Follows reader.old reader.new }
 {
-    let pos = cursor.pos();
-    let is_unsafe = cursor.skip_word(Word::Unsafe);
-    let (name, kind) = opened(alloc, cursor, is_unsafe)?;
-    let closing = last_name(cursor)?;
+    let pos = reader.pos();
+    let is_unsafe = reader.skip_word(Word::Unsafe);
+    let is_generic = !is_unsafe && reader.skip_word(Word::Generic);
+    let is_interface = reader.skip_word(Word::Interface);
+    if !is_interface {
+        reader.take_word(Word::Module);
+    }
+    let name = reader.take_name();
+    let kind = if is_generic {
+        generic(reader, is_interface)
+    } else if is_interface {
+        interface(reader)
+    } else {
+        module(reader)
+    };
+    let closing = reader.take_name();
+    reader.take_sign(Sign::Dot);
+    if reader.kind().is_some() {
+        reader.unexpected();
+    }
     Ok(Unit {
         pos,
         is_unsafe,
         name,
-        kind,
+        kind: kind?,
         closing,
         tokens: 0,
     })
 }
 
-/// The name behind the last END, with its dot, behind which no token stands.
-fn last_name<'a>(cursor: &mut Cursor<'_, 'a>) -> Result<Name<'a>, Refused>
-    ensures all { OnOk result (length cursor.new.rest.now ≡ 0) }
-    ensures takes { Takes cursor.old cursor.new result }
+/// What stands in an interface behind its name, up to its closing name.
+fn interface<'a>(reader: &mut Reader<'_, 'a>) -> Result<UnitKind<'a>, NoMemory>
+    ensures { Follows reader.old reader.new }
 {
-    let name = cursor.take_name()?;
-    cursor.take_sign(Sign::Dot)?;
-    if cursor.remaining() > 0 {
-        return Err(cursor.unexpected());
+    if reader.skip_sign(Sign::Equal) {
+        let (generic, actuals) = instance(reader);
+        return Ok(UnitKind::InterfaceInstance { generic, actuals });
     }
-    Ok(name)
+    reader.take_sign(Sign::Semicolon);
+    let imports = imports(reader);
+    let declarations = declarations(reader, MAX_OPEN);
+    reader.take_word(Word::End);
+    Ok(UnitKind::Interface {
+        imports,
+        declarations: kept(reader.arena(), declarations)?,
+    })
 }
 
-/// The name and the parts of the unit behind UNSAFE, if that was there, up to its closing name. Generic
-/// units aren't unsafe.
-fn opened<'a>(
-    alloc: Global,
-    cursor: &mut Cursor<'_, 'a>,
-    is_unsafe: bool,
-) -> Result<(Name<'a>, UnitKind<'a>), Refused>
-    ensures { Takes cursor.old cursor.new result }
+/// What stands in a module behind its name, up to its closing name.
+fn module<'a>(reader: &mut Reader<'_, 'a>) -> Result<UnitKind<'a>, NoMemory>
+    ensures { Follows reader.old reader.new }
 {
-    if cursor.skip_word(Word::Interface) {
-        return interface(alloc, cursor);
-    }
-    if cursor.skip_word(Word::Module) {
-        return module(alloc, cursor);
-    }
-    if is_unsafe {
-        return Err(cursor.unexpected());
-    }
-    cursor.take_word(Word::Generic)?;
-    if cursor.skip_word(Word::Interface) {
-        return generic_interface(alloc, cursor);
-    }
-    cursor.take_word(Word::Module)?;
-    generic_module(alloc, cursor)
-}
-
-/// The interface behind INTERFACE, up to its closing name.
-fn interface<'a>(
-    alloc: Global,
-    cursor: &mut Cursor<'_, 'a>,
-) -> Result<(Name<'a>, UnitKind<'a>), Refused>
-    ensures { Takes cursor.old cursor.new result }
-{
-    let name = cursor.take_name()?;
-    if cursor.skip_sign(Sign::Equal) {
-        let (generic, actuals) = instance(alloc, cursor)?;
-        return Ok((name, UnitKind::InterfaceInstance { generic, actuals }));
-    }
-    cursor.take_sign(Sign::Semicolon)?;
-    let imports = imports(alloc, cursor)?;
-    let declarations = declarations(alloc, cursor)?;
-    Ok((
-        name,
-        UnitKind::Interface {
-            imports,
-            declarations,
-        },
-    ))
-}
-
-/// The module behind MODULE, up to its closing name.
-fn module<'a>(
-    alloc: Global,
-    cursor: &mut Cursor<'_, 'a>,
-) -> Result<(Name<'a>, UnitKind<'a>), Refused>
-    ensures { Takes cursor.old cursor.new result }
-{
-    let name = cursor.take_name()?;
-    let exports = exports(alloc, cursor)?;
-    if cursor.skip_sign(Sign::Equal) {
-        let (generic, actuals) = instance(alloc, cursor)?;
-        return Ok((
-            name,
-            UnitKind::ModuleInstance {
-                exports,
-                generic,
-                actuals,
-            },
-        ));
-    }
-    cursor.take_sign(Sign::Semicolon)?;
-    let imports = imports(alloc, cursor)?;
-    let block = block(alloc, cursor, Room::whole())?;
-    Ok((
-        name,
-        UnitKind::Module {
-            exports,
-            imports,
-            block,
-        },
-    ))
-}
-
-/// The interfaces behind EXPORTS, if they are given here.
-fn exports<'a>(alloc: Global, cursor: &mut Cursor<'_, 'a>) -> Result<Option<Vec<Name<'a>>>, Refused>
-    ensures { MayTake cursor.old cursor.new result }
-{
-    if cursor.skip_word(Word::Exports) {
-        let names = name_list(alloc, cursor)?;
-        Ok(Some(names))
+    let exports = if reader.skip_word(Word::Exports) {
+        Some(name_list(reader))
     } else {
-        Ok(None)
+        None
+    };
+    if reader.skip_sign(Sign::Equal) {
+        let (generic, actuals) = instance(reader);
+        return Ok(UnitKind::ModuleInstance {
+            exports,
+            generic,
+            actuals,
+        });
     }
+    reader.take_sign(Sign::Semicolon);
+    let imports = imports(reader);
+    let block = block(reader, MAX_OPEN);
+    Ok(UnitKind::Module {
+        exports,
+        imports,
+        block: kept(reader.arena(), block)?,
+    })
 }
 
-/// The generic interface behind its INTERFACE, up to its closing name.
-fn generic_interface<'a>(
-    alloc: Global,
-    cursor: &mut Cursor<'_, 'a>,
-) -> Result<(Name<'a>, UnitKind<'a>), Refused>
-    ensures { Takes cursor.old cursor.new result }
+/// What stands in a generic unit behind its name, up to its closing name.
+fn generic<'a>(reader: &mut Reader<'_, 'a>, is_interface: bool) -> Result<UnitKind<'a>, NoMemory>
+    ensures { Follows reader.old reader.new }
 {
-    let name = cursor.take_name()?;
-    let formals = parenthesized_names(alloc, cursor)?;
-    cursor.take_sign(Sign::Semicolon)?;
-    let imports = imports(alloc, cursor)?;
-    let declarations = declarations(alloc, cursor)?;
-    Ok((
-        name,
-        UnitKind::GenericInterface {
+    let formals = parenthesized_names(reader);
+    reader.take_sign(Sign::Semicolon);
+    let imports = imports(reader);
+    if !is_interface {
+        let block = block(reader, MAX_OPEN);
+        return Ok(UnitKind::GenericModule {
             formals,
             imports,
-            declarations,
-        },
-    ))
+            block: kept(reader.arena(), block)?,
+        });
+    }
+    let declarations = declarations(reader, MAX_OPEN);
+    reader.take_word(Word::End);
+    Ok(UnitKind::GenericInterface {
+        formals,
+        imports,
+        declarations: kept(reader.arena(), declarations)?,
+    })
 }
 
-/// The generic module behind its MODULE, up to its closing name.
-fn generic_module<'a>(
-    alloc: Global,
-    cursor: &mut Cursor<'_, 'a>,
-) -> Result<(Name<'a>, UnitKind<'a>), Refused>
-    ensures { Takes cursor.old cursor.new result }
-{
-    let name = cursor.take_name()?;
-    let formals = parenthesized_names(alloc, cursor)?;
-    cursor.take_sign(Sign::Semicolon)?;
-    let imports = imports(alloc, cursor)?;
-    let block = block(alloc, cursor, Room::whole())?;
-    Ok((
-        name,
-        UnitKind::GenericModule {
-            formals,
-            imports,
-            block,
-        },
-    ))
+/// Keeps what a unit consists of in the arena.
+fn kept<'a, T: Copy>(arena: &'a Bump, parts: T) -> Result<Kept<'a, T>, NoMemory> {
+    let kept = arena.try_alloc(Box::new(arena, parts)?)?;
+    Ok(&*kept)
 }
 
 /// The generic's name and the actuals of an instance, with the END behind them.
-fn instance<'a>(
-    alloc: Global,
-    cursor: &mut Cursor<'_, 'a>,
-) -> Result<(Name<'a>, Vec<Name<'a>>), Refused>
-    ensures { Takes cursor.old cursor.new result }
+fn instance<'a>(reader: &mut Reader<'_, 'a>) -> (Name<'a>, &'a [Name<'a>])
+    ensures { Follows reader.old reader.new }
 {
-    let generic = cursor.take_name()?;
-    let actuals = parenthesized_names(alloc, cursor)?;
-    cursor.take_word(Word::End)?;
-    Ok((generic, actuals))
+    let generic = reader.take_name();
+    let actuals = parenthesized_names(reader);
+    reader.take_word(Word::End);
+    (generic, actuals)
 }
 
 /// Names in parentheses, maybe none.
-fn parenthesized_names<'a>(
-    alloc: Global,
-    cursor: &mut Cursor<'_, 'a>,
-) -> Result<Vec<Name<'a>>, Refused>
-    ensures { Takes cursor.old cursor.new result }
+fn parenthesized_names<'a>(reader: &mut Reader<'_, 'a>) -> &'a [Name<'a>]
+    ensures { Follows reader.old reader.new }
 {
-    cursor.take_sign(Sign::OpenParen)?;
-    if cursor.skip_sign(Sign::CloseParen) {
-        return Ok(Vec::new(alloc));
-    }
-    let names = name_list(alloc, cursor)?;
-    cursor.take_sign(Sign::CloseParen)?;
-    Ok(names)
+    reader.take_sign(Sign::OpenParen);
+    let names = if reader.is_sign(Sign::CloseParen) {
+        reader.no_items()
+    } else {
+        name_list(reader)
+    };
+    reader.take_sign(Sign::CloseParen);
+    names
 }
 
 /// The imports of a unit.
-fn imports<'a>(alloc: Global, cursor: &mut Cursor<'_, 'a>) -> Result<Vec<Import<'a>>, Refused>
-    ensures { MayTake cursor.old cursor.new result }
+fn imports<'a>(reader: &mut Reader<'_, 'a>) -> &'a [Import<'a>]
+    ensures { Follows reader.old reader.new }
 {
-    let mut imports = Vec::new(alloc);
-    while cursor.is_word(Word::Import) || cursor.is_word(Word::From) {
-        imports.push(import(alloc, cursor)?)?;
+    let mut imports = Vec::new(reader.alloc());
+    'imports: while let Some(import) = import(reader) {
+        reader.put(&mut imports, import);
     }
-    Ok(imports)
+    reader.row(imports)
 }
 
-/// The imports that begin here with IMPORT or FROM.
-fn import<'a>(alloc: Global, cursor: &mut Cursor<'_, 'a>) -> Result<Import<'a>, Refused>
-    ensures { Takes cursor.old cursor.new result }
+/// The imports that begin here with IMPORT or FROM, if any do.
+fn import<'a>(reader: &mut Reader<'_, 'a>) -> Option<Import<'a>>
+    ensures follows { Follows reader.old reader.new }
+    ensures past { OnSome result (length reader.new.rest.now < length reader.old.rest.now) }
 {
-    let pos = cursor.pos();
-    if cursor.skip_word(Word::From) {
-        let interface = cursor.take_name()?;
-        cursor.take_word(Word::Import)?;
-        let names = name_list(alloc, cursor)?;
-        cursor.take_sign(Sign::Semicolon)?;
-        Ok(Import::Names {
+    let pos = reader.pos();
+    if reader.skip_word(Word::From) {
+        let interface = reader.take_name();
+        reader.take_word(Word::Import);
+        let names = name_list(reader);
+        reader.take_sign(Sign::Semicolon);
+        Some(Import::Names {
             pos,
             interface,
             names,
         })
+    } else if reader.skip_word(Word::Import) {
+        let items = import_items(reader);
+        reader.take_sign(Sign::Semicolon);
+        Some(Import::Interfaces { pos, items })
     } else {
-        cursor.take_word(Word::Import)?;
-        let items = import_items(alloc, cursor)?;
-        cursor.take_sign(Sign::Semicolon)?;
-        Ok(Import::Interfaces { pos, items })
+        None
     }
 }
 
 /// The interfaces behind IMPORT.
-fn import_items<'a>(
-    alloc: Global,
-    cursor: &mut Cursor<'_, 'a>,
-) -> Result<Vec<ImportItem<'a>>, Refused>
-    ensures { Takes cursor.old cursor.new result }
+fn import_items<'a>(reader: &mut Reader<'_, 'a>) -> &'a [ImportItem<'a>]
+    ensures { Follows reader.old reader.new }
 {
-    let mut items = Vec::new(alloc);
-    loop {
-        items.push(import_item(cursor)?)?;
-        if !cursor.skip_sign(Sign::Comma) {
-            return Ok(items);
+    let mut items = Vec::new(reader.alloc());
+    'items: loop {
+        let interface = reader.take_name();
+        let alias = if reader.skip_word(Word::As) {
+            Some(reader.take_name())
+        } else {
+            None
+        };
+        reader.put(&mut items, ImportItem { interface, alias });
+        if !reader.skip_sign(Sign::Comma) {
+            break;
         }
     }
-}
-
-fn import_item<'a>(cursor: &mut Cursor<'_, 'a>) -> Result<ImportItem<'a>, Refused>
-    ensures { Takes cursor.old cursor.new result }
-{
-    let interface = cursor.take_name()?;
-    if cursor.skip_word(Word::As) {
-        let alias = cursor.take_name()?;
-        Ok(ImportItem {
-            interface,
-            alias: Some(alias),
-        })
-    } else {
-        Ok(ImportItem {
-            interface,
-            alias: None,
-        })
-    }
-}
-
-/// The declarations of an interface, with the END behind them.
-fn declarations<'a>(alloc: Global, cursor: &mut Cursor<'_, 'a>) -> Result<Vec<Decl<'a>>, Refused>
-    ensures { Takes cursor.old cursor.new result }
-{
-    let mut declarations = Vec::new(alloc);
-    while !cursor.skip_word(Word::End) {
-        match declaration(alloc, cursor, Room::whole())? {
-            Declared::Whole(declaration) => declarations.push(declaration)?,
-            Declared::Head(head) => {
-                let body = block(alloc, cursor, Room::whole())?;
-                declarations.push(procedure(cursor, head, body)?)?;
-            }
-        }
-    }
-    Ok(declarations)
+    reader.row(items)
 }

@@ -1,5 +1,6 @@
 use crate::sheets::FILE;
 use crate::units::text_of_tree;
+use bumpalo::Bump;
 use m3_base::{Refusal, Refused};
 use m3_lexer::lex;
 use m3_parser::parse;
@@ -16,7 +17,8 @@ pub fn answer_to(alloc: Global, text: &[u8], has_places: bool) -> io::Result<Vec
         Ok(lexed) => lexed,
         Err(refused) => return text_of_refused(alloc, refused, 1),
     };
-    match parse(alloc, &lexed) {
+    let arena = Bump::new(alloc);
+    match parse(alloc, &arena, &lexed) {
         Ok(unit) => text_of_unit(alloc, &unit, lexed.tokens.len(), has_places),
         Err(refused) => text_of_refused(alloc, refused, 2),
     }

@@ -5,7 +5,7 @@ use crate::types::{show_init, show_signature, show_type};
 use m3_syntax::{ConstDecl, Decl, ExceptionDecl, Revelation, TypeDecl, TypeExp, VarDecl};
 
 #[cycle(statements)]
-pub fn show_declarations(declarations: &Vec<Decl>, sheet: &mut Sheet) {
+pub fn show_declarations(declarations: &[Decl], sheet: &mut Sheet) {
     for declaration in declarations {
         show_declaration(declaration, sheet);
     }
@@ -110,7 +110,7 @@ fn show_exceptions(exceptions: &[ExceptionDecl], sheet: &mut Sheet) {
 fn show_variables(variables: &[VarDecl], sheet: &mut Sheet) {
     for variable in variables {
         sheet.begin(b"");
-        sheet.names(&variable.names);
+        sheet.names(variable.names);
         show_init(&variable.init, sheet);
         sheet.close();
     }

@@ -67,6 +67,7 @@ pub fn show_expr(expr: &Expr, sheet: &mut Sheet) {
         Expr::Number { pos, value } => sheet.number(b"", *value, *pos),
         Expr::CharLit { pos, value } => sheet.number(b"#", i64::from(*value), *pos),
         Expr::TextLit { pos, text } => sheet.sign(text, *pos),
+        Expr::Missing { pos } => sheet.sign(b"missing", *pos),
     }
 }
 
@@ -87,7 +88,7 @@ fn show_signs(signs: &[PrefixSign], sheet: &mut Sheet) {
 }
 
 #[cycle(phrases)]
-fn show_operations(operations: &Vec<Operation>, sheet: &mut Sheet) {
+fn show_operations(operations: &[Operation], sheet: &mut Sheet) {
     for operation in operations {
         sheet.sign(text_of_operator(operation.operator), operation.pos);
         show_expr(&operation.right, sheet);
@@ -116,14 +117,14 @@ fn text_of_operator(operator: Operator) -> &'static [u8] {
 }
 
 #[cycle(phrases)]
-fn show_selectors(selectors: &Vec<Selector>, sheet: &mut Sheet) {
+fn show_selectors(selectors: &[Selector], sheet: &mut Sheet) {
     for selector in selectors {
         match selector {
             Selector::Dereference(pos) => sheet.sign(b"^", *pos),
             Selector::Member(name) => sheet.member(name),
             Selector::Index(pos, indexes) => {
                 sheet.open(b"[]", *pos);
-                for index in indexes {
+                for index in *indexes {
                     show_expr(index, sheet);
                 }
                 sheet.close();
@@ -138,7 +139,7 @@ fn show_selectors(selectors: &Vec<Selector>, sheet: &mut Sheet) {
 }
 
 #[cycle(phrases)]
-pub fn show_actuals(actuals: &Vec<Actual>, sheet: &mut Sheet) {
+pub fn show_actuals(actuals: &[Actual], sheet: &mut Sheet) {
     for actual in actuals {
         match actual {
             Actual::Value(expr) => show_expr(expr, sheet),
@@ -158,7 +159,7 @@ pub fn show_actuals(actuals: &Vec<Actual>, sheet: &mut Sheet) {
 }
 
 #[cycle(phrases)]
-fn show_elements(elements: &Vec<Element>, sheet: &mut Sheet) {
+fn show_elements(elements: &[Element], sheet: &mut Sheet) {
     for element in elements {
         match element {
             Element::Value(expr) => show_expr(expr, sheet),

@@ -8,15 +8,15 @@ use m3_syntax::{Arm, Binding, Block, CaseBranch, Expr, Handler, Label, Stmt, Typ
 #[cycle(statements)]
 pub fn show_block(block: &Block, sheet: &mut Sheet) {
     sheet.open(b"block", block.pos);
-    show_declarations(&block.declarations, sheet);
+    show_declarations(block.declarations, sheet);
     sheet.word(b"BEGIN");
-    show_statements(&block.body, sheet);
+    show_statements(block.body, sheet);
     sheet.mark(b"END", block.end);
     sheet.close();
 }
 
 #[cycle(statements)]
-fn show_statements(statements: &Vec<Stmt>, sheet: &mut Sheet) {
+fn show_statements(statements: &[Stmt], sheet: &mut Sheet) {
     for statement in statements {
         show_statement(statement, sheet);
     }
@@ -160,7 +160,7 @@ fn show_word_and_value(word: &[u8], pos: Pos, value: &Expr, sheet: &mut Sheet) {
     show_expr(value, sheet);
 }
 
-fn show_value_behind(word: &[u8], value: &Option<Expr>, sheet: &mut Sheet) {
+fn show_value_behind(word: &[u8], value: &Option<&Expr>, sheet: &mut Sheet) {
     if let Some(value) = value {
         sheet.word(word);
         show_expr(value, sheet);
@@ -212,29 +212,29 @@ fn show_bindings(bindings: &[Binding], sheet: &mut Sheet) {
 }
 
 #[cycle(statements)]
-fn show_otherwise(statements: &Vec<Stmt>, sheet: &mut Sheet) {
+fn show_otherwise(statements: &[Stmt], sheet: &mut Sheet) {
     sheet.word(b"ELSE");
     show_statements(statements, sheet);
 }
 
 #[cycle(statements)]
-fn show_arms(arms: &Vec<Arm>, sheet: &mut Sheet) {
+fn show_arms(arms: &[Arm], sheet: &mut Sheet) {
     for arm in arms {
         sheet.open(b"", arm.pos);
         show_expr(&arm.condition, sheet);
         sheet.word(b"THEN");
-        show_statements(&arm.body, sheet);
+        show_statements(arm.body, sheet);
         sheet.close();
     }
 }
 
 #[cycle(statements)]
-fn show_branches(branches: &Vec<CaseBranch>, sheet: &mut Sheet) {
+fn show_branches(branches: &[CaseBranch], sheet: &mut Sheet) {
     for branch in branches {
         sheet.begin(b"|");
-        show_labels(&branch.labels, sheet);
+        show_labels(branch.labels, sheet);
         sheet.word(b"=>");
-        show_statements(&branch.body, sheet);
+        show_statements(branch.body, sheet);
         sheet.close();
     }
 }
@@ -254,27 +254,27 @@ fn show_labels(labels: &[Label], sheet: &mut Sheet) {
 }
 
 #[cycle(statements)]
-fn show_handlers(handlers: &Vec<Handler>, sheet: &mut Sheet) {
+fn show_handlers(handlers: &[Handler], sheet: &mut Sheet) {
     for handler in handlers {
         sheet.begin(b"|");
-        sheet.qualids(&handler.exceptions);
+        sheet.qualids(handler.exceptions);
         sheet.argument(&handler.argument);
         sheet.word(b"=>");
-        show_statements(&handler.body, sheet);
+        show_statements(handler.body, sheet);
         sheet.close();
     }
 }
 
 #[cycle(statements)]
-fn show_type_branches(branches: &Vec<TypeBranch>, sheet: &mut Sheet) {
+fn show_type_branches(branches: &[TypeBranch], sheet: &mut Sheet) {
     for branch in branches {
         sheet.begin(b"|");
-        for kind in &branch.kinds {
+        for kind in branch.kinds {
             show_type(kind, sheet);
         }
         sheet.argument(&branch.name);
         sheet.word(b"=>");
-        show_statements(&branch.body, sheet);
+        show_statements(branch.body, sheet);
         sheet.close();
     }
 }

@@ -19,7 +19,7 @@ pub fn show_type(kind: &TypeExp, sheet: &mut Sheet) {
             element,
         } => {
             sheet.open(b"ARRAY", *pos);
-            for index in indexes {
+            for index in *indexes {
                 show_type(index, sheet);
             }
             sheet.word(b"OF");
@@ -82,6 +82,7 @@ pub fn show_type(kind: &TypeExp, sheet: &mut Sheet) {
             show_type(base, sheet);
             sheet.close();
         }
+        TypeExp::Missing { pos } => sheet.sign(b"missing", *pos),
         TypeExp::Subrange { pos, first, last } => {
             sheet.open(b"..", *pos);
             show_expr(first, sheet);
@@ -109,15 +110,15 @@ fn show_brand(brand: &Brand, sheet: &mut Sheet) {
 }
 
 #[cycle(phrases)]
-fn show_object_parts(parts: &Vec<ObjectPart>, sheet: &mut Sheet) {
+fn show_object_parts(parts: &[ObjectPart], sheet: &mut Sheet) {
     for part in parts {
         sheet.open(b"part", part.pos);
         if let Some(brand) = &part.brand {
             show_brand(brand, sheet);
         }
-        show_fields(&part.fields, sheet);
-        show_methods(&part.methods, sheet);
-        for one in &part.overrides {
+        show_fields(part.fields, sheet);
+        show_methods(part.methods, sheet);
+        for one in part.overrides {
             sheet.begin(b"OVERRIDE");
             sheet.name(&one.name);
             show_expr(&one.value, sheet);
@@ -128,17 +129,17 @@ fn show_object_parts(parts: &Vec<ObjectPart>, sheet: &mut Sheet) {
 }
 
 #[cycle(phrases)]
-fn show_fields(fields: &Vec<Field>, sheet: &mut Sheet) {
+fn show_fields(fields: &[Field], sheet: &mut Sheet) {
     for field in fields {
         sheet.begin(b"");
-        sheet.names(&field.names);
+        sheet.names(field.names);
         show_init(&field.init, sheet);
         sheet.close();
     }
 }
 
 #[cycle(phrases)]
-fn show_methods(methods: &Vec<Method>, sheet: &mut Sheet) {
+fn show_methods(methods: &[Method], sheet: &mut Sheet) {
     for method in methods {
         sheet.begin(b"METHOD");
         sheet.name(&method.name);
@@ -175,9 +176,9 @@ pub fn show_init(init: &Init, sheet: &mut Sheet) {
 #[cycle(phrases)]
 pub fn show_signature(signature: &Signature, sheet: &mut Sheet) {
     sheet.open(b"sig", signature.pos);
-    for formal in &signature.formals {
+    for formal in signature.formals {
         sheet.open(text_of_mode(formal.mode), formal.pos);
-        sheet.names(&formal.names);
+        sheet.names(formal.names);
         show_init(&formal.init, sheet);
         sheet.close();
     }

@@ -88,7 +88,7 @@ fn show_names(word: &[u8], names: &[Name], sheet: &mut Sheet) {
     sheet.close();
 }
 
-fn show_exports(exports: &Option<Vec<Name>>, sheet: &mut Sheet) {
+fn show_exports(exports: &Option<&[Name]>, sheet: &mut Sheet) {
     if let Some(names) = exports {
         show_names(b"EXPORTS", names, sheet);
     }

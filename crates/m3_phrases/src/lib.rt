@@ -2,11 +2,12 @@
 #![tactic(auto)]
 
 mod expressions;
-mod grammar;
-mod levels;
 mod members;
+mod operands;
 mod settings;
 mod trees;
 mod types;
 
-pub use grammar::{expression, init, signature, statement_head, type_expression};
+pub use expressions::{expression, statement_head};
+pub use members::{assigned, initial, signature};
+pub use types::type_expression;

@@ -1,246 +1,162 @@
-ghost use Rattle.std.specs.Prelude.{◌≤◌};
-ghost use Rattle.m3_cursor.specs.Cursors.{Takes, MayTake, Follows};
-ghost use Rattle.m3_phrases.specs.Nests.{Nests};
+ghost use Rattle.m3_cursor.specs.Readers.{Follows};
 
-use crate::grammar::{Found, Grammar};
-use crate::settings::Want;
-use m3_base::{Pos, Refused};
-use m3_cursor::{Cursor, Room, name_list, raises};
-use m3_syntax::{
-    Expr, Field, Formal, Init, Method, Mode, Override, Raises, Sign, Signature, TypeExp, Word,
-};
-use std::alloc::Global;
+use crate::expressions::expression;
+use crate::types::type_expression;
+use m3_cursor::{Reader, name_list, raises};
+use m3_syntax::{Expr, Field, Formal, Init, Method, Mode, Override, Sign, Signature, Word};
 
-impl<'a, F: Fn(Global, &mut Cursor<'_, 'a>, Room, Want) -> Result<Found<'a>, Refused>> Grammar<F> {
-    /// Fields, with semicolons between them and maybe behind the last.
-    pub fn fields(&self, cursor: &mut Cursor<'_, 'a>, room: Room) -> Result<Vec<Field<'a>>, Refused>
-        requires nests { Nests self.now.most.left (F.pre self.now.nested) (F.post self.now.nested) }
-        requires room { room.left ≤ self.now.most.left }
-        ensures { MayTake cursor.old cursor.new result }
-    {
-        let mut fields = Vec::new(self.alloc);
-        while cursor.is_name() {
-            let names = name_list(self.alloc, cursor)?;
-            let init = self.init(cursor, room)?;
-            fields.push(Field { names, init })?;
-            if !cursor.skip_sign(Sign::Semicolon) {
-                return Ok(fields);
-            }
+/// Fields, with semicolons between them and maybe behind the last.
+#[cycle(expressions)]
+pub fn fields<'a>(reader: &mut Reader<'_, 'a>, room: u32) -> &'a [Field<'a>]
+    ensures { Follows reader.old reader.new }
+{
+    let mut fields = Vec::new(reader.alloc());
+    'fields: while reader.is_name() {
+        let names = name_list(reader);
+        let init = initial(reader, room);
+        reader.put(&mut fields, Field { names, init });
+        if !reader.skip_sign(Sign::Semicolon) {
+            break;
         }
-        Ok(fields)
     }
+    reader.row(fields)
+}
 
-    /// The methods behind METHODS, if that is here, with semicolons between them and maybe behind the last.
-    pub fn methods(
-        &self,
-        cursor: &mut Cursor<'_, 'a>,
-        room: Room,
-    ) -> Result<Vec<Method<'a>>, Refused>
-        requires nests { Nests self.now.most.left (F.pre self.now.nested) (F.post self.now.nested) }
-        requires room { room.left ≤ self.now.most.left }
-        ensures { MayTake cursor.old cursor.new result }
-    {
-        let mut methods = Vec::new(self.alloc);
-        if !cursor.skip_word(Word::Methods) {
-            return Ok(methods);
-        }
-        while cursor.is_name() {
-            methods.push(self.method(cursor, room)?)?;
-            if !cursor.skip_sign(Sign::Semicolon) {
-                return Ok(methods);
-            }
-        }
-        Ok(methods)
+/// The methods behind METHODS, if that is here, with semicolons between them and maybe behind the last.
+#[cycle(expressions)]
+pub fn methods<'a>(reader: &mut Reader<'_, 'a>, room: u32) -> &'a [Method<'a>]
+    ensures { Follows reader.old reader.new }
+{
+    if !reader.skip_word(Word::Methods) {
+        return reader.no_items();
     }
-
-    /// One method, with its default where one is given.
-    fn method(&self, cursor: &mut Cursor<'_, 'a>, room: Room) -> Result<Method<'a>, Refused>
-        requires nests { Nests self.now.most.left (F.pre self.now.nested) (F.post self.now.nested) }
-        requires room { room.left ≤ self.now.most.left }
-        ensures { Takes cursor.old cursor.new result }
-    {
-        let name = cursor.take_name()?;
-        let signature = self.signature(cursor, room)?;
-        let default = self.assigned(cursor, room)?;
-        Ok(Method {
+    let mut methods = Vec::new(reader.alloc());
+    'methods: while reader.is_name() {
+        let name = reader.take_name();
+        let signature = signature(reader, room);
+        let default = assigned(reader, room);
+        let method = Method {
             name,
             signature,
             default,
-        })
-    }
-
-    /// The value behind `:=`, if it is here.
-    fn assigned(&self, cursor: &mut Cursor<'_, 'a>, room: Room) -> Result<Option<Expr<'a>>, Refused>
-        requires nests { Nests self.now.most.left (F.pre self.now.nested) (F.post self.now.nested) }
-        requires room { room.left ≤ self.now.most.left }
-        ensures { MayTake cursor.old cursor.new result }
-    {
-        if !cursor.skip_sign(Sign::Assign) {
-            return Ok(None);
-        }
-        let value = self.expression(cursor, room)?;
-        Ok(Some(value))
-    }
-
-    /// The overrides behind OVERRIDES, if that is here, with semicolons between them and maybe behind the
-    /// last.
-    pub fn overrides(
-        &self,
-        cursor: &mut Cursor<'_, 'a>,
-        room: Room,
-    ) -> Result<Vec<Override<'a>>, Refused>
-        requires nests { Nests self.now.most.left (F.pre self.now.nested) (F.post self.now.nested) }
-        requires room { room.left ≤ self.now.most.left }
-        ensures { MayTake cursor.old cursor.new result }
-    {
-        let mut overrides = Vec::new(self.alloc);
-        if !cursor.skip_word(Word::Overrides) {
-            return Ok(overrides);
-        }
-        while cursor.is_name() {
-            overrides.push(self.one_override(cursor, room)?)?;
-            if !cursor.skip_sign(Sign::Semicolon) {
-                return Ok(overrides);
-            }
-        }
-        Ok(overrides)
-    }
-
-    /// `name := value`.
-    fn one_override(&self, cursor: &mut Cursor<'_, 'a>, room: Room) -> Result<Override<'a>, Refused>
-        requires nests { Nests self.now.most.left (F.pre self.now.nested) (F.post self.now.nested) }
-        requires room { room.left ≤ self.now.most.left }
-        ensures { Takes cursor.old cursor.new result }
-    {
-        let name = cursor.take_name()?;
-        cursor.take_sign(Sign::Assign)?;
-        let value = self.expression(cursor, room)?;
-        Ok(Override { name, value })
-    }
-
-    /// `: T`, `: T := e` or `:= e`.
-    pub fn init(&self, cursor: &mut Cursor<'_, 'a>, room: Room) -> Result<Init<'a>, Refused>
-        requires nests { Nests self.now.most.left (F.pre self.now.nested) (F.post self.now.nested) }
-        requires room { room.left ≤ self.now.most.left }
-        ensures { Takes cursor.old cursor.new result }
-    {
-        if cursor.skip_sign(Sign::Colon) {
-            let kind = self.type_expression(cursor, room)?;
-            let value = self.assigned(cursor, room)?;
-            Ok(Init::Typed(kind, value))
-        } else {
-            cursor.take_sign(Sign::Assign)?;
-            Ok(Init::Untyped(self.expression(cursor, room)?))
+        };
+        reader.put(&mut methods, method);
+        if !reader.skip_sign(Sign::Semicolon) {
+            break;
         }
     }
-
-    /// The formals, the result and the exceptions of a procedure (the report, section 2.2.8).
-    pub fn signature(
-        &self,
-        cursor: &mut Cursor<'_, 'a>,
-        room: Room,
-    ) -> Result<Signature<'a>, Refused>
-        requires nests { Nests self.now.most.left (F.pre self.now.nested) (F.post self.now.nested) }
-        requires room { room.left ≤ self.now.most.left }
-        ensures { Takes cursor.old cursor.new result }
-    {
-        let (pos, formals) = self.formal_part(cursor, room)?;
-        let result = self.result_part(cursor, room)?;
-        let raises = raises_part(self.alloc, cursor)?;
-        Ok(Signature {
-            pos,
-            formals,
-            result,
-            raises,
-        })
-    }
-
-    /// The formals in their parentheses, with the place of the first.
-    fn formal_part(
-        &self,
-        cursor: &mut Cursor<'_, 'a>,
-        room: Room,
-    ) -> Result<(Pos, Vec<Formal<'a>>), Refused>
-        requires nests { Nests self.now.most.left (F.pre self.now.nested) (F.post self.now.nested) }
-        requires room { room.left ≤ self.now.most.left }
-        ensures { Takes cursor.old cursor.new result }
-    {
-        let pos = cursor.take_sign(Sign::OpenParen)?;
-        let formals = self.formals(cursor, room)?;
-        cursor.take_sign(Sign::CloseParen)?;
-        Ok((pos, formals))
-    }
-
-    /// The type of the result, if one is given here.
-    fn result_part(
-        &self,
-        cursor: &mut Cursor<'_, 'a>,
-        room: Room,
-    ) -> Result<Option<Box<TypeExp<'a>>>, Refused>
-        requires nests { Nests self.now.most.left (F.pre self.now.nested) (F.post self.now.nested) }
-        requires room { room.left ≤ self.now.most.left }
-        ensures { MayTake cursor.old cursor.new result }
-    {
-        if !cursor.skip_sign(Sign::Colon) {
-            return Ok(None);
-        }
-        let kind = self.type_expression(cursor, room)?;
-        Ok(Some(Box::new(self.alloc, kind)?))
-    }
-
-    /// Formals, with semicolons between them and maybe behind the last.
-    pub fn formals(
-        &self,
-        cursor: &mut Cursor<'_, 'a>,
-        room: Room,
-    ) -> Result<Vec<Formal<'a>>, Refused>
-        requires nests { Nests self.now.most.left (F.pre self.now.nested) (F.post self.now.nested) }
-        requires room { room.left ≤ self.now.most.left }
-        ensures { MayTake cursor.old cursor.new result }
-    {
-        let mut formals = Vec::new(self.alloc);
-        while let Some((pos, mode)) = formal_mode(cursor) {
-            let names = name_list(self.alloc, cursor)?;
-            let init = self.init(cursor, room)?;
-            formals.push(Formal {
-                pos,
-                mode,
-                names,
-                init,
-            })?;
-            if !cursor.skip_sign(Sign::Semicolon) {
-                return Ok(formals);
-            }
-        }
-        Ok(formals)
-    }
+    reader.row(methods)
 }
 
-/// The place and the mode of the formals that begin here, past the word of the mode. None where none do.
-fn formal_mode(cursor: &mut Cursor<'_, '_>) -> Option<(Pos, Mode)>
-    ensures { Follows cursor.old cursor.new }
+/// The overrides behind OVERRIDES, if that is here, with semicolons between them and maybe behind the
+/// last.
+#[cycle(expressions)]
+pub fn overrides<'a>(reader: &mut Reader<'_, 'a>, room: u32) -> &'a [Override<'a>]
+    ensures { Follows reader.old reader.new }
 {
-    let pos = cursor.pos();
-    if cursor.skip_word(Word::Value) {
-        Some((pos, Mode::Value))
-    } else if cursor.skip_word(Word::Var) {
-        Some((pos, Mode::Var))
-    } else if cursor.skip_word(Word::Readonly) {
-        Some((pos, Mode::Readonly))
-    } else if cursor.is_name() {
-        Some((pos, Mode::Value))
+    if !reader.skip_word(Word::Overrides) {
+        return reader.no_items();
+    }
+    let mut overrides = Vec::new(reader.alloc());
+    'overrides: while reader.is_name() {
+        let name = reader.take_name();
+        reader.take_sign(Sign::Assign);
+        let value = expression(reader, room);
+        reader.put(&mut overrides, Override { name, value });
+        if !reader.skip_sign(Sign::Semicolon) {
+            break;
+        }
+    }
+    reader.row(overrides)
+}
+
+/// The value behind `:=`, if it is here.
+#[cycle(expressions)]
+pub fn assigned<'a>(reader: &mut Reader<'_, 'a>, room: u32) -> Option<&'a Expr<'a>>
+    ensures { Follows reader.old reader.new }
+{
+    if reader.skip_sign(Sign::Assign) {
+        Some(expression(reader, room))
     } else {
         None
     }
 }
 
-/// The exceptions of a procedure, or none of them where no RAISES is here.
-fn raises_part<'a>(alloc: Global, cursor: &mut Cursor<'_, 'a>) -> Result<Raises<'a>, Refused>
-    ensures { MayTake cursor.old cursor.new result }
+/// `: T`, `: T := e` or `:= e`.
+#[cycle(expressions)]
+pub fn initial<'a>(reader: &mut Reader<'_, 'a>, room: u32) -> Init<'a>
+    ensures { Follows reader.old reader.new }
 {
-    if cursor.skip_word(Word::Raises) {
-        raises(alloc, cursor)
+    if reader.skip_sign(Sign::Colon) {
+        let kind = type_expression(reader, room);
+        return Init::Typed(kind, assigned(reader, room));
+    }
+    reader.take_sign(Sign::Assign);
+    Init::Untyped(expression(reader, room))
+}
+
+/// The formals, the result and the exceptions of a procedure (the report, section 2.2.8).
+#[cycle(expressions)]
+pub fn signature<'a>(reader: &mut Reader<'_, 'a>, room: u32) -> Signature<'a>
+    ensures { Follows reader.old reader.new }
+{
+    let pos = reader.take_sign(Sign::OpenParen);
+    let formals = formals(reader, room);
+    reader.take_sign(Sign::CloseParen);
+    let result = if reader.skip_sign(Sign::Colon) {
+        Some(type_expression(reader, room))
     } else {
-        Ok(Raises::Only(Vec::new(alloc)))
+        None
+    };
+    let raises = raises(reader);
+    Signature {
+        pos,
+        formals,
+        result,
+        raises,
+    }
+}
+
+/// Formals, with semicolons between them and maybe behind the last.
+#[cycle(expressions)]
+fn formals<'a>(reader: &mut Reader<'_, 'a>, room: u32) -> &'a [Formal<'a>]
+    ensures { Follows reader.old reader.new }
+{
+    let mut formals = Vec::new(reader.alloc());
+    'formals: loop {
+        let pos = reader.pos();
+        let Some(mode) = mode(reader) else {
+            break;
+        };
+        let names = name_list(reader);
+        let init = initial(reader, room);
+        let formal = Formal {
+            pos,
+            mode,
+            names,
+            init,
+        };
+        reader.put(&mut formals, formal);
+        if !reader.skip_sign(Sign::Semicolon) {
+            break;
+        }
+    }
+    reader.row(formals)
+}
+
+/// The mode of the formals that begin here, past its word. None where none do.
+fn mode(reader: &mut Reader<'_, '_>) -> Option<Mode>
+    ensures { Follows reader.old reader.new }
+{
+    if reader.skip_word(Word::Value) {
+        Some(Mode::Value)
+    } else if reader.skip_word(Word::Var) {
+        Some(Mode::Var)
+    } else if reader.skip_word(Word::Readonly) {
+        Some(Mode::Readonly)
+    } else if reader.is_name() {
+        Some(Mode::Value)
+    } else {
+        None
     }
 }

@@ -1,6 +1,7 @@
-use m3_base::NoMemory;
+ghost use Rattle.m3_cursor.specs.Readers.{Follows};
+
+use m3_cursor::Reader;
 use m3_syntax::{Expr, Name, Qualid, Selector, TypeExp, TypeName};
-use std::alloc::Global;
 
 /// The qualified name that an expression is, if it is one.
 pub fn qualid_of<'a>(expr: &Expr<'a>) -> Option<Qualid<'a>> {
@@ -10,44 +11,26 @@ pub fn qualid_of<'a>(expr: &Expr<'a>) -> Option<Qualid<'a>> {
             second: None,
         }),
         Expr::Selected {
-            operand,
-            selectors,
+            operand: Expr::Name(first),
+            selectors: [Selector::Member(second)],
             ..
-        } => match &**operand {
-            Expr::Name(first) => member_of(*first, selectors.as_slice()),
-            _ => None,
-        },
-        _ => None,
-    }
-}
-
-/// A name with one selector, where that is a name too.
-fn member_of<'a>(first: Name<'a>, selectors: &[Selector<'a>]) -> Option<Qualid<'a>> {
-    match selectors {
-        [selector] => match selector {
-            Selector::Member(second) => Some(Qualid {
-                first,
-                second: Some(*second),
-            }),
-            _ => None,
-        },
+        } => Some(Qualid {
+            first: *first,
+            second: Some(*second),
+        }),
         _ => None,
     }
 }
 
 /// The type that an expression may be as well: a qualified name, in any number of parentheses.
-pub fn type_of<'a>(alloc: Global, expr: Expr<'a>) -> Result<Option<TypeExp<'a>>, NoMemory> {
-    match expr {
-        Expr::Parenthesis { pos, inner } => match type_of(alloc, Box::into_inner(inner))? {
-            Some(inner) => {
-                let inner = Box::new(alloc, inner)?;
-                Ok(Some(TypeExp::Parenthesis { pos, inner }))
-            }
-            None => Ok(None),
-        },
-        other => match qualid_of(&other) {
-            Some(name) => Ok(Some(TypeExp::Named(TypeName::Named(name)))),
-            None => Ok(None),
-        },
+pub fn type_of<'a>(reader: &mut Reader<'_, 'a>, expr: &Expr<'a>) -> Option<TypeExp<'a>>
+    ensures { Follows reader.old reader.new }
+{
+    if let Expr::Parenthesis { pos, inner } = expr {
+        let inner = type_of(reader, inner)?;
+        let inner = reader.type_exp(inner);
+        return Some(TypeExp::Parenthesis { pos: *pos, inner });
     }
+    let name = qualid_of(expr)?;
+    Some(TypeExp::Named(TypeName::Named(name)))
 }

@@ -1,317 +1,299 @@
-ghost use Rattle.std.specs.Prelude.{◌≤◌};
-ghost use Rattle.m3_cursor.specs.Cursors.{Takes, MayTake};
-ghost use Rattle.m3_phrases.specs.Nests.{Nests};
+ghost use Rattle.m3_cursor.specs.Readers.{Follows};
 
-use crate::grammar::{Found, Grammar, value_of};
+use crate::expressions::{expression, phrase, value_of};
+use crate::members::{fields, methods, overrides, signature};
 use crate::settings::Want;
-use m3_base::{Pos, Refused};
-use m3_cursor::{Cursor, Room, name_list, qualid};
+use m3_base::Pos;
+use m3_cursor::{Reader, begins_type, name_list, qualid};
 use m3_syntax::{Brand, ObjectPart, Sign, TokenKind, TypeExp, TypeName, Word};
-use std::alloc::Global;
 
-impl<'a, F: Fn(Global, &mut Cursor<'_, 'a>, Room, Want) -> Result<Found<'a>, Refused>> Grammar<F> {
-    /// The type that begins here, given the room inside it.
-    pub fn opened_type(
-        &self,
-        cursor: &mut Cursor<'_, 'a>,
-        room: Room,
-    ) -> Result<TypeExp<'a>, Refused>
-        requires nests { Nests self.now.most.left (F.pre self.now.nested) (F.post self.now.nested) }
-        requires room { room.left ≤ self.now.most.left }
-        ensures { Takes cursor.old cursor.new result }
-    {
-        match cursor.kind() {
-            Some(TokenKind::Ident) => {
-                let name = TypeName::Named(qualid(cursor)?);
-                self.named_type(cursor, room, name)
-            }
-            Some(TokenKind::Symbol(sign)) => self.signed_type(cursor, room, sign),
-            Some(TokenKind::Keyword(word)) => self.word_type(cursor, room, word),
-            _ => Err(cursor.unexpected()),
+/// A type (the report, section 2.2). `room` is that of what surrounds it: the type itself opens one
+/// construct.
+#[cycle(expressions)]
+pub fn type_expression<'a>(reader: &mut Reader<'_, 'a>, room: u32) -> &'a TypeExp<'a>
+    ensures { Follows reader.old reader.new }
+{
+    let pos = reader.pos();
+    let inside = match reader.kind() {
+        Some(kind) if begins_type(kind) => reader.inside(room),
+        _ => {
+            reader.unexpected();
+            None
         }
-    }
+    };
+    let kind = match inside {
+        Some(room) => opened_type(reader, room),
+        None => TypeExp::Missing { pos },
+    };
+    reader.type_exp(kind)
+}
 
-    /// A type that begins with a sign: a parenthesis, a subrange or an enumeration.
-    pub fn signed_type(
-        &self,
-        cursor: &mut Cursor<'_, 'a>,
-        room: Room,
-        sign: Sign,
-    ) -> Result<TypeExp<'a>, Refused>
-        requires nests { Nests self.now.most.left (F.pre self.now.nested) (F.post self.now.nested) }
-        requires room { room.left ≤ self.now.most.left }
-        ensures { Takes cursor.old cursor.new result }
-    {
-        let pos = cursor.pos();
-        match sign {
-            Sign::OpenParen => {
-                cursor.step();
-                let inner = Box::new(self.alloc, self.type_expression(cursor, room)?)?;
-                cursor.take_sign(Sign::CloseParen)?;
-                Ok(TypeExp::Parenthesis { pos, inner })
-            }
-            Sign::OpenBracket => {
-                cursor.step();
-                let first = Box::new(self.alloc, self.expression(cursor, room)?)?;
-                cursor.take_sign(Sign::DotDot)?;
-                let last = Box::new(self.alloc, self.expression(cursor, room)?)?;
-                cursor.take_sign(Sign::CloseBracket)?;
-                Ok(TypeExp::Subrange { pos, first, last })
-            }
-            _ => enumeration(self.alloc, cursor),
+/// The type that begins here, given the room inside it.
+#[cycle(expressions)]
+pub fn opened_type<'a>(reader: &mut Reader<'_, 'a>, room: u32) -> TypeExp<'a>
+    ensures { Follows reader.old reader.new }
+{
+    let pos = reader.pos();
+    match reader.kind() {
+        Some(TokenKind::Ident) => {
+            let name = TypeName::Named(qualid(reader));
+            named_type(reader, room, name)
         }
-    }
-
-    /// A type that begins with a keyword and may have a name: an object or a reference.
-    pub fn word_type(
-        &self,
-        cursor: &mut Cursor<'_, 'a>,
-        room: Room,
-        word: Word,
-    ) -> Result<TypeExp<'a>, Refused>
-        requires nests { Nests self.now.most.left (F.pre self.now.nested) (F.post self.now.nested) }
-        requires room { room.left ≤ self.now.most.left }
-        ensures { Takes cursor.old cursor.new result }
-    {
-        let pos = cursor.pos();
-        match word {
+        Some(TokenKind::Symbol(Sign::OpenParen)) => parenthesis(reader, room),
+        Some(TokenKind::Symbol(Sign::OpenBracket)) => subrange(reader, room),
+        Some(TokenKind::Symbol(_)) => enumeration(reader),
+        Some(TokenKind::Keyword(word)) => match word {
             Word::Root => {
-                cursor.take_word(Word::Root)?;
-                self.named_type(cursor, room, TypeName::Root(pos))
+                reader.step();
+                named_type(reader, room, TypeName::Root(pos))
             }
-            Word::Untraced => {
-                cursor.take_word(Word::Untraced)?;
-                if cursor.skip_word(Word::Root) {
-                    self.named_type(cursor, room, TypeName::UntracedRoot(pos))
-                } else {
-                    let brand = self.brand(cursor, room)?;
-                    self.reference(cursor, room, pos, true, brand)
-                }
-            }
-            Word::Ref | Word::Branded | Word::Object => {
-                let brand = self.brand(cursor, room)?;
-                if cursor.is_word(Word::Ref) {
-                    return self.reference(cursor, room, pos, false, brand);
-                }
-                let parts = self.object_parts(cursor, room, brand)?;
-                let parent = None;
-                Ok(TypeExp::Object { pos, parent, parts })
-            }
-            _ => self.structured_type(cursor, room, word),
-        }
-    }
-
-    /// An array, a packed type, a set, a procedure type or a record.
-    pub fn structured_type(
-        &self,
-        cursor: &mut Cursor<'_, 'a>,
-        room: Room,
-        word: Word,
-    ) -> Result<TypeExp<'a>, Refused>
-        requires nests { Nests self.now.most.left (F.pre self.now.nested) (F.post self.now.nested) }
-        requires room { room.left ≤ self.now.most.left }
-        ensures { Takes cursor.old cursor.new result }
-    {
-        let pos = cursor.pos();
-        match word {
-            Word::Array => {
-                cursor.step();
-                let indexes = self.index_types(cursor, room)?;
-                let element = Box::new(self.alloc, self.type_expression(cursor, room)?)?;
-                Ok(TypeExp::Array {
-                    pos,
-                    indexes,
-                    element,
-                })
-            }
-            Word::Bits => {
-                cursor.step();
-                let width = Box::new(self.alloc, self.expression(cursor, room)?)?;
-                cursor.take_word(Word::For)?;
-                let target = Box::new(self.alloc, self.type_expression(cursor, room)?)?;
-                Ok(TypeExp::Bits { pos, width, target })
-            }
-            Word::Set => {
-                cursor.step();
-                cursor.take_word(Word::Of)?;
-                let base = Box::new(self.alloc, self.type_expression(cursor, room)?)?;
-                Ok(TypeExp::Set { pos, base })
-            }
+            Word::Untraced => untraced(reader, room),
+            Word::Ref | Word::Branded | Word::Object => reference_or_object(reader, room),
+            Word::Array => array(reader, room),
+            Word::Bits => bits(reader, room),
+            Word::Set => set(reader, room),
             Word::Procedure => {
-                cursor.step();
-                let signature = self.signature(cursor, room)?;
-                Ok(TypeExp::Procedure { pos, signature })
+                reader.step();
+                let signature = signature(reader, room);
+                TypeExp::Procedure { pos, signature }
             }
-            Word::Record => {
-                cursor.step();
-                let fields = self.fields(cursor, room)?;
-                cursor.take_word(Word::End)?;
-                Ok(TypeExp::Record { pos, fields })
-            }
-            _ => Err(cursor.unexpected()),
+            _ => record(reader, room),
+        },
+        _ => {
+            reader.unexpected();
+            TypeExp::Missing { pos }
         }
     }
+}
 
-    /// The index types of an array, up to and with OF.
-    pub fn index_types(
-        &self,
-        cursor: &mut Cursor<'_, 'a>,
-        room: Room,
-    ) -> Result<Vec<TypeExp<'a>>, Refused>
-        requires nests { Nests self.now.most.left (F.pre self.now.nested) (F.post self.now.nested) }
-        requires room { room.left ≤ self.now.most.left }
-        ensures { Takes cursor.old cursor.new result }
-    {
-        let mut indexes = Vec::new(self.alloc);
-        if cursor.skip_word(Word::Of) {
-            return Ok(indexes);
-        }
-        loop {
-            indexes.push(self.type_expression(cursor, room)?)?;
-            if !cursor.skip_sign(Sign::Comma) {
-                cursor.take_word(Word::Of)?;
-                return Ok(indexes);
-            }
-        }
-    }
+#[cycle(expressions)]
+fn parenthesis<'a>(reader: &mut Reader<'_, 'a>, room: u32) -> TypeExp<'a>
+    ensures { Follows reader.old reader.new }
+{
+    let pos = reader.take_sign(Sign::OpenParen);
+    let inner = type_expression(reader, room);
+    reader.take_sign(Sign::CloseParen);
+    TypeExp::Parenthesis { pos, inner }
+}
 
-    /// REF and its target.
-    pub fn reference(
-        &self,
-        cursor: &mut Cursor<'_, 'a>,
-        room: Room,
-        pos: Pos,
-        is_untraced: bool,
-        brand: Option<Brand<'a>>,
-    ) -> Result<TypeExp<'a>, Refused>
-        requires nests { Nests self.now.most.left (F.pre self.now.nested) (F.post self.now.nested) }
-        requires room { room.left ≤ self.now.most.left }
-        ensures { Takes cursor.old cursor.new result }
-    {
-        cursor.take_word(Word::Ref)?;
-        let target = Box::new(self.alloc, self.type_expression(cursor, room)?)?;
-        Ok(TypeExp::Ref {
-            pos,
-            is_untraced,
-            brand,
-            target,
-        })
-    }
-
-    /// A type that a name begins: the type of that name, or an object type below it.
-    pub fn named_type(
-        &self,
-        cursor: &mut Cursor<'_, 'a>,
-        room: Room,
-        name: TypeName<'a>,
-    ) -> Result<TypeExp<'a>, Refused>
-        requires nests { Nests self.now.most.left (F.pre self.now.nested) (F.post self.now.nested) }
-        requires room { room.left ≤ self.now.most.left }
-        ensures { MayTake cursor.old cursor.new result }
-    {
-        if begins_object(cursor) {
-            let brand = self.brand(cursor, room)?;
-            let parts = self.object_parts(cursor, room, brand)?;
-            Ok(TypeExp::Object {
-                pos: name.pos(),
-                parent: Some(name),
-                parts,
-            })
-        } else {
-            Ok(TypeExp::Named(name))
-        }
-    }
-
-    /// The parts of an object type, given the brand of the first.
-    fn object_parts(
-        &self,
-        cursor: &mut Cursor<'_, 'a>,
-        room: Room,
-        brand_of_first: Option<Brand<'a>>,
-    ) -> Result<Vec<ObjectPart<'a>>, Refused>
-        requires nests { Nests self.now.most.left (F.pre self.now.nested) (F.post self.now.nested) }
-        requires room { room.left ≤ self.now.most.left }
-        ensures { Takes cursor.old cursor.new result }
-    {
-        let mut parts = Vec::new(self.alloc);
-        let mut brand = brand_of_first;
-        loop {
-            parts.push(self.object_part(cursor, room, brand)?)?;
-            if !begins_object(cursor) {
-                return Ok(parts);
-            }
-            brand = self.brand(cursor, room)?;
-        }
-    }
-
-    /// A brand, where one is here. Its text begins with an identifier, a text literal or a parenthesis.
-    pub fn brand(
-        &self,
-        cursor: &mut Cursor<'_, 'a>,
-        room: Room,
-    ) -> Result<Option<Brand<'a>>, Refused>
-        requires nests { Nests self.now.most.left (F.pre self.now.nested) (F.post self.now.nested) }
-        requires room { room.left ≤ self.now.most.left }
-        ensures { MayTake cursor.old cursor.new result }
-    {
-        let pos = cursor.pos();
-        if !cursor.skip_word(Word::Branded) {
-            return Ok(None);
-        }
-        match cursor.kind() {
-            Some(TokenKind::Ident | TokenKind::TextLit | TokenKind::Symbol(Sign::OpenParen)) => {
-                let found = self.phrase(cursor, room, Want::Brand)?;
-                let text = Some(Box::new(self.alloc, value_of(cursor, found)?)?);
-                Ok(Some(Brand { pos, text }))
-            }
-            _ => Ok(Some(Brand { pos, text: None })),
-        }
-    }
-
-    /// OBJECT up to its END.
-    pub fn object_part(
-        &self,
-        cursor: &mut Cursor<'_, 'a>,
-        room: Room,
-        brand: Option<Brand<'a>>,
-    ) -> Result<ObjectPart<'a>, Refused>
-        requires nests { Nests self.now.most.left (F.pre self.now.nested) (F.post self.now.nested) }
-        requires room { room.left ≤ self.now.most.left }
-        ensures { Takes cursor.old cursor.new result }
-    {
-        let object = cursor.take_word(Word::Object)?;
-        let pos = match &brand {
-            Some(brand) => brand.pos,
-            None => object,
-        };
-        let fields = self.fields(cursor, room)?;
-        let methods = self.methods(cursor, room)?;
-        let overrides = self.overrides(cursor, room)?;
-        cursor.take_word(Word::End)?;
-        Ok(ObjectPart {
-            pos,
-            brand,
-            fields,
-            methods,
-            overrides,
-        })
-    }
+#[cycle(expressions)]
+fn subrange<'a>(reader: &mut Reader<'_, 'a>, room: u32) -> TypeExp<'a>
+    ensures { Follows reader.old reader.new }
+{
+    let pos = reader.take_sign(Sign::OpenBracket);
+    let first = expression(reader, room);
+    reader.take_sign(Sign::DotDot);
+    let last = expression(reader, room);
+    reader.take_sign(Sign::CloseBracket);
+    TypeExp::Subrange { pos, first, last }
 }
 
 /// `{a, b}`, or `{}`.
-fn enumeration<'a>(alloc: Global, cursor: &mut Cursor<'_, 'a>) -> Result<TypeExp<'a>, Refused>
-    ensures { Takes cursor.old cursor.new result }
+fn enumeration<'a>(reader: &mut Reader<'_, 'a>) -> TypeExp<'a>
+    ensures { Follows reader.old reader.new }
 {
-    let pos = cursor.take_sign(Sign::OpenBrace)?;
-    if cursor.skip_sign(Sign::CloseBrace) {
-        let members = Vec::new(alloc);
-        return Ok(TypeExp::Enumeration { pos, members });
-    }
-    let members = name_list(alloc, cursor)?;
-    cursor.take_sign(Sign::CloseBrace)?;
-    Ok(TypeExp::Enumeration { pos, members })
+    let pos = reader.take_sign(Sign::OpenBrace);
+    let members = if reader.is_sign(Sign::CloseBrace) {
+        reader.no_items()
+    } else {
+        name_list(reader)
+    };
+    reader.take_sign(Sign::CloseBrace);
+    TypeExp::Enumeration { pos, members }
 }
 
-fn begins_object(cursor: &Cursor<'_, '_>) -> bool {
-    cursor.is_word(Word::Branded) || cursor.is_word(Word::Object)
+/// `UNTRACED ROOT`, or an untraced reference.
+#[cycle(expressions)]
+fn untraced<'a>(reader: &mut Reader<'_, 'a>, room: u32) -> TypeExp<'a>
+    ensures { Follows reader.old reader.new }
+{
+    let pos = reader.take_word(Word::Untraced);
+    if reader.skip_word(Word::Root) {
+        return named_type(reader, room, TypeName::UntracedRoot(pos));
+    }
+    let brand = brand(reader, room);
+    reference(reader, room, pos, true, brand)
+}
+
+#[cycle(expressions)]
+fn reference_or_object<'a>(reader: &mut Reader<'_, 'a>, room: u32) -> TypeExp<'a>
+    ensures { Follows reader.old reader.new }
+{
+    let pos = reader.pos();
+    let brand = brand(reader, room);
+    if reader.is_word(Word::Ref) {
+        return reference(reader, room, pos, false, brand);
+    }
+    let parts = object_parts(reader, room, brand);
+    TypeExp::Object {
+        pos,
+        parent: None,
+        parts,
+    }
+}
+
+/// REF and its target.
+#[cycle(expressions)]
+fn reference<'a>(
+    reader: &mut Reader<'_, 'a>,
+    room: u32,
+    pos: Pos,
+    is_untraced: bool,
+    brand: Option<Brand<'a>>,
+) -> TypeExp<'a>
+    ensures { Follows reader.old reader.new }
+{
+    reader.take_word(Word::Ref);
+    let target = type_expression(reader, room);
+    TypeExp::Ref {
+        pos,
+        is_untraced,
+        brand,
+        target,
+    }
+}
+
+#[cycle(expressions)]
+fn array<'a>(reader: &mut Reader<'_, 'a>, room: u32) -> TypeExp<'a>
+    ensures { Follows reader.old reader.new }
+{
+    let pos = reader.take_word(Word::Array);
+    let mut indexes = Vec::new(reader.alloc());
+    if !reader.is_word(Word::Of) {
+        'indexes: loop {
+            let index = *type_expression(reader, room);
+            reader.put(&mut indexes, index);
+            if !reader.skip_sign(Sign::Comma) {
+                break;
+            }
+        }
+    }
+    reader.take_word(Word::Of);
+    let element = type_expression(reader, room);
+    TypeExp::Array {
+        pos,
+        indexes: reader.row(indexes),
+        element,
+    }
+}
+
+#[cycle(expressions)]
+fn bits<'a>(reader: &mut Reader<'_, 'a>, room: u32) -> TypeExp<'a>
+    ensures { Follows reader.old reader.new }
+{
+    let pos = reader.take_word(Word::Bits);
+    let width = expression(reader, room);
+    reader.take_word(Word::For);
+    let target = type_expression(reader, room);
+    TypeExp::Bits { pos, width, target }
+}
+
+#[cycle(expressions)]
+fn set<'a>(reader: &mut Reader<'_, 'a>, room: u32) -> TypeExp<'a>
+    ensures { Follows reader.old reader.new }
+{
+    let pos = reader.take_word(Word::Set);
+    reader.take_word(Word::Of);
+    let base = type_expression(reader, room);
+    TypeExp::Set { pos, base }
+}
+
+#[cycle(expressions)]
+fn record<'a>(reader: &mut Reader<'_, 'a>, room: u32) -> TypeExp<'a>
+    ensures { Follows reader.old reader.new }
+{
+    let pos = reader.take_word(Word::Record);
+    let fields = fields(reader, room);
+    reader.take_word(Word::End);
+    TypeExp::Record { pos, fields }
+}
+
+/// A named type, or an object type of which it is the parent.
+#[cycle(expressions)]
+pub fn named_type<'a>(reader: &mut Reader<'_, 'a>, room: u32, name: TypeName<'a>) -> TypeExp<'a>
+    ensures { Follows reader.old reader.new }
+{
+    if !begins_object(reader) {
+        return TypeExp::Named(name);
+    }
+    let brand = brand(reader, room);
+    let parts = object_parts(reader, room, brand);
+    TypeExp::Object {
+        pos: name.pos(),
+        parent: Some(name),
+        parts,
+    }
+}
+
+fn begins_object(reader: &Reader<'_, '_>) -> bool {
+    reader.is_word(Word::Branded) || reader.is_word(Word::Object)
+}
+
+/// The parts of an object type, given the brand of the first.
+#[cycle(expressions)]
+fn object_parts<'a>(
+    reader: &mut Reader<'_, 'a>,
+    room: u32,
+    brand_of_first: Option<Brand<'a>>,
+) -> &'a [ObjectPart<'a>]
+    ensures { Follows reader.old reader.new }
+{
+    let mut parts = Vec::new(reader.alloc());
+    let mut brand_of_next = brand_of_first;
+    'parts: loop {
+        let part = object_part(reader, room, brand_of_next);
+        reader.put(&mut parts, part);
+        if !begins_object(reader) {
+            break;
+        }
+        brand_of_next = brand(reader, room);
+    }
+    reader.row(parts)
+}
+
+/// OBJECT up to its END.
+#[cycle(expressions)]
+fn object_part<'a>(
+    reader: &mut Reader<'_, 'a>,
+    room: u32,
+    brand: Option<Brand<'a>>,
+) -> ObjectPart<'a>
+    ensures { Follows reader.old reader.new }
+{
+    let object = reader.take_word(Word::Object);
+    let pos = match &brand {
+        Some(brand) => brand.pos,
+        None => object,
+    };
+    let fields = fields(reader, room);
+    let methods = methods(reader, room);
+    let overrides = overrides(reader, room);
+    reader.take_word(Word::End);
+    ObjectPart {
+        pos,
+        brand,
+        fields,
+        methods,
+        overrides,
+    }
+}
+
+/// A brand, where one is here. Its text begins with an identifier, a text literal or a parenthesis.
+#[cycle(expressions)]
+fn brand<'a>(reader: &mut Reader<'_, 'a>, room: u32) -> Option<Brand<'a>>
+    ensures { Follows reader.old reader.new }
+{
+    let pos = reader.pos();
+    if !reader.skip_word(Word::Branded) {
+        return None;
+    }
+    let text = match reader.kind() {
+        Some(TokenKind::Ident | TokenKind::TextLit | TokenKind::Symbol(Sign::OpenParen)) => {
+            let found = phrase(reader, room, Want::Brand);
+            let text = value_of(reader, found);
+            Some(reader.expr(text))
+        }
+        _ => None,
+    };
+    Some(Brand { pos, text })
 }

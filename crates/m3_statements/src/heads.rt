@@ -1,114 +1,107 @@
-use m3_base::{NoMemory, Pos};
-use m3_syntax::{Actual, Expr, Operation, Selector};
-use std::alloc::Global;
+ghost use Rattle.m3_cursor.specs.Readers.{Follows};
 
-/// An expression as the beginning of a statement.
-#[derive(Drop)]
-pub enum Head<'a> {
-    /// An expression that ends with a call: the callee, the place of the parenthesis and the actuals.
-    Call(Expr<'a>, Pos, Vec<Actual<'a>>),
-    /// Any other expression.
-    Target(Expr<'a>),
+use m3_base::Pos;
+use m3_cursor::Reader;
+use m3_syntax::{Actual, Expr, Operation, Selector};
+
+/// A call: what is called, the place of the parenthesis, and the actuals.
+#[derive(Clone, Copy)]
+pub struct Call<'a> {
+    pub callee: Expr<'a>,
+    pub parenthesis: Pos,
+    pub actuals: &'a [Actual<'a>],
 }
 
-/// Takes the last call off an expression that ends with one, as `a.f(x)` and `a + f(x)` do.
-pub fn split_call<'a>(alloc: Global, expr: Expr<'a>) -> Result<Head<'a>, NoMemory> {
-    match expr {
+/// The call with which an expression ends, as `a.f(x)` and `a + f(x)` do: the callee is what stands before
+/// the last parenthesis. None where it ends with no call.
+pub fn call_of<'a>(reader: &mut Reader<'_, 'a>, expr: &Expr<'a>) -> Option<Call<'a>>
+    ensures { Follows reader.old reader.new }
+{
+    match *expr {
         Expr::Selected {
             pos,
             operand,
-            mut selectors,
-        } => match selectors.pop() {
-            Some(Selector::Call(parenthesis, actuals)) => {
-                let callee = if selectors.is_empty() {
-                    Box::into_inner(operand)
-                } else {
-                    Expr::Selected {
-                        pos,
-                        operand,
-                        selectors,
-                    }
-                };
-                Ok(Head::Call(callee, parenthesis, actuals))
-            }
-            Some(last) => {
-                selectors.push(last)?;
-                Ok(Head::Target(Expr::Selected {
-                    pos,
-                    operand,
-                    selectors,
-                }))
-            }
-            None => Ok(Head::Target(Expr::Selected {
-                pos,
-                operand,
-                selectors,
-            })),
-        },
-        Expr::Operations {
-            pos,
-            first,
-            mut rest,
-        } => match rest.pop() {
-            Some(last) => {
-                let (operator, at) = (last.operator, last.pos);
-                let (right, call) = parts(split_call(alloc, last.right)?);
-                rest.push(Operation {
-                    operator,
-                    pos: at,
-                    right,
-                })?;
-                Ok(with_call(Expr::Operations { pos, first, rest }, call))
-            }
-            None => Ok(Head::Target(Expr::Operations { pos, first, rest })),
-        },
+            selectors,
+        } => call_of_selected(pos, operand, selectors),
+        Expr::Operations { pos, first, rest } => {
+            let [before @ .., last] = rest else {
+                return None;
+            };
+            let call = call_of(reader, last.right)?;
+            let right = reader.expr(call.callee);
+            let rest = with_last(reader, before, Operation { right, ..*last });
+            let callee = Expr::Operations { pos, first, rest };
+            Some(Call { callee, ..call })
+        }
         Expr::Not {
             pos,
             words,
             operand,
         } => {
-            let (operand, call) = parts(split_call(alloc, Box::into_inner(operand))?);
-            let operand = Box::new(alloc, operand)?;
-            Ok(with_call(
-                Expr::Not {
-                    pos,
-                    words,
-                    operand,
-                },
-                call,
-            ))
+            let call = call_of(reader, operand)?;
+            let operand = reader.expr(call.callee);
+            let callee = Expr::Not {
+                pos,
+                words,
+                operand,
+            };
+            Some(Call { callee, ..call })
         }
         Expr::Signed {
             pos,
             signs,
             operand,
         } => {
-            let (operand, call) = parts(split_call(alloc, Box::into_inner(operand))?);
-            let operand = Box::new(alloc, operand)?;
-            Ok(with_call(
-                Expr::Signed {
-                    pos,
-                    signs,
-                    operand,
-                },
-                call,
-            ))
+            let call = call_of(reader, operand)?;
+            let operand = reader.expr(call.callee);
+            let callee = Expr::Signed {
+                pos,
+                signs,
+                operand,
+            };
+            Some(Call { callee, ..call })
         }
-        other => Ok(Head::Target(other)),
+        _ => None,
     }
 }
 
-/// What a head is without its last call, and that call.
-fn parts<'a>(head: Head<'a>) -> (Expr<'a>, Option<(Pos, Vec<Actual<'a>>)>) {
-    match head {
-        Head::Call(callee, parenthesis, actuals) => (callee, Some((parenthesis, actuals))),
-        Head::Target(expr) => (expr, None),
-    }
+/// The call that the last selector is, if it is one.
+fn call_of_selected<'a>(
+    pos: Pos,
+    operand: &'a Expr<'a>,
+    selectors: &'a [Selector<'a>],
+) -> Option<Call<'a>> {
+    let [before @ .., Selector::Call(parenthesis, actuals)] = selectors else {
+        return None;
+    };
+    let callee = if before.is_empty() {
+        *operand
+    } else {
+        Expr::Selected {
+            pos,
+            operand,
+            selectors: before,
+        }
+    };
+    Some(Call {
+        callee,
+        parenthesis: *parenthesis,
+        actuals,
+    })
 }
 
-fn with_call<'a>(expr: Expr<'a>, call: Option<(Pos, Vec<Actual<'a>>)>) -> Head<'a> {
-    match call {
-        Some((parenthesis, actuals)) => Head::Call(expr, parenthesis, actuals),
-        None => Head::Target(expr),
+/// A row with one more operation behind it.
+fn with_last<'a>(
+    reader: &mut Reader<'_, 'a>,
+    before: &[Operation<'a>],
+    last: Operation<'a>,
+) -> &'a [Operation<'a>]
+    ensures { Follows reader.old reader.new }
+{
+    let mut operations = Vec::new(reader.alloc());
+    for operation in before {
+        reader.put(&mut operations, *operation);
     }
+    reader.put(&mut operations, last);
+    reader.row(operations)
 }

@@ -1,11 +1,14 @@
-//! The statements of Modula-3 that are no blocks, each read up to the lists of statements in it.
+//! The statements, blocks and declarations of Modula-3, read off the tokens of a file.
 #![tactic(auto)]
 
-mod bodies;
+mod blocks;
 mod branches;
+mod declarations;
 mod handlers;
 mod heads;
+mod jumps;
+mod loops;
 mod statements;
-mod type_branches;
 
-pub use statements::{OpenStatement, Progress, begins_plain_statement, plain_statement};
+pub use blocks::block;
+pub use declarations::declarations;

@@ -1,69 +1,41 @@
-ghost use Rattle.m3_cursor.specs.Cursors.{Takes, MayTake};
+ghost use Rattle.m3_cursor.specs.Readers.{Follows};
 
-use crate::bodies::{BodyHead, for_head, lock_head, while_head, with_head};
-use crate::branches::{OpenCase, OpenIf, open_case, open_if};
-use crate::handlers::OpenTry;
-use crate::heads::{Head, split_call};
-use crate::type_branches::{OpenTypeCase, open_type_case};
-use m3_base::{Pos, Refused};
-use m3_cursor::{Cursor, Room, begins_expression, qualid};
+use crate::blocks::{begins_block, block};
+use crate::branches::{case_statement, if_statement, typecase_statement};
+use crate::handlers::try_statement;
+use crate::heads::call_of;
+use crate::jumps::{eval_statement, exit_statement, raise_statement, return_statement};
+use crate::loops::{
+    for_statement, lock_statement, loop_statement, repeat_statement, while_statement,
+    with_statement,
+};
+use m3_base::Pos;
+use m3_cursor::{Reader, begins_expression};
 use m3_phrases::{expression, statement_head};
 use m3_syntax::{Expr, Sign, Stmt, TokenKind, Word};
-use std::alloc::Global;
 
-/// A statement that waits for a list of statements, with what was read of it before that list.
-#[derive(Drop)]
-pub enum OpenStatement<'a> {
-    Body(BodyHead<'a>),
-    Repeat(Pos),
-    If(OpenIf<'a>),
-    Case(OpenCase<'a>),
-    Try(OpenTry<'a>),
-    TypeCase(OpenTypeCase<'a>),
-}
-
-/// How far a statement is read: to its end, or to a list of statements in it.
-#[derive(Drop)]
-pub enum Progress<'a> {
-    Whole(Stmt<'a>),
-    Open(OpenStatement<'a>),
-}
-
-impl<'a> OpenStatement<'a> {
-    /// The statement behind the list of statements that it waited for.
-    pub fn go_on(
-        self,
-        alloc: Global,
-        cursor: &mut Cursor<'_, 'a>,
-        room: Room,
-        body: Vec<Stmt<'a>>,
-    ) -> Result<Progress<'a>, Refused>
-        ensures { Takes cursor.old cursor.new result }
-    {
-        match self {
-            OpenStatement::Body(head) => Ok(Progress::Whole(head.close(cursor, body)?)),
-            OpenStatement::Repeat(pos) => {
-                cursor.take_word(Word::Until)?;
-                let condition = expression(alloc, cursor, room)?;
-                Ok(Progress::Whole(Stmt::Repeat {
-                    pos,
-                    body,
-                    condition,
-                }))
-            }
-            OpenStatement::If(open) => open.go_on(alloc, cursor, room, body),
-            OpenStatement::Case(open) => open.go_on(alloc, cursor, room, body),
-            OpenStatement::Try(open) => open.go_on(alloc, cursor, body),
-            OpenStatement::TypeCase(open) => open.go_on(alloc, cursor, room, body),
+/// Statements, with semicolons between them and maybe behind the last.
+#[cycle(statements)]
+pub fn statements<'a>(reader: &mut Reader<'_, 'a>, room: u32) -> &'a [Stmt<'a>]
+    ensures { Follows reader.old reader.new }
+{
+    let mut body = Vec::new(reader.alloc());
+    'statements: while begins_statement(reader) {
+        let statement = statement(reader, room);
+        reader.put(&mut body, statement);
+        if !reader.skip_sign(Sign::Semicolon) {
+            break;
         }
     }
+    reader.row(body)
 }
 
-/// Whether a token of this kind begins a statement that is no block.
-pub fn begins_plain_statement(kind: TokenKind) -> bool {
-    match kind {
-        TokenKind::Keyword(word) => begins_by_word(word) || begins_expression(kind),
-        _ => begins_expression(kind),
+/// Whether a statement begins here.
+fn begins_statement(reader: &Reader<'_, '_>) -> bool {
+    match reader.kind() {
+        Some(TokenKind::Keyword(word)) if begins_by_word(word) || begins_block(word) => true,
+        Some(kind) => begins_expression(kind),
+        None => false,
     }
 }
 
@@ -88,160 +60,83 @@ fn begins_by_word(word: Word) -> bool {
     )
 }
 
-/// The statement that begins here and is no block, to its end or to the first list of statements in
-/// it. `room` is that inside the statement.
-pub fn plain_statement<'a>(
-    alloc: Global,
-    cursor: &mut Cursor<'_, 'a>,
-    room: Room,
-) -> Result<Progress<'a>, Refused>
-    ensures { Takes cursor.old cursor.new result }
+/// The statement that begins here, given the room of what surrounds it.
+#[cycle(statements)]
+fn statement<'a>(reader: &mut Reader<'_, 'a>, room: u32) -> Stmt<'a>
+    ensures { Follows reader.old reader.new }
 {
-    match cursor.kind() {
+    let pos = reader.pos();
+    let Some(room) = reader.inside(room) else {
+        return missing_statement(reader, pos);
+    };
+    match reader.kind() {
         Some(TokenKind::Keyword(word)) => match word {
-            Word::Case => open_case(alloc, cursor, room),
-            Word::Typecase => open_type_case(alloc, cursor, room),
-            Word::Exit | Word::Eval | Word::Raise | Word::Return => {
-                Ok(Progress::Whole(simple_statement(alloc, cursor, room)?))
-            }
-            Word::For
-            | Word::If
-            | Word::Lock
-            | Word::Loop
-            | Word::Repeat
-            | Word::Try
-            | Word::While
-            | Word::With => Ok(Progress::Open(open_statement(alloc, cursor, room)?)),
-            _ => Ok(Progress::Whole(assignment_or_call(alloc, cursor, room)?)),
+            Word::Case => case_statement(reader, room),
+            Word::Eval => eval_statement(reader, room),
+            Word::Exit => exit_statement(reader),
+            Word::For => for_statement(reader, room),
+            Word::If => if_statement(reader, room),
+            Word::Lock => lock_statement(reader, room),
+            Word::Loop => loop_statement(reader, room),
+            Word::Raise => raise_statement(reader, room),
+            Word::Repeat => repeat_statement(reader, room),
+            Word::Return => return_statement(reader, room),
+            Word::Try => try_statement(reader, room),
+            Word::Typecase => typecase_statement(reader, room),
+            Word::While => while_statement(reader, room),
+            Word::With => with_statement(reader, room),
+            Word::Procedure => block_or_call(reader, room),
+            _ if begins_block(word) => Stmt::Block(block(reader, room)),
+            _ => assignment_or_call(reader, room),
         },
-        _ => Ok(Progress::Whole(assignment_or_call(alloc, cursor, room)?)),
+        _ => assignment_or_call(reader, room),
     }
 }
 
-/// The statement that begins here with FOR, IF, LOCK, LOOP, REPEAT, TRY, WHILE or WITH, to the first
-/// list of statements in it.
-fn open_statement<'a>(
-    alloc: Global,
-    cursor: &mut Cursor<'_, 'a>,
-    room: Room,
-) -> Result<OpenStatement<'a>, Refused>
-    ensures { Takes cursor.old cursor.new result }
+/// What stands behind an error.
+fn missing_statement<'a>(reader: &mut Reader<'_, 'a>, pos: Pos) -> Stmt<'a>
+    ensures { Follows reader.old reader.new }
 {
-    let pos = cursor.pos();
-    if cursor.is_word(Word::For) {
-        Ok(OpenStatement::Body(for_head(alloc, cursor, room)?))
-    } else if cursor.is_word(Word::If) {
-        Ok(OpenStatement::If(open_if(alloc, cursor, room)?))
-    } else if cursor.is_word(Word::Lock) {
-        Ok(OpenStatement::Body(lock_head(alloc, cursor, room)?))
-    } else if cursor.skip_word(Word::Loop) {
-        Ok(OpenStatement::Body(BodyHead::Loop { pos }))
-    } else if cursor.skip_word(Word::Repeat) {
-        Ok(OpenStatement::Repeat(pos))
-    } else if cursor.skip_word(Word::Try) {
-        Ok(OpenStatement::Try(OpenTry::Body(pos)))
-    } else if cursor.is_word(Word::While) {
-        Ok(OpenStatement::Body(while_head(alloc, cursor, room)?))
-    } else {
-        Ok(OpenStatement::Body(with_head(alloc, cursor, room)?))
-    }
+    let value = reader.expr(Expr::Missing { pos });
+    Stmt::Eval { pos, value }
 }
 
-/// The statement that begins here with EXIT, EVAL, RAISE or RETURN.
-fn simple_statement<'a>(
-    alloc: Global,
-    cursor: &mut Cursor<'_, 'a>,
-    room: Room,
-) -> Result<Stmt<'a>, Refused>
-    ensures { Takes cursor.old cursor.new result }
+/// The statement that begins here with PROCEDURE: a block that begins with a procedure, or an expression
+/// that begins with a procedure type. A parenthesis tells which.
+#[cycle(statements)]
+fn block_or_call<'a>(reader: &mut Reader<'_, 'a>, room: u32) -> Stmt<'a>
+    ensures { Follows reader.old reader.new }
 {
-    let pos = cursor.pos();
-    if cursor.skip_word(Word::Exit) {
-        Ok(Stmt::Exit { pos })
-    } else if cursor.skip_word(Word::Eval) {
-        let value = expression(alloc, cursor, room)?;
-        Ok(Stmt::Eval { pos, value })
-    } else if cursor.skip_word(Word::Return) {
-        let value = returned(alloc, cursor, room)?;
-        Ok(Stmt::Return { pos, value })
-    } else {
-        raise(alloc, cursor, room)
+    if reader.next_kind() != Some(TokenKind::Symbol(Sign::OpenParen)) {
+        return Stmt::Block(block(reader, room));
     }
-}
-
-/// The value behind RETURN, if one begins here.
-fn returned<'a>(
-    alloc: Global,
-    cursor: &mut Cursor<'_, 'a>,
-    room: Room,
-) -> Result<Option<Expr<'a>>, Refused>
-    ensures { MayTake cursor.old cursor.new result }
-{
-    match cursor.kind() {
-        Some(kind) if begins_expression(kind) => {
-            let value = expression(alloc, cursor, room)?;
-            Ok(Some(value))
-        }
-        _ => Ok(None),
+    if room == 1 {
+        let pos = reader.take_word(Word::Procedure);
+        reader.too_deep();
+        return missing_statement(reader, pos);
     }
-}
-
-/// The RAISE that begins here.
-fn raise<'a>(alloc: Global, cursor: &mut Cursor<'_, 'a>, room: Room) -> Result<Stmt<'a>, Refused>
-    ensures { Takes cursor.old cursor.new result }
-{
-    let pos = cursor.take_word(Word::Raise)?;
-    let exception = qualid(cursor)?;
-    let argument = raised(alloc, cursor, room)?;
-    Ok(Stmt::Raise {
-        pos,
-        exception,
-        argument,
-    })
-}
-
-/// The argument of a raised exception in parentheses, if it is given here.
-fn raised<'a>(
-    alloc: Global,
-    cursor: &mut Cursor<'_, 'a>,
-    room: Room,
-) -> Result<Option<Expr<'a>>, Refused>
-    ensures { MayTake cursor.old cursor.new result }
-{
-    if cursor.skip_sign(Sign::OpenParen) {
-        let argument = expression(alloc, cursor, room)?;
-        cursor.take_sign(Sign::CloseParen)?;
-        Ok(Some(argument))
-    } else {
-        Ok(None)
-    }
+    assignment_or_call(reader, room)
 }
 
 /// The assignment or the call that begins here.
-fn assignment_or_call<'a>(
-    alloc: Global,
-    cursor: &mut Cursor<'_, 'a>,
-    room: Room,
-) -> Result<Stmt<'a>, Refused>
-    ensures { Takes cursor.old cursor.new result }
+fn assignment_or_call<'a>(reader: &mut Reader<'_, 'a>, room: u32) -> Stmt<'a>
+    ensures { Follows reader.old reader.new }
 {
-    let pos = cursor.pos();
-    let head = statement_head(alloc, cursor, room)?;
-    if cursor.skip_sign(Sign::Assign) {
-        let value = expression(alloc, cursor, room)?;
-        return Ok(Stmt::Assign {
-            pos,
-            target: head,
-            value,
-        });
+    let pos = reader.pos();
+    let head = statement_head(reader, room);
+    if reader.skip_sign(Sign::Assign) {
+        let target = reader.expr(head);
+        let value = expression(reader, room);
+        return Stmt::Assign { pos, target, value };
     }
-    match split_call(alloc, head)? {
-        Head::Call(callee, parenthesis, actuals) => Ok(Stmt::Call {
-            pos,
-            callee,
-            parenthesis,
-            actuals,
-        }),
-        Head::Target(_) => Err(cursor.unexpected()),
+    let Some(call) = call_of(reader, &head) else {
+        reader.unexpected();
+        return missing_statement(reader, pos);
+    };
+    Stmt::Call {
+        pos,
+        callee: reader.expr(call.callee),
+        parenthesis: call.parenthesis,
+        actuals: call.actuals,
     }
 }

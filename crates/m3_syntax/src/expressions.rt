@@ -2,33 +2,34 @@ use crate::names::{Mode, Name, Qualid, Raises, TypeName};
 use m3_base::Pos;
 
 /// An expression (the report, section 2.6). Its place is that of its first token. What stands in a row,
-/// as operators of one level, selectors and prefix signs, is a list, so that no chain is deep.
+/// as operators of one level, selectors and prefix signs, is a list, so that no chain is deep. The parts
+/// of a tree stand in the arena that it was read into.
 #[cycle(expressions)]
-#[derive(Drop)]
+#[derive(Clone, Copy)]
 pub enum Expr<'a> {
     /// Operands with operators of one level between them, which group to the left.
     Operations {
         pos: Pos,
-        first: Box<Expr<'a>>,
-        rest: Vec<Operation<'a>>,
+        first: &'a Expr<'a>,
+        rest: &'a [Operation<'a>],
     },
     /// `NOT`, once or more, by the places of these words.
     Not {
         pos: Pos,
-        words: Vec<Pos>,
-        operand: Box<Expr<'a>>,
+        words: &'a [Pos],
+        operand: &'a Expr<'a>,
     },
     /// `+` and `-` before an operand, once or more, the outermost first.
     Signed {
         pos: Pos,
-        signs: Vec<PrefixSign>,
-        operand: Box<Expr<'a>>,
+        signs: &'a [PrefixSign],
+        operand: &'a Expr<'a>,
     },
     /// An operand with selectors behind it, at least one.
     Selected {
         pos: Pos,
-        operand: Box<Expr<'a>>,
-        selectors: Vec<Selector<'a>>,
+        operand: &'a Expr<'a>,
+        selectors: &'a [Selector<'a>],
     },
     Name(Name<'a>),
     Number {
@@ -46,15 +47,19 @@ pub enum Expr<'a> {
     },
     Parenthesis {
         pos: Pos,
-        inner: Box<Expr<'a>>,
+        inner: &'a Expr<'a>,
     },
     /// A set, record or array of a type: `T {a, b, ..}`. `is_filled` tells that `..` ends it.
     Constructor {
         pos: Pos,
-        kind: Box<TypeExp<'a>>,
+        kind: &'a TypeExp<'a>,
         brace: Pos,
-        elements: Vec<Element<'a>>,
+        elements: &'a [Element<'a>],
         is_filled: bool,
+    },
+    /// Nothing: it stands only in what was read past an error, which no caller is given.
+    Missing {
+        pos: Pos,
     },
 }
 
@@ -71,7 +76,8 @@ impl Expr<'_> {
             | Expr::CharLit { pos, .. }
             | Expr::TextLit { pos, .. }
             | Expr::Parenthesis { pos, .. }
-            | Expr::Constructor { pos, .. } => *pos,
+            | Expr::Constructor { pos, .. }
+            | Expr::Missing { pos } => *pos,
         }
     }
 }
@@ -100,11 +106,11 @@ pub enum Operator {
 
 /// An operator with its place and its right operand.
 #[cycle(expressions)]
-#[derive(Drop)]
+#[derive(Clone, Copy)]
 pub struct Operation<'a> {
     pub operator: Operator,
     pub pos: Pos,
-    pub right: Expr<'a>,
+    pub right: &'a Expr<'a>,
 }
 
 /// A sign before an operand, and whether it is a minus.
@@ -116,66 +122,66 @@ pub struct PrefixSign {
 
 /// What selects a part of the operand before it, or calls it.
 #[cycle(expressions)]
-#[derive(Drop)]
+#[derive(Clone, Copy)]
 pub enum Selector<'a> {
     /// `^`
     Dereference(Pos),
     /// `.name`, by the name.
     Member(Name<'a>),
     /// `[a, b]`, by the place of its bracket.
-    Index(Pos, Vec<Expr<'a>>),
+    Index(Pos, &'a [Expr<'a>]),
     /// `(a, b)`, by the place of its parenthesis.
-    Call(Pos, Vec<Actual<'a>>),
+    Call(Pos, &'a [Actual<'a>]),
 }
 
 /// An actual of a call. What is both an expression and a type is an expression.
 #[cycle(expressions)]
-#[derive(Drop)]
+#[derive(Clone, Copy)]
 pub enum Actual<'a> {
-    Value(Expr<'a>),
-    Named(Name<'a>, Expr<'a>),
-    Type(TypeExp<'a>),
+    Value(&'a Expr<'a>),
+    Named(Name<'a>, &'a Expr<'a>),
+    Type(&'a TypeExp<'a>),
 }
 
 /// An element of a constructor.
 #[cycle(expressions)]
-#[derive(Drop)]
+#[derive(Clone, Copy)]
 pub enum Element<'a> {
-    Value(Expr<'a>),
-    Range(Expr<'a>, Expr<'a>),
-    Named(Name<'a>, Expr<'a>),
+    Value(&'a Expr<'a>),
+    Range(&'a Expr<'a>, &'a Expr<'a>),
+    Named(Name<'a>, &'a Expr<'a>),
 }
 
 /// A type expression (the report, section 2.2). Its place is that of its first token.
 #[cycle(expressions)]
-#[derive(Drop)]
+#[derive(Clone, Copy)]
 pub enum TypeExp<'a> {
     Named(TypeName<'a>),
     Parenthesis {
         pos: Pos,
-        inner: Box<TypeExp<'a>>,
+        inner: &'a TypeExp<'a>,
     },
     /// An array by its index types, outermost first; without one it is open.
     Array {
         pos: Pos,
-        indexes: Vec<TypeExp<'a>>,
-        element: Box<TypeExp<'a>>,
+        indexes: &'a [TypeExp<'a>],
+        element: &'a TypeExp<'a>,
     },
     Bits {
         pos: Pos,
-        width: Box<Expr<'a>>,
-        target: Box<TypeExp<'a>>,
+        width: &'a Expr<'a>,
+        target: &'a TypeExp<'a>,
     },
     Enumeration {
         pos: Pos,
-        members: Vec<Name<'a>>,
+        members: &'a [Name<'a>],
     },
     /// `P OBJECT .. END OBJECT .. END`: the parent where one is named, and then each part, at least one,
     /// of which each is the parent of the next.
     Object {
         pos: Pos,
         parent: Option<TypeName<'a>>,
-        parts: Vec<ObjectPart<'a>>,
+        parts: &'a [ObjectPart<'a>],
     },
     Procedure {
         pos: Pos,
@@ -183,22 +189,26 @@ pub enum TypeExp<'a> {
     },
     Record {
         pos: Pos,
-        fields: Vec<Field<'a>>,
+        fields: &'a [Field<'a>],
     },
     Ref {
         pos: Pos,
         is_untraced: bool,
         brand: Option<Brand<'a>>,
-        target: Box<TypeExp<'a>>,
+        target: &'a TypeExp<'a>,
     },
     Set {
         pos: Pos,
-        base: Box<TypeExp<'a>>,
+        base: &'a TypeExp<'a>,
     },
     Subrange {
         pos: Pos,
-        first: Box<Expr<'a>>,
-        last: Box<Expr<'a>>,
+        first: &'a Expr<'a>,
+        last: &'a Expr<'a>,
+    },
+    /// Nothing: it stands only in what was read past an error, which no caller is given.
+    Missing {
+        pos: Pos,
     },
 }
 
@@ -216,79 +226,80 @@ impl TypeExp<'_> {
             | TypeExp::Record { pos, .. }
             | TypeExp::Ref { pos, .. }
             | TypeExp::Set { pos, .. }
-            | TypeExp::Subrange { pos, .. } => *pos,
+            | TypeExp::Subrange { pos, .. }
+            | TypeExp::Missing { pos } => *pos,
         }
     }
 }
 
 /// `BRANDED`, with the text that brands, where one is written.
 #[cycle(expressions)]
-#[derive(Drop)]
+#[derive(Clone, Copy)]
 pub struct Brand<'a> {
     pub pos: Pos,
-    pub text: Option<Box<Expr<'a>>>,
+    pub text: Option<&'a Expr<'a>>,
 }
 
 /// `OBJECT .. END` with its brand, by the place of its first token.
 #[cycle(expressions)]
-#[derive(Drop)]
+#[derive(Clone, Copy)]
 pub struct ObjectPart<'a> {
     pub pos: Pos,
     pub brand: Option<Brand<'a>>,
-    pub fields: Vec<Field<'a>>,
-    pub methods: Vec<Method<'a>>,
-    pub overrides: Vec<Override<'a>>,
+    pub fields: &'a [Field<'a>],
+    pub methods: &'a [Method<'a>],
+    pub overrides: &'a [Override<'a>],
 }
 
 /// The type and the value that a declaration gives to its names: at least one of them.
 #[cycle(expressions)]
-#[derive(Drop)]
+#[derive(Clone, Copy)]
 pub enum Init<'a> {
-    Typed(TypeExp<'a>, Option<Expr<'a>>),
-    Untyped(Expr<'a>),
+    Typed(&'a TypeExp<'a>, Option<&'a Expr<'a>>),
+    Untyped(&'a Expr<'a>),
 }
 
 /// Fields of one type and default.
 #[cycle(expressions)]
-#[derive(Drop)]
+#[derive(Clone, Copy)]
 pub struct Field<'a> {
-    pub names: Vec<Name<'a>>,
+    pub names: &'a [Name<'a>],
     pub init: Init<'a>,
 }
 
 /// A method with its signature, without the object itself, and its default.
 #[cycle(expressions)]
-#[derive(Drop)]
+#[derive(Clone, Copy)]
 pub struct Method<'a> {
     pub name: Name<'a>,
     pub signature: Signature<'a>,
-    pub default: Option<Expr<'a>>,
+    pub default: Option<&'a Expr<'a>>,
 }
 
 /// `name := value` under OVERRIDES.
 #[cycle(expressions)]
-#[derive(Drop)]
+#[derive(Clone, Copy)]
 pub struct Override<'a> {
     pub name: Name<'a>,
-    pub value: Expr<'a>,
+    pub value: &'a Expr<'a>,
 }
 
 /// Formals of one mode, type and default, by the place of their first token.
 #[cycle(expressions)]
-#[derive(Drop)]
+#[derive(Clone, Copy)]
 pub struct Formal<'a> {
     pub pos: Pos,
     pub mode: Mode,
-    pub names: Vec<Name<'a>>,
+    pub names: &'a [Name<'a>],
     pub init: Init<'a>,
 }
 
 /// The formals, the result and the exceptions of a procedure, by the place of its parenthesis.
 #[cycle(expressions)]
-#[derive(Drop)]
+#[derive(Clone, Copy)]
 pub struct Signature<'a> {
     pub pos: Pos,
-    pub formals: Vec<Formal<'a>>,
-    pub result: Option<Box<TypeExp<'a>>>,
+    pub formals: &'a [Formal<'a>],
+    pub result: Option<&'a TypeExp<'a>>,
     pub raises: Raises<'a>,
 }

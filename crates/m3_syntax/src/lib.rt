@@ -17,4 +17,4 @@ pub use statements::{
     Revelation, Stmt, TypeBranch, TypeDecl, VarDecl,
 };
 pub use tokens::{Lexed, Sign, Token, TokenKind, Word};
-pub use units::{Import, ImportItem, Unit, UnitKind};
+pub use units::{Import, ImportItem, Kept, Unit, UnitKind};

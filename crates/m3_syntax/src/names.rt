@@ -34,10 +34,10 @@ impl TypeName<'_> {
 
 /// The exceptions that a procedure may raise: `RAISES ANY`, or a set, which is empty where no RAISES
 /// is written.
-#[derive(Drop)]
+#[derive(Clone, Copy, Debug)]
 pub enum Raises<'a> {
     Any,
-    Only(Vec<Qualid<'a>>),
+    Only(&'a [Qualid<'a>]),
 }
 
 /// How a formal takes its actual. VALUE is the mode of a formal that names none.

@@ -1,10 +1,15 @@
 use crate::names::Name;
-use crate::statements::{Block, Decl};
+use crate::statements::{Block, Decl, Stmt};
+use bumpalo::Bump;
 use m3_base::Pos;
+
+/// What an arena keeps for a unit. The box ends what the prover counts of a type that holds units: all
+/// fields that its references lead to.
+pub type Kept<'a, T> = &'a Box<T, &'a Bump>;
 
 /// A unit (the report, section 2.5): a file's whole text. Its place is that of its first token, and
 /// `closing` is the name behind its last END.
-#[derive(Drop)]
+#[derive(Clone, Copy)]
 pub struct Unit<'a> {
     pub pos: Pos,
     pub is_unsafe: bool,
@@ -16,51 +21,84 @@ pub struct Unit<'a> {
 }
 
 /// What a unit is. A module without EXPORTS exports the interface of its own name.
-#[derive(Drop)]
+#[derive(Clone, Copy)]
 pub enum UnitKind<'a> {
     Interface {
-        imports: Vec<Import<'a>>,
-        declarations: Vec<Decl<'a>>,
+        imports: &'a [Import<'a>],
+        declarations: Kept<'a, &'a [Decl<'a>]>,
     },
     /// `INTERFACE I = G(A1, A2) END I.`
     InterfaceInstance {
         generic: Name<'a>,
-        actuals: Vec<Name<'a>>,
+        actuals: &'a [Name<'a>],
     },
     Module {
-        exports: Option<Vec<Name<'a>>>,
-        imports: Vec<Import<'a>>,
-        block: Block<'a>,
+        exports: Option<&'a [Name<'a>]>,
+        imports: &'a [Import<'a>],
+        block: Kept<'a, Block<'a>>,
     },
     /// `MODULE M = G(A1, A2) END M.`
     ModuleInstance {
-        exports: Option<Vec<Name<'a>>>,
+        exports: Option<&'a [Name<'a>]>,
         generic: Name<'a>,
-        actuals: Vec<Name<'a>>,
+        actuals: &'a [Name<'a>],
     },
     GenericInterface {
-        formals: Vec<Name<'a>>,
-        imports: Vec<Import<'a>>,
-        declarations: Vec<Decl<'a>>,
+        formals: &'a [Name<'a>],
+        imports: &'a [Import<'a>],
+        declarations: Kept<'a, &'a [Decl<'a>]>,
     },
     GenericModule {
-        formals: Vec<Name<'a>>,
-        imports: Vec<Import<'a>>,
-        block: Block<'a>,
+        formals: &'a [Name<'a>],
+        imports: &'a [Import<'a>],
+        block: Kept<'a, Block<'a>>,
     },
 }
 
+impl<'a> Unit<'a> {
+    /// Its imports; none of an instance.
+    pub fn imports(&self) -> &'a [Import<'a>] {
+        match self.kind {
+            UnitKind::Interface { imports, .. }
+            | UnitKind::Module { imports, .. }
+            | UnitKind::GenericInterface { imports, .. }
+            | UnitKind::GenericModule { imports, .. } => imports,
+            UnitKind::InterfaceInstance { .. } | UnitKind::ModuleInstance { .. } => &[],
+        }
+    }
+
+    /// Its declarations; none of an instance.
+    pub fn declarations(&self) -> &'a [Decl<'a>] {
+        match self.kind {
+            UnitKind::Interface { declarations, .. }
+            | UnitKind::GenericInterface { declarations, .. } => **declarations,
+            UnitKind::Module { block, .. } | UnitKind::GenericModule { block, .. } => {
+                block.declarations
+            }
+            UnitKind::InterfaceInstance { .. } | UnitKind::ModuleInstance { .. } => &[],
+        }
+    }
+
+    /// The statements of a module's body; none of another unit.
+    pub fn statements(&self) -> &'a [Stmt<'a>] {
+        match self.kind {
+            UnitKind::Module { block, .. } | UnitKind::GenericModule { block, .. } => block.body,
+            _ => &[],
+        }
+    }
+}
+
 /// What a unit imports, by the place of the first word: interfaces, or names of one interface.
-#[derive(Drop)]
+#[derive(Clone, Copy, Debug)]
 pub enum Import<'a> {
     Interfaces {
         pos: Pos,
-        items: Vec<ImportItem<'a>>,
+        items: &'a [ImportItem<'a>],
     },
     Names {
         pos: Pos,
         interface: Name<'a>,
-        names: Vec<Name<'a>>,
+        names: &'a [Name<'a>],
     },
 }
 

@@ -1,10 +1,5 @@
 pub mod Definitions
-pub mod Sameness
-pub mod Classes
-pub mod Assumptions
-pub mod Subtypes
-pub mod Reaching
-pub mod Assignments
-pub mod Ranges
+pub mod Kinds
 pub mod Reveals
-pub mod Sizes
+pub mod Noting
+pub mod Marks

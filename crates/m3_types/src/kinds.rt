@@ -1,18 +1,18 @@
-ghost use Rattle.std.specs.Prelude.{◌≡◌, ◌↔◌, IsTrue};
-ghost use Rattle.m3_types.specs.Definitions.{head_at, node_at, AnOpaque, ANull, ARefAny, ARoot};
-ghost use Rattle.m3_types.specs.Subtypes.{is_reference, has_nil, is_below_refany, is_below_root, named_above, NullBelow, RefAnyAbove, RootAbove};
-ghost use Rattle.std.specs.Option.{option_map, option_copied};
+ghost use Rattle.std.specs.Prelude.{◌≡◌, ◌↔◌, ℕ, IsTrue};
+ghost use Rattle.m3_types.specs.Definitions.{head_at, head_of, node_at, AnOpaque, ANull, ARefAny, ARoot};
+ghost use Rattle.m3_types.specs.Kinds.{is_reference, has_nil, is_below_refany, is_below_root, named_above, span, size_of};
+ghost use Rattle.std.specs.Option.{option_map};
 
 use crate::nodes::{TypeId, TypeNode};
 
 /// The definition at a place; none past the end of the list.
-pub(crate) fn node_at(nodes: &[TypeNode], place: usize) -> Option<&TypeNode>
-    ensures { option_copied result ≡ node_at nodes.now place }
+pub fn node_at<'a>(nodes: &[TypeNode<'a>], place: usize) -> Option<TypeNode<'a>>
+    ensures { result ≡ node_at nodes.now place }
 {
-    nodes.get(place)
+    nodes.get(place).copied()
 }
 
-pub(crate) fn is_reference_at(nodes: &[TypeNode], place: usize) -> bool
+pub fn is_reference_at(nodes: &[TypeNode], place: usize) -> bool
     ensures { result ≡ is_reference (head_at nodes.now place) }
 {
     match nodes.get(place) {
@@ -31,7 +31,7 @@ pub(crate) fn is_reference_at(nodes: &[TypeNode], place: usize) -> bool
     }
 }
 
-pub(crate) fn has_nil_at(nodes: &[TypeNode], place: usize) -> bool
+pub fn has_nil_at(nodes: &[TypeNode], place: usize) -> bool
     ensures { result ≡ has_nil (head_at nodes.now place) }
 {
     match nodes.get(place) {
@@ -40,7 +40,7 @@ pub(crate) fn has_nil_at(nodes: &[TypeNode], place: usize) -> bool
     }
 }
 
-fn is_below_refany_at(nodes: &[TypeNode], place: usize) -> bool
+pub fn is_below_refany_at(nodes: &[TypeNode], place: usize) -> bool
     ensures { result ≡ is_below_refany (head_at nodes.now place) }
 {
     match nodes.get(place) {
@@ -56,7 +56,7 @@ fn is_below_refany_at(nodes: &[TypeNode], place: usize) -> bool
     }
 }
 
-fn is_below_root_at(nodes: &[TypeNode], place: usize) -> bool
+pub fn is_below_root_at(nodes: &[TypeNode], place: usize) -> bool
     ensures { result ≡ is_below_root (head_at nodes.now place) }
 {
     match nodes.get(place) {
@@ -65,7 +65,7 @@ fn is_below_root_at(nodes: &[TypeNode], place: usize) -> bool
     }
 }
 
-pub(crate) fn is_null_at(nodes: &[TypeNode], place: usize) -> bool
+pub fn is_null_at(nodes: &[TypeNode], place: usize) -> bool
     ensures { IsTrue result ↔ (head_at nodes.now place ≡ ANull) }
 {
     match nodes.get(place) {
@@ -74,7 +74,7 @@ pub(crate) fn is_null_at(nodes: &[TypeNode], place: usize) -> bool
     }
 }
 
-fn is_refany_at(nodes: &[TypeNode], place: usize) -> bool
+pub fn is_refany_at(nodes: &[TypeNode], place: usize) -> bool
     ensures { IsTrue result ↔ (head_at nodes.now place ≡ ARefAny) }
 {
     match nodes.get(place) {
@@ -83,7 +83,7 @@ fn is_refany_at(nodes: &[TypeNode], place: usize) -> bool
     }
 }
 
-fn is_root_at(nodes: &[TypeNode], place: usize) -> bool
+pub fn is_root_at(nodes: &[TypeNode], place: usize) -> bool
     ensures { IsTrue result ↔ (head_at nodes.now place ≡ ARoot) }
 {
     match nodes.get(place) {
@@ -92,7 +92,7 @@ fn is_root_at(nodes: &[TypeNode], place: usize) -> bool
     }
 }
 
-pub(crate) fn is_opaque_at(nodes: &[TypeNode], place: usize) -> bool
+pub fn is_opaque_at(nodes: &[TypeNode], place: usize) -> bool
     ensures { IsTrue result ↔ (head_at nodes.now place ≡ AnOpaque place) }
 {
     match nodes.get(place) {
@@ -101,30 +101,9 @@ pub(crate) fn is_opaque_at(nodes: &[TypeNode], place: usize) -> bool
     }
 }
 
-/// Whether the first type is NULL and NIL belongs to the second.
-pub(crate) fn null_below(nodes: &[TypeNode], a: usize, b: usize) -> bool
-    ensures { IsTrue result ↔ NullBelow nodes.now a b }
-{
-    is_null_at(nodes, a) && has_nil_at(nodes, b)
-}
-
-/// Whether the second type is REFANY and above the first.
-pub(crate) fn refany_above(nodes: &[TypeNode], a: usize, b: usize) -> bool
-    ensures { IsTrue result ↔ RefAnyAbove nodes.now a b }
-{
-    is_refany_at(nodes, b) && is_below_refany_at(nodes, a)
-}
-
-/// Whether the second type is ROOT and above the first.
-pub(crate) fn root_above(nodes: &[TypeNode], a: usize, b: usize) -> bool
-    ensures { IsTrue result ↔ RootAbove nodes.now a b }
-{
-    is_root_at(nodes, b) && is_below_root_at(nodes, a)
-}
-
 /// What a type's own definition puts above it: the base of a subrange, the parent of an object type,
 /// the bound of an opaque type.
-pub(crate) fn named_above_at(nodes: &[TypeNode], place: usize) -> Option<TypeId>
+pub fn named_above_at(nodes: &[TypeNode], place: usize) -> Option<TypeId>
     ensures { option_map (λ t. t.0) result ≡ named_above (node_at nodes.now place) }
 {
     match nodes.get(place) {
@@ -132,5 +111,36 @@ pub(crate) fn named_above_at(nodes: &[TypeNode], place: usize) -> Option<TypeId>
         | Some(TypeNode::Object(_, above, _, _, _))
         | Some(TypeNode::Opaque(above, _)) => Some(*above),
         _ => None,
+    }
+}
+
+/// The number of members of a range.
+pub fn span(first: i64, last: i64) -> u128
+    ensures { result ≡ span first last }
+{
+    let gap = i128::from(last) - i128::from(first);
+    if gap < 0 { 0 } else { gap as u128 + 1 }
+}
+
+fn size_of_node(node: &TypeNode) -> u128
+    ensures { (place : ℕ) → result ≡ size_of (head_of place node.now) }
+{
+    match node {
+        TypeNode::Integer => 1 << 64,
+        TypeNode::Boolean => 2,
+        TypeNode::Character => 256,
+        TypeNode::Enumeration(names) => names.len() as u128,
+        TypeNode::Subrange(_, first, last) => span(*first, *last),
+        _ => 0,
+    }
+}
+
+/// The number of members of an ordinal type, and 0 where a type isn't one.
+pub fn size_at(nodes: &[TypeNode], place: usize) -> u128
+    ensures { result ≡ size_of (head_at nodes.now place) }
+{
+    match nodes.get(place) {
+        Some(node) => size_of_node(node),
+        None => 0,
     }
 }

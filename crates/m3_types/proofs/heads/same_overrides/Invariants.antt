@@ -1,7 +1,6 @@
 use Rattle.std.proofs.Common.{◌≡◌, map, take}
-use Rattle.m3_types.specs.Definitions.{head_of_override}
 use Rattle.m3_types.proofs.heads.same_overrides.Given as goal
 
--- the overrides so far are equal but for their types
+-- the names of the overrides so far are equal
 abbrev pub invariant-loop-i : goal.invariant-loop-i
-invariant-loop-i l = map head_of_override (take l.i l.xs) ≡ map head_of_override (take l.i l.ys)
+invariant-loop-i l = map (λ o. o.name.now) (take l.i l.xs) ≡ map (λ o. o.name.now) (take l.i l.ys)

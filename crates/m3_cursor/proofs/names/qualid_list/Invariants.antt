@@ -1,0 +1,8 @@
+use Rattle.std.proofs.Common.{◌≤◌, length}
+use Rattle.m3_cursor.proofs.names.qualid_list.Given as goal
+
+abbrev pub invariant-names : goal.invariant-names
+invariant-names l = length l.reader.rest.now ≤ length l.initial.reader.rest.now
+
+abbrev pub decreases-names : goal.decreases-names
+decreases-names l = length l.reader.rest.now

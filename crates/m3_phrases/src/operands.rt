@@ -1,0 +1,308 @@
+ghost use Rattle.std.specs.Prelude.{◌<◌, ◌≤◌, OnSome, length};
+ghost use Rattle.m3_cursor.specs.Readers.{Follows};
+
+use crate::expressions::{expression, phrase};
+use crate::settings::{Found, Setting, Want};
+use crate::trees::{qualid_of, type_of};
+use crate::types::{named_type, opened_type};
+use m3_cursor::{Reader, begins_type, goes_on};
+use m3_syntax::{Actual, Element, Expr, Name, Selector, Sign, TokenKind, TypeExp, TypeName, Word};
+
+/// One operand with its selectors, or a type that no brace follows.
+#[cycle(expressions)]
+pub fn operand<'a>(reader: &mut Reader<'_, 'a>, setting: Setting) -> Found<'a>
+    ensures { Follows reader.old reader.new }
+{
+    let found = without_brace(reader, setting);
+    if !reader.is_sign(Sign::OpenBrace) {
+        return found;
+    }
+    let constructor = constructor(reader, setting, found);
+    Found::Value(selected(reader, setting, constructor))
+}
+
+/// An operand up to the brace of a constructor, or a type. Behind a name it may be an object type of which
+/// that is the parent.
+#[cycle(expressions)]
+fn without_brace<'a>(reader: &mut Reader<'_, 'a>, setting: Setting) -> Found<'a>
+    ensures { Follows reader.old reader.new }
+{
+    let expr = match primary(reader, setting) {
+        Found::Value(expr) => selected(reader, setting, expr),
+        kind => return kind,
+    };
+    if !goes_on_as_object(reader, setting.want) {
+        return Found::Value(expr);
+    }
+    let Some(parent) = qualid_of(&expr) else {
+        reader.unexpected();
+        return Found::Value(expr);
+    };
+    match inside_type(reader, setting) {
+        Some(room) => Found::TypeExp(named_type(reader, room, TypeName::Named(parent))),
+        None => Found::Value(expr),
+    }
+}
+
+/// Whether an object type follows the name of its parent. Behind the text of BRANDED the word OBJECT
+/// begins what is branded.
+fn goes_on_as_object(reader: &Reader<'_, '_>, want: Want) -> bool {
+    reader.is_word(Word::Branded) || (reader.is_word(Word::Object) && want != Want::Brand)
+}
+
+/// The room inside a type that begins with an expression. An actual may be the type itself.
+fn inside_type(reader: &mut Reader<'_, '_>, setting: Setting) -> Option<u32>
+    ensures { Follows reader.old reader.new }
+{
+    match reader.kind() {
+        Some(kind) if begins_type(kind) => match setting.want {
+            Want::Actual => Some(setting.room),
+            _ => reader.inside(setting.room),
+        },
+        _ => {
+            reader.unexpected();
+            None
+        }
+    }
+}
+
+/// The beginning of an operand: a name, a literal, a parenthesis, or a type that is no name.
+#[cycle(expressions)]
+fn primary<'a>(reader: &mut Reader<'_, 'a>, setting: Setting) -> Found<'a>
+    ensures { Follows reader.old reader.new }
+{
+    let pos = reader.pos();
+    match reader.kind() {
+        Some(TokenKind::Ident) => Found::Value(Expr::Name(reader.take_name())),
+        Some(TokenKind::Number(value)) => {
+            reader.step();
+            Found::Value(Expr::Number { pos, value })
+        }
+        Some(TokenKind::CharLit(value)) => {
+            reader.step();
+            Found::Value(Expr::CharLit { pos, value })
+        }
+        Some(TokenKind::TextLit) => {
+            let text = reader.take_text(TokenKind::TextLit);
+            Found::Value(Expr::TextLit { pos, text })
+        }
+        Some(TokenKind::Symbol(Sign::OpenParen)) => parenthesis(reader, setting),
+        _ => match inside_type(reader, setting) {
+            Some(room) => Found::TypeExp(opened_type(reader, room)),
+            None => Found::Value(Expr::Missing { pos }),
+        },
+    }
+}
+
+/// A phrase in parentheses.
+#[cycle(expressions)]
+fn parenthesis<'a>(reader: &mut Reader<'_, 'a>, setting: Setting) -> Found<'a>
+    ensures { Follows reader.old reader.new }
+{
+    let pos = reader.take_sign(Sign::OpenParen);
+    let want = match setting.want {
+        Want::Actual => Want::Actual,
+        _ => Want::Value,
+    };
+    let inner = phrase(reader, setting.room, want);
+    reader.take_sign(Sign::CloseParen);
+    match inner {
+        Found::Value(expr) => Found::Value(Expr::Parenthesis {
+            pos,
+            inner: reader.expr(expr),
+        }),
+        Found::TypeExp(kind) => Found::TypeExp(TypeExp::Parenthesis {
+            pos,
+            inner: reader.type_exp(kind),
+        }),
+    }
+}
+
+/// An operand with the selectors that follow it.
+#[cycle(expressions)]
+fn selected<'a>(reader: &mut Reader<'_, 'a>, setting: Setting, operand: Expr<'a>) -> Expr<'a>
+    ensures { Follows reader.old reader.new }
+{
+    let mut selectors = Vec::new(reader.alloc());
+    'selectors: while let Some(selector) = selector(reader, setting) {
+        reader.put(&mut selectors, selector);
+    }
+    let selectors = reader.row(selectors);
+    if selectors.is_empty() {
+        return operand;
+    }
+    Expr::Selected {
+        pos: operand.pos(),
+        operand: reader.expr(operand),
+        selectors,
+    }
+}
+
+/// The selector that is here, if one is.
+#[cycle(expressions)]
+fn selector<'a>(reader: &mut Reader<'_, 'a>, setting: Setting) -> Option<Selector<'a>>
+    ensures follows { Follows reader.old reader.new }
+    ensures past { OnSome result (length reader.new.rest.now < length reader.old.rest.now) }
+{
+    let pos = reader.pos();
+    if reader.skip_sign(Sign::Caret) {
+        Some(Selector::Dereference(pos))
+    } else if reader.skip_sign(Sign::Dot) {
+        Some(Selector::Member(reader.take_name()))
+    } else if reader.skip_sign(Sign::OpenBracket) {
+        Some(Selector::Index(pos, indexes(reader, setting.room)))
+    } else if reader.skip_sign(Sign::OpenParen) {
+        Some(Selector::Call(pos, actuals(reader, setting.calls)))
+    } else {
+        None
+    }
+}
+
+/// The expressions behind an opening bracket, at least one, up to and with the closing one.
+#[cycle(expressions)]
+fn indexes<'a>(reader: &mut Reader<'_, 'a>, room: u32) -> &'a [Expr<'a>]
+    ensures { Follows reader.old reader.new }
+{
+    let mut indexes = Vec::new(reader.alloc());
+    'indexes: loop {
+        let index = *expression(reader, room);
+        reader.put(&mut indexes, index);
+        if !reader.skip_sign(Sign::Comma) {
+            break;
+        }
+    }
+    reader.take_sign(Sign::CloseBracket);
+    reader.row(indexes)
+}
+
+/// The actuals behind an opening parenthesis, up to and with the closing one.
+#[cycle(expressions)]
+fn actuals<'a>(reader: &mut Reader<'_, 'a>, room: u32) -> &'a [Actual<'a>]
+    ensures { Follows reader.old reader.new }
+{
+    if reader.skip_sign(Sign::CloseParen) {
+        return reader.no_items();
+    }
+    let mut actuals = Vec::new(reader.alloc());
+    'actuals: loop {
+        let actual = actual(reader, room);
+        reader.put(&mut actuals, actual);
+        if !reader.skip_sign(Sign::Comma) {
+            break;
+        }
+    }
+    reader.take_sign(Sign::CloseParen);
+    reader.row(actuals)
+}
+
+#[cycle(expressions)]
+fn actual<'a>(reader: &mut Reader<'_, 'a>, room: u32) -> Actual<'a>
+    ensures { Follows reader.old reader.new }
+{
+    if let Some(name) = binding(reader) {
+        return Actual::Named(name, expression(reader, room));
+    }
+    if let Some(name) = lone_name(reader, room) {
+        return Actual::Value(reader.expr(Expr::Name(name)));
+    }
+    match phrase(reader, room, Want::Actual) {
+        Found::Value(expr) => Actual::Value(reader.expr(expr)),
+        Found::TypeExp(kind) => Actual::Type(reader.type_exp(kind)),
+    }
+}
+
+/// Goes past a name and `:=`, where they are here.
+fn binding<'a>(reader: &mut Reader<'_, 'a>) -> Option<Name<'a>>
+    ensures { Follows reader.old reader.new }
+{
+    if !reader.is_name() || reader.next_kind() != Some(TokenKind::Symbol(Sign::Assign)) {
+        return None;
+    }
+    let name = reader.take_name();
+    reader.take_sign(Sign::Assign);
+    Some(name)
+}
+
+/// A name that begins an actual or an element where no construct can be opened any more: it needs none
+/// yet, as it may stand before `:=`. What goes on with it lies too deep.
+fn lone_name<'a>(reader: &mut Reader<'_, 'a>, room: u32) -> Option<Name<'a>>
+    ensures { Follows reader.old reader.new }
+{
+    if room > 0 || !reader.is_name() {
+        return None;
+    }
+    let name = reader.take_name();
+    match reader.kind() {
+        Some(kind) if goes_on(kind) => reader.too_deep(),
+        _ => {}
+    }
+    Some(name)
+}
+
+/// The constructor of a type whose opening brace is here.
+#[cycle(expressions)]
+fn constructor<'a>(reader: &mut Reader<'_, 'a>, setting: Setting, head: Found<'a>) -> Expr<'a>
+    ensures { Follows reader.old reader.new }
+{
+    let kind = match head {
+        Found::Value(expr) => type_of(reader, &expr),
+        Found::TypeExp(kind) => Some(kind),
+    };
+    let Some(kind) = kind else {
+        let pos = reader.pos();
+        reader.unexpected();
+        return Expr::Missing { pos };
+    };
+    let brace = reader.take_sign(Sign::OpenBrace);
+    let (elements, is_filled) = elements(reader, setting.room);
+    Expr::Constructor {
+        pos: kind.pos(),
+        kind: reader.type_exp(kind),
+        brace,
+        elements,
+        is_filled,
+    }
+}
+
+/// The elements behind an opening brace, up to and with the closing one, and whether `..` ends them.
+#[cycle(expressions)]
+fn elements<'a>(reader: &mut Reader<'_, 'a>, room: u32) -> (&'a [Element<'a>], bool)
+    ensures { Follows reader.old reader.new }
+{
+    if reader.skip_sign(Sign::CloseBrace) {
+        return (reader.no_items(), false);
+    }
+    let mut elements = Vec::new(reader.alloc());
+    let mut is_filled = false;
+    'elements: loop {
+        let element = element(reader, room);
+        reader.put(&mut elements, element);
+        if !reader.skip_sign(Sign::Comma) {
+            break;
+        }
+        if reader.skip_sign(Sign::DotDot) {
+            is_filled = true;
+            break;
+        }
+    }
+    reader.take_sign(Sign::CloseBrace);
+    (reader.row(elements), is_filled)
+}
+
+#[cycle(expressions)]
+fn element<'a>(reader: &mut Reader<'_, 'a>, room: u32) -> Element<'a>
+    ensures { Follows reader.old reader.new }
+{
+    if let Some(name) = binding(reader) {
+        return Element::Named(name, expression(reader, room));
+    }
+    let first = match lone_name(reader, room) {
+        Some(name) => reader.expr(Expr::Name(name)),
+        None => expression(reader, room),
+    };
+    if reader.skip_sign(Sign::DotDot) {
+        Element::Range(first, expression(reader, room))
+    } else {
+        Element::Value(first)
+    }
+}

@@ -1,0 +1,6 @@
+pub mod Forest
+pub mod Parents
+pub mod Joining
+pub mod Agreement
+pub mod Keeping
+pub mod Comparing

@@ -1,0 +1,3 @@
+pub mod Sameness
+pub mod Classes
+pub mod Assumptions

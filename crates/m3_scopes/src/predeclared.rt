@@ -1,0 +1,83 @@
+/// The names that every program has and none can declare, with those of the language that this
+/// profile leaves out.
+#[derive(Clone, Copy, Debug, PartialEq, Eq)]
+pub enum Predeclared {
+    Abs,
+    Boolean,
+    Cardinal,
+    Char,
+    Dec,
+    False,
+    First,
+    Inc,
+    Integer,
+    Istype,
+    Last,
+    Max,
+    Min,
+    Mutex,
+    Narrow,
+    New,
+    Nil,
+    Null,
+    Number,
+    Ord,
+    Refany,
+    Subarray,
+    Text,
+    True,
+    Val,
+    /// A name for floating numbers.
+    Floating,
+    /// A name of an unsafe or other feature that is left out.
+    LeftOut,
+}
+
+const NAMES: [(&[u8], Predeclared); 41] = [
+    (b"ABS", Predeclared::Abs),
+    (b"BOOLEAN", Predeclared::Boolean),
+    (b"CARDINAL", Predeclared::Cardinal),
+    (b"CHAR", Predeclared::Char),
+    (b"DEC", Predeclared::Dec),
+    (b"FALSE", Predeclared::False),
+    (b"FIRST", Predeclared::First),
+    (b"INC", Predeclared::Inc),
+    (b"INTEGER", Predeclared::Integer),
+    (b"ISTYPE", Predeclared::Istype),
+    (b"LAST", Predeclared::Last),
+    (b"MAX", Predeclared::Max),
+    (b"MIN", Predeclared::Min),
+    (b"MUTEX", Predeclared::Mutex),
+    (b"NARROW", Predeclared::Narrow),
+    (b"NEW", Predeclared::New),
+    (b"NIL", Predeclared::Nil),
+    (b"NULL", Predeclared::Null),
+    (b"NUMBER", Predeclared::Number),
+    (b"ORD", Predeclared::Ord),
+    (b"REFANY", Predeclared::Refany),
+    (b"SUBARRAY", Predeclared::Subarray),
+    (b"TEXT", Predeclared::Text),
+    (b"TRUE", Predeclared::True),
+    (b"VAL", Predeclared::Val),
+    (b"REAL", Predeclared::Floating),
+    (b"LONGREAL", Predeclared::Floating),
+    (b"EXTENDED", Predeclared::Floating),
+    (b"FLOAT", Predeclared::Floating),
+    (b"FLOOR", Predeclared::Floating),
+    (b"CEILING", Predeclared::Floating),
+    (b"ROUND", Predeclared::Floating),
+    (b"TRUNC", Predeclared::Floating),
+    (b"LOOPHOLE", Predeclared::LeftOut),
+    (b"ADR", Predeclared::LeftOut),
+    (b"ADDRESS", Predeclared::LeftOut),
+    (b"DISPOSE", Predeclared::LeftOut),
+    (b"ADRSIZE", Predeclared::LeftOut),
+    (b"BITSIZE", Predeclared::LeftOut),
+    (b"BYTESIZE", Predeclared::LeftOut),
+    (b"TYPECODE", Predeclared::LeftOut),
+];
+
+/// The predeclared names with what they stand for.
+pub fn predeclared_names() -> &'static [(&'static [u8], Predeclared)] {
+    &NAMES
+}

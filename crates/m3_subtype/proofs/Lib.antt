@@ -1,0 +1,10 @@
+pub mod Shapes
+pub mod Transitivity
+pub mod Closure
+pub mod Dimensions
+pub mod Signatures
+pub mod Refuting
+pub mod Adding
+pub mod Stepping
+pub mod Exhausting
+pub mod Rows

@@ -1,0 +1,4 @@
+pub mod Subtypes
+pub mod Assignments
+pub mod Reaching
+pub mod Ranges

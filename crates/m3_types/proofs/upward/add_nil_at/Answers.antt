@@ -1,8 +1,0 @@
-use Rattle.std.proofs.Common.{sym}
-use Rattle.m3_types.specs.Subtypes.{nil}
-use Rattle.m3_types.proofs.Stepping.{adds_step}
-use Rattle.m3_types.proofs.upward.add_nil_at.Goals as goal
-
-pub returns-in_ok-add-clause-adds : goal.returns-in_ok-add-clause-adds
-returns-in_ok-add-clause-adds c = λ reveals view.
-    adds_step c.args.nodes.now reveals view c.args.x c.args.y c.args.reached.now.places.items c.add.new.self.places.items c.in_ok-add.ensures.adds (nil (c.requires.null, sym c.if-has_nil_at.ensures))
