@@ -6,6 +6,7 @@ mod assign;
 mod assigning;
 mod below;
 mod direct;
+mod heights;
 mod named;
 mod procedures;
 mod raises;
