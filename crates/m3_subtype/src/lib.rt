@@ -13,6 +13,8 @@ mod raises;
 mod reached;
 mod relations;
 mod upward;
+mod seen;
 
 pub use assign::Assign;
 pub use relations::{assignable, subtype};
+pub use seen::{structure, visible};
