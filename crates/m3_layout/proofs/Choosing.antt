@@ -5,7 +5,7 @@ use Rattle.m3_types.specs.declared.nodes.TypeNode.{TypeNode}
 use Rattle.m3_types.specs.declared.nodes.TypeNode.TheVariants.{OpenArray, RefTo}
 use Rattle.m3_types.specs.declared.nodes.Reveal.{Reveal}
 use Rattle.m3_types.specs.Definitions.{node_at}
-use Rattle.m3_types.specs.Sizes.{HasSize}
+use Rattle.m3_sizes.specs.Sizes.{HasSize}
 use Rattle.m3_layout.specs.Cells.{Layout, array_element, ref_target, open_element, target_cell, object_cell, unveiled, cell_in, cell_of, IsObject, line_of, line_words, HasCellIn, HasCell}
 
 some_is : {m n : ℕ} → Some m ≡ Some n → m ≡ n

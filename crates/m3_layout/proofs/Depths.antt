@@ -1,15 +1,15 @@
 -- What is told of a type whose parts are nested less than so deep stays the same at greater depths.
 use Rattle.std.proofs.Common.{◌≡◌, ℕ, zero, suc, ◌+◌, ◌*◌, ◌-◌, ◌≤◌, List, [], ◌∷◌, ◌++◌, length, Option, Some, None, refl, sym, ◌∙◌, ap, subst, arith, add-zero, add-suc}
 use Rattle.std.specs.Option.{option_map_or}
-use Rattle.std.specs.declared.vec.Vec.{Vec}
+use Rattle.std.specs.Borrow.{Bor}
 use Rattle.std.specs.declared.alloc.Global.{Global}
 use Rattle.m3_types.specs.declared.nodes.TypeId.{TypeId}
 use Rattle.m3_types.specs.declared.nodes.Field.{Field}
 use Rattle.m3_types.specs.declared.nodes.TypeNode.{TypeNode}
-use Rattle.m3_types.specs.declared.nodes.TypeNode.TheVariants.{FixedArray, OpenArray, Fields, RefTo, Object, Opaque, Null, RefAny, Text, Mutex, Root}
+use Rattle.m3_types.specs.declared.nodes.TypeNode.TheVariants.{Reserved, FixedArray, OpenArray, Fields, RefTo, Object, Opaque, Null, RefAny, Text, Mutex, Root, Constant}
 use Rattle.m3_types.specs.Definitions.{node_at, head_at}
-use Rattle.m3_types.specs.Subtypes.{size_of}
-use Rattle.m3_types.specs.Sizes.{most_words, field_words, words_of_node, words_to_depth, EachField, EachPart, HasParts, IsSized, HasSize}
+use Rattle.m3_types.specs.Kinds.{size_of}
+use Rattle.m3_sizes.specs.Sizes.{most_words, field_words, words_of_node, words_to_depth, EachField, EachPart, HasParts, IsSized, HasSize}
 use Rattle.m3_layout.specs.Pointers.{value_words, field_pointers, element_pointers, pointers_of_node, pointers_to_depth}
 use Rattle.m3_layout.specs.Walking.{effort_of_node, effort_to_depth}
 
@@ -18,9 +18,11 @@ each_field P Q h [] p = tt
 each_field P Q h (f ∷ fs) p = (h f.kind.0 p.0, each_field P Q h fs p.1)
 
 pub each_part : (P Q : ℕ → Type 0) → ((j : ℕ) → P j → Q j) → (n : TypeNode) → EachPart P n → EachPart Q n
-each_part P Q h (Fields fields) p = each_field P Q h fields.items p
+each_part P Q h (Fields fields) p = each_field P Q h fields.now p
 each_part P Q h (FixedArray index element) p = h element.0 p
 each_part P Q h (OpenArray element) p = p
+each_part P Q h Reserved p = p
+each_part P Q h (Constant value) p = p
 each_part P Q h _ p = tt
 
 has_parts : (P Q : ℕ → Type 0) → ((j : ℕ) → P j → Q j) → (o : Option TypeNode) → HasParts P o → HasParts Q o
@@ -43,7 +45,7 @@ element_pointers_equal words p q h (suc count) at =
 
 module _ (nodes : List TypeNode) where
   pub words_equal : (v w : ℕ → ℕ) (n : TypeNode) → EachPart (λ j. v j ≡ w j) n → words_of_node nodes v n ≡ words_of_node nodes w n
-  words_equal v w (Fields fields) p = fields_equal v w fields.items p
+  words_equal v w (Fields fields) p = fields_equal v w fields.now p
   words_equal v w (FixedArray index element) p = ap (λ k. size_of (head_at nodes index.0) * k) p
   words_equal v w _ p = refl
 
@@ -52,7 +54,7 @@ module _ (nodes : List TypeNode) where
   words_step v w (Some n) p = words_equal v w n p
 
   pointers_equal : (w : ℕ → ℕ) (p q : ℕ → ℕ → List ℕ) (n : TypeNode) → EachPart (λ j. (at : ℕ) → p at j ≡ q at j) n → (at : ℕ) → pointers_of_node nodes w p at n ≡ pointers_of_node nodes w q at n
-  pointers_equal w p q (Fields fields) h at = field_pointers_equal w p q fields.items h at
+  pointers_equal w p q (Fields fields) h at = field_pointers_equal w p q fields.now h at
   pointers_equal w p q (FixedArray index element) h at = element_pointers_equal (w element.0) (λ k. p k element.0) (λ k. q k element.0) h (size_of (head_at nodes index.0)) at
   pointers_equal w p q (RefTo brand target) h at = refl
   pointers_equal w p q (Object brand parent fields methods overrides) h at = refl
@@ -69,7 +71,7 @@ module _ (nodes : List TypeNode) where
   pointers_step w p q (Some n) h at = pointers_equal w p q n h at
 
   effort_equal : (v w : ℕ → ℕ) (n : TypeNode) → EachPart (λ j. v j ≡ w j) n → effort_of_node nodes v n ≡ effort_of_node nodes w n
-  effort_equal v w (Fields fields) p = ap (λ k. 2 + k) (fields_equal (λ j. 1 + v j) (λ j. 1 + w j) fields.items (each_field (λ j. v j ≡ w j) (λ j. 1 + v j ≡ 1 + w j) (λ j e. ap (λ k. 1 + k) e) fields.items p))
+  effort_equal v w (Fields fields) p = ap (λ k. 2 + k) (fields_equal (λ j. 1 + v j) (λ j. 1 + w j) fields.now (each_field (λ j. v j ≡ w j) (λ j. 1 + v j ≡ 1 + w j) (λ j e. ap (λ k. 1 + k) e) fields.now p))
   effort_equal v w (FixedArray index element) p = ap (λ k. 2 + size_of (head_at nodes index.0) * (1 + k)) p
   effort_equal v w _ p = refl
 
@@ -117,10 +119,10 @@ module _ (nodes : List TypeNode) where
     pub pointers : (at : ℕ) → pointers_to_depth nodes depth at i ≡ field_pointers (value_words nodes) (pointers_to_depth nodes depth) at fs
     pub effort : effort_to_depth nodes depth i ≡ 2 + field_words (λ j. 1 + effort_to_depth nodes depth j) fs
 
-  pub of_fields : (depth i : ℕ) (fields : Vec Field Global) → node_at nodes i ≡ Some (Fields fields) → IsSized nodes depth i → OfFields depth i fields.items
+  pub of_fields : (depth i : ℕ) (fields : Bor (List Field)) → node_at nodes i ≡ Some (Fields fields) → IsSized nodes depth i → OfFields depth i fields.now
   of_fields zero i fields e s = absurd s
   of_fields (suc depth) i fields e s =
-      let fs = fields.items in
+      let fs = fields.now in
       let t : EachField (IsSized nodes depth) fs = subst (HasParts (IsSized nodes depth)) e s.0 in
       record {
         sizes = each_field (IsSized nodes depth) (HasSize nodes) (λ j t. ∣ (depth, t) ∣₁) fs t;

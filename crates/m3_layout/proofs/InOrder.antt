@@ -9,7 +9,7 @@ use Rattle.m3_types.specs.declared.nodes.TypeNode.TheVariants.{Object, Opaque, M
 use Rattle.m3_types.specs.declared.nodes.Reveal.{Reveal}
 use Rattle.m3_types.specs.declared.nodes.Secret.TheVariants.{Revealed, Thread, Condition}
 use Rattle.m3_types.specs.Definitions.{node_at}
-use Rattle.m3_types.specs.Sizes.{most_words, words_to_depth, IsSized, HasSize, IsShallow}
+use Rattle.m3_sizes.specs.Sizes.{most_words, words_to_depth, IsSized, HasSize, IsShallow}
 use Rattle.m3_layout.specs.Pointers.{value_words, value_pointers, RisesWithin}
 use Rattle.m3_layout.specs.Cells.{CanStand, own_words, own_pointers, line_words, line_pointers}
 use Rattle.m3_layout.proofs.Depths.{each_field}
@@ -26,7 +26,7 @@ module _ (nodes : List TypeNode) (reveals : List Reveal) (shallow : IsShallow no
   own_rises : (i : ℕ) (o : Option TypeNode) → CanStand nodes reveals i o → (at : ℕ) → RisesWithin at (at + own_words nodes o) (own_pointers nodes at o)
   own_rises i None s at = absurd s
   own_rises i (Some (Object brand parent fields methods overrides)) s at =
-      fields_rise (value_words nodes) (value_pointers nodes) fields.items (each_field (HasSize nodes) (λ j. (at : ℕ) → RisesWithin at (at + value_words nodes j) (value_pointers nodes at j)) size_rises fields.items s) at
+      fields_rise (value_words nodes) (value_pointers nodes) fields.now (each_field (HasSize nodes) (λ j. (at : ℕ) → RisesWithin at (at + value_words nodes j) (value_pointers nodes at j)) size_rises fields.now s) at
   own_rises i (Some (Opaque bound Thread)) s at = (omega arith, omega arith)
   own_rises i (Some (Opaque bound Revealed)) s at = omega arith
   own_rises i (Some (Opaque bound Condition)) s at = omega arith

@@ -11,7 +11,7 @@ use Rattle.m3_types.specs.declared.nodes.TypeNode.TheVariants.{Object, Opaque, M
 use Rattle.m3_types.specs.declared.nodes.Secret.TheVariants.{Revealed, Thread, Condition}
 use Rattle.m3_types.specs.declared.nodes.Reveal.{Reveal}
 use Rattle.m3_types.specs.Definitions.{node_at}
-use Rattle.m3_types.specs.Sizes.{field_words, EachField, HasSize}
+use Rattle.m3_sizes.specs.Sizes.{field_words, EachField, HasSize}
 use Rattle.m3_layout.specs.Pointers.{value_words, value_pointers, field_pointers}
 use Rattle.m3_layout.specs.Cells.{object_fields, is_thread, mutex_words, CanStand, OfParent, IsObject, parent_at, line_to, line_of, line_words, line_pointers, own_words, own_pointers}
 
@@ -101,7 +101,7 @@ thread_own nodes (Some _) at t = let z : ⊥ = cc in absurd z
 pub fields_own : (nodes : List TypeNode) (reveals : List Reveal) (i : ℕ) (o : Option TypeNode) (at : ℕ) (fs : List Field) → Some fs ≡ object_fields o → (CanStand nodes reveals i o → EachField (HasSize nodes) fs) × (own_words nodes o ≡ field_words (value_words nodes) fs) × (own_pointers nodes at o ≡ field_pointers (value_words nodes) (value_pointers nodes) at fs)
 fields_own nodes reveals i None at fs h = let z : ⊥ = cc in absurd z
 fields_own nodes reveals i (Some (Object brand parent fields methods overrides)) at fs h =
-    let e : fields.items ≡ fs = cc in
+    let e : fields.now ≡ fs = cc in
     (λ s. subst (EachField (HasSize nodes)) e s, ap (field_words (value_words nodes)) e, ap (field_pointers (value_words nodes) (value_pointers nodes) at) e)
 fields_own nodes reveals i (Some _) at fs h = let z : ⊥ = cc in absurd z
 

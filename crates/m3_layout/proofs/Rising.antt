@@ -5,10 +5,10 @@ use Rattle.std.specs.List.{AllByRecursion}
 use Rattle.std.proofs.lemmas.List.Elements.{All-from_recursion}
 use Rattle.m3_types.specs.declared.nodes.Field.{Field}
 use Rattle.m3_types.specs.declared.nodes.TypeNode.{TypeNode}
-use Rattle.m3_types.specs.declared.nodes.TypeNode.TheVariants.{Integer, Boolean, Character, Enumeration, Subrange, FixedArray, OpenArray, Fields, SetOf, RefTo, Object, Procedure, Opaque, Null, RefAny, Text, Mutex, Root}
+use Rattle.m3_types.specs.declared.nodes.TypeNode.TheVariants.{Reserved, Integer, Boolean, Character, Enumeration, Subrange, FixedArray, OpenArray, Fields, SetOf, RefTo, Object, Procedure, Opaque, Null, RefAny, Text, Mutex, Root, Constant}
 use Rattle.m3_types.specs.Definitions.{node_at, head_at}
-use Rattle.m3_types.specs.Subtypes.{size_of}
-use Rattle.m3_types.specs.Sizes.{field_words, set_words, words_of_node, words_to_depth, EachField, EachPart, HasParts, IsSized}
+use Rattle.m3_types.specs.Kinds.{size_of}
+use Rattle.m3_sizes.specs.Sizes.{field_words, set_words, words_of_node, words_to_depth, EachField, EachPart, HasParts, IsSized}
 use Rattle.m3_layout.specs.Pointers.{value_words, field_pointers, element_pointers, pointers_of_node, pointers_to_depth, value_pointers, RisesWithin}
 use Rattle.m3_layout.proofs.Depths.{each_part, words_equal, words_at}
 
@@ -54,9 +54,11 @@ elements_rise words p h (suc count) at =
 
 module _ (nodes : List TypeNode) where
   node_rises : (w : ℕ → ℕ) (p : ℕ → ℕ → List ℕ) (n : TypeNode) → EachPart (Rises w p) n → (at : ℕ) → RisesWithin at (at + words_of_node nodes w n) (pointers_of_node nodes w p at n)
-  node_rises w p (Fields fields) h at = fields_rise w p fields.items h at
+  node_rises w p (Fields fields) h at = fields_rise w p fields.now h at
   node_rises w p (FixedArray index element) h at = elements_rise (w element.0) (λ k. p k element.0) h (size_of (head_at nodes index.0)) at
   node_rises w p (OpenArray element) h at = absurd h
+  node_rises w p Reserved h at = absurd h
+  node_rises w p (Constant value) h at = absurd h
   node_rises w p (RefTo brand target) h at = one_rises at
   node_rises w p (Object brand parent fields methods overrides) h at = one_rises at
   node_rises w p (Opaque bound secret) h at = one_rises at

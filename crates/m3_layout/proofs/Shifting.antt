@@ -6,7 +6,7 @@ use Rattle.m3_types.specs.declared.nodes.Field.{Field}
 use Rattle.m3_types.specs.declared.nodes.TypeNode.{TypeNode}
 use Rattle.m3_types.specs.declared.nodes.TypeNode.TheVariants.{FixedArray, Fields, RefTo, Object, Opaque, Null, RefAny, Text, Mutex, Root}
 use Rattle.m3_types.specs.Definitions.{node_at, head_at}
-use Rattle.m3_types.specs.Subtypes.{size_of}
+use Rattle.m3_types.specs.Kinds.{size_of}
 use Rattle.m3_layout.specs.Pointers.{value_words, field_pointers, element_pointers, pointers_of_node, pointers_to_depth, value_pointers}
 
 -- from a word on to another
@@ -36,7 +36,7 @@ elements_moved words p a b h (suc count) k =
 
 module _ (nodes : List TypeNode) where
   node_moved : (w : ℕ → ℕ) (p : ℕ → ℕ → List ℕ) (a b : ℕ) → ((j k : ℕ) → map (moved a b) (p (a + k) j) ≡ p (b + k) j) → (n : TypeNode) (k : ℕ) → map (moved a b) (pointers_of_node nodes w p (a + k) n) ≡ pointers_of_node nodes w p (b + k) n
-  node_moved w p a b h (Fields fields) k = fields_moved w p a b h fields.items k
+  node_moved w p a b h (Fields fields) k = fields_moved w p a b h fields.now k
   node_moved w p a b h (FixedArray index element) k = elements_moved (w element.0) (λ m. p m element.0) a b (h element.0) (size_of (head_at nodes index.0)) k
   node_moved w p a b h (RefTo brand target) k = one_moved a b k
   node_moved w p a b h (Object brand parent fields methods overrides) k = one_moved a b k

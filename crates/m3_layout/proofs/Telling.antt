@@ -4,15 +4,15 @@ use Rattle.std.specs.Option.{option_map_or}
 use Rattle.std.specs.BTreeMap.{BTreeMap}
 use Rattle.std.proofs.lemmas.List.{append-nil, drop_at}
 use Rattle.std.proofs.lemmas.List.Elements.{All-nil, All-cons, All-same}
-use Rattle.std.specs.declared.vec.Vec.{Vec}
+use Rattle.std.specs.Borrow.{Bor}
 use Rattle.std.specs.declared.alloc.Global.{Global}
 use Rattle.m3_types.specs.declared.nodes.TypeId.{TypeId}
 use Rattle.m3_types.specs.declared.nodes.Field.{Field}
 use Rattle.m3_types.specs.declared.nodes.TypeNode.{TypeNode}
 use Rattle.m3_types.specs.declared.nodes.TypeNode.TheVariants.{FixedArray, Fields, RefTo, Object, Opaque, Null, RefAny, Text, Mutex, Root}
 use Rattle.m3_types.specs.Definitions.{node_at, head_at, head_of, Missing}
-use Rattle.m3_types.specs.Subtypes.{size_of, is_reference}
-use Rattle.m3_types.specs.Sizes.{field_words, EachField, HasSize, IsSized}
+use Rattle.m3_types.specs.Kinds.{size_of, is_reference}
+use Rattle.m3_sizes.specs.Sizes.{field_words, EachField, HasSize, IsSized}
 use Rattle.m3_layout.specs.declared.walk.Run.{Run}
 use Rattle.m3_layout.specs.declared.walk.Whole.{Whole}
 use Rattle.m3_layout.specs.declared.walk.Task.{Task}
@@ -161,7 +161,7 @@ module _ (nodes : List TypeNode) where
 
   -- ---- what a value's definition says
 
-  record_node : (o : Option TypeNode) → is_record o ≡ true → (fields : Vec Field Global) × (o ≡ Some (Fields fields))
+  record_node : (o : Option TypeNode) → is_record o ≡ true → (fields : Bor (List Field)) × (o ≡ Some (Fields fields))
   record_node None h = let z : ⊥ = cc in absurd z
   record_node (Some (Fields fields)) h = (fields, refl)
   record_node (Some _) h = let z : ⊥ = cc in absurd z
@@ -177,14 +177,14 @@ module _ (nodes : List TypeNode) where
       let t = OneValue whole.kind at in
       let ready = last_ready nodes old tasks t runs w in
       let n = record_node (node_at nodes i) h in
-      let o : OfFields nodes (length nodes) i n.0.items = of_fields nodes (length nodes) i n.0 n.1 ready.0 in
-      let e : fields_at nodes i ≡ n.0.items = ap fields_in n.1 in
+      let o : OfFields nodes (length nodes) i n.0.now = of_fields nodes (length nodes) i n.0 n.1 ready.0 in
+      let e : fields_at nodes i ≡ n.0.now = ap fields_in n.1 in
       let W = value_words nodes in
       let P = value_pointers nodes in
       let E = λ (j : ℕ). 1 + value_effort nodes j in
       let same : task_pointers nodes (FieldsFrom whole 0 at) ≡ value_pointers nodes at i = ap (field_pointers W P at) e ∙ sym (o.pointers at) in
       let sum : field_words W (fields_at nodes i) ≡ value_words nodes i = ap (field_words W) e ∙ sym o.words in
-      let effort : field_words E (fields_at nodes i) ≡ field_words E n.0.items = ap (field_words E) e in
+      let effort : field_words E (fields_at nodes i) ≡ field_words E n.0.now = ap (field_words E) e in
       next_goes old [] old tasks tasks' t (FieldsFrom whole 0 at) runs (sym (append-nil old)) et same w
       (subst (EachField (HasSize nodes)) (sym e) o.sizes, subst (λ k. at + k < 2 ^ 64) (sym sum) ready.1)
       (fresh_open old whole (task_pointers nodes (FieldsFrom whole 0 at)) es same)

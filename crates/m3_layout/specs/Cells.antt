@@ -8,7 +8,7 @@ use Rattle.m3_types.specs.declared.nodes.TypeNode.{TypeNode}
 use Rattle.m3_types.specs.declared.nodes.TypeNode.TheVariants.{OpenArray, RefTo, Object, Opaque, Mutex, Root}
 use Rattle.m3_types.specs.Definitions.{node_at}
 use Rattle.m3_types.specs.Reveals.{full_reveal}
-use Rattle.m3_types.specs.Sizes.{field_words, EachField, HasSize}
+use Rattle.m3_sizes.specs.Sizes.{field_words, EachField, HasSize}
 use Rattle.m3_layout.specs.Pointers.{value_words, value_pointers, field_pointers}
 
 -- The words of a cell that isn't open, its header counted, or of an element of an open one; the number
@@ -51,18 +51,18 @@ open_dims nodes i = dims_below nodes (most_dims nodes) i
 -- the words that a cell of a type has beside fields, and the pointers among them: a mutex has its
 -- holder, a thread its number, its state and its result
 abbrev pub own_words : List TypeNode → Option TypeNode → ℕ
-own_words nodes (Some (Object brand parent fields methods overrides)) = field_words (value_words nodes) fields.items
+own_words nodes (Some (Object brand parent fields methods overrides)) = field_words (value_words nodes) fields.now
 own_words nodes (Some (Opaque bound Thread)) = 3
 own_words nodes (Some Mutex) = 1
 own_words nodes _ = 0
 
 abbrev pub own_pointers : List TypeNode → ℕ → Option TypeNode → List ℕ
-own_pointers nodes at (Some (Object brand parent fields methods overrides)) = field_pointers (value_words nodes) (value_pointers nodes) at fields.items
+own_pointers nodes at (Some (Object brand parent fields methods overrides)) = field_pointers (value_words nodes) (value_pointers nodes) at fields.now
 own_pointers nodes at (Some (Opaque bound Thread)) = (at + 2) ∷ []
 own_pointers nodes at _ = []
 
 abbrev pub object_fields : Option TypeNode → Option (List Field)
-object_fields (Some (Object brand parent fields methods overrides)) = Some fields.items
+object_fields (Some (Object brand parent fields methods overrides)) = Some fields.now
 object_fields _ = None
 
 abbrev pub is_thread : Option TypeNode → Bool
@@ -149,7 +149,7 @@ cell_of nodes reveals i = cell_in nodes reveals (unveiled nodes reveals i) (node
 -- a type that an object type may be or come from: its fields have sizes, or it is fully revealed, or it is
 -- ROOT, MUTEX or a type of the interface Thread
 abbrev pub CanStand : List TypeNode → List Reveal → ℕ → Option TypeNode → Type 0
-CanStand nodes reveals i (Some (Object brand parent fields methods overrides)) = EachField (HasSize nodes) fields.items
+CanStand nodes reveals i (Some (Object brand parent fields methods overrides)) = EachField (HasSize nodes) fields.now
 CanStand nodes reveals i (Some (Opaque bound Revealed)) = IsSome (full_reveal reveals i)
 CanStand nodes reveals i (Some (Opaque bound Thread)) = Unit {0}
 CanStand nodes reveals i (Some (Opaque bound Condition)) = Unit {0}

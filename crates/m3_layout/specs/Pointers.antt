@@ -5,8 +5,8 @@ use Rattle.m3_types.specs.declared.nodes.Field.{Field}
 use Rattle.m3_types.specs.declared.nodes.TypeNode.{TypeNode}
 use Rattle.m3_types.specs.declared.nodes.TypeNode.TheVariants.{FixedArray, Fields, RefTo, Object, Opaque, Null, RefAny, Text, Mutex, Root}
 use Rattle.m3_types.specs.Definitions.{node_at, head_at}
-use Rattle.m3_types.specs.Subtypes.{size_of}
-use Rattle.m3_types.specs.Sizes.{words_to_depth}
+use Rattle.m3_types.specs.Kinds.{size_of}
+use Rattle.m3_sizes.specs.Sizes.{words_to_depth}
 
 -- The words of a value of a type. The parts of a type that has a size are nested less deep than there
 -- are types.
@@ -27,7 +27,7 @@ element_pointers words p at (suc count) = p at ++ element_pointers words p (at +
 -- The pointers of a value that begins at a word: the word itself where it is a reference, those of the
 -- fields of a record and of the elements of a fixed array, and none else. A procedure value has none.
 abbrev pub pointers_of_node : List TypeNode → (ℕ → ℕ) → (ℕ → ℕ → List ℕ) → ℕ → TypeNode → List ℕ
-pointers_of_node nodes w p at (Fields fields) = field_pointers w p at fields.items
+pointers_of_node nodes w p at (Fields fields) = field_pointers w p at fields.now
 pointers_of_node nodes w p at (FixedArray index element) = element_pointers (w element.0) (λ k. p k element.0) at (size_of (head_at nodes index.0))
 pointers_of_node nodes w p at (RefTo brand target) = at ∷ []
 pointers_of_node nodes w p at (Object brand parent fields methods overrides) = at ∷ []

@@ -7,8 +7,8 @@ use Rattle.m3_types.specs.declared.nodes.Field.{Field}
 use Rattle.m3_types.specs.declared.nodes.TypeNode.{TypeNode}
 use Rattle.m3_types.specs.declared.nodes.TypeNode.TheVariants.{Fields, FixedArray}
 use Rattle.m3_types.specs.Definitions.{node_at, head_at}
-use Rattle.m3_types.specs.Subtypes.{size_of}
-use Rattle.m3_types.specs.Sizes.{field_words, EachField, HasSize, IsSized}
+use Rattle.m3_types.specs.Kinds.{size_of}
+use Rattle.m3_sizes.specs.Sizes.{field_words, EachField, HasSize, IsSized}
 use Rattle.m3_layout.specs.declared.walk.Run.{Run}
 use Rattle.m3_layout.specs.declared.walk.Whole.{Whole}
 use Rattle.m3_layout.specs.declared.walk.Task.{Task}
@@ -17,7 +17,7 @@ use Rattle.m3_layout.specs.Pointers.{value_words, value_pointers, field_pointers
 
 -- the fields of a record type
 abbrev pub fields_in : Option TypeNode → List Field
-fields_in (Some (Fields fields)) = fields.items
+fields_in (Some (Fields fields)) = fields.now
 fields_in _ = []
 
 abbrev pub is_record : Option TypeNode → Bool
@@ -84,7 +84,7 @@ pub record IsWalk (nodes : List TypeNode) (offsets : List ℕ) (tasks : List Tas
 -- ---- how much work there is
 
 abbrev pub effort_of_node : List TypeNode → (ℕ → ℕ) → TypeNode → ℕ
-effort_of_node nodes e (Fields fields) = 2 + field_words (λ i. 1 + e i) fields.items
+effort_of_node nodes e (Fields fields) = 2 + field_words (λ i. 1 + e i) fields.now
 effort_of_node nodes e (FixedArray index element) = 2 + size_of (head_at nodes index.0) * (1 + e element.0)
 effort_of_node nodes e _ = 1
 

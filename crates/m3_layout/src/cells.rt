@@ -2,7 +2,7 @@ ghost use Rattle.std.specs.Prelude.{◌≡◌, ◌↔◌, ◌+◌, ◌<◌, ◌�
 ghost use Rattle.m3_layout.specs.Pointers.{RisesWithin};
 ghost use Rattle.std.specs.Option.{option_map};
 ghost use Rattle.m3_types.specs.Definitions.{node_at};
-ghost use Rattle.m3_types.specs.Sizes.{HasSize};
+ghost use Rattle.m3_sizes.specs.Sizes.{HasSize};
 ghost use Rattle.m3_layout.specs.Cells.{HasCell, value_cell, ref_target, IsObject, cell_of, open_element, target_cell, object_cell, line_of, line_words, unveiled};
 ghost use Rattle.m3_layout.specs.Shapes.{layout_of, AreInOrder};
 
@@ -10,7 +10,8 @@ use crate::lines::{line_of, object_words};
 use crate::open::{array_element, open_element};
 use crate::walk::Walk;
 use m3_base::NoMemory;
-use m3_types::{Secret, TypeGraph, TypeId, TypeNode};
+use m3_sizes::SizedTypes;
+use m3_types::{Secret, TypeId, TypeNode};
 use std::alloc::Global;
 
 /// The layout of the cells of a type. A cell that isn't open has `dims` 0, its `words` count its header,
@@ -26,20 +27,20 @@ pub struct Shape {
 }
 
 /// The type that fully reveals an opaque type; any other type itself.
-fn unveiled(types: &TypeGraph, t: TypeId) -> TypeId
-    ensures { result.0 ≡ unveiled types.now.nodes.items types.now.reveals.items t.0 }
+fn unveiled(types: &SizedTypes, t: TypeId) -> TypeId
+    ensures { result.0 ≡ unveiled types.now.graph.nodes.items types.now.graph.reveals.items t.0 }
 {
-    match types.nodes.get(t.0 as usize) {
-        Some(TypeNode::Opaque(_, Secret::Revealed)) => types.full_reveal(t).unwrap_or(t),
+    match types.graph.nodes.get(t.0 as usize) {
+        Some(TypeNode::Opaque(_, Secret::Revealed)) => types.graph.full_reveal(t).unwrap_or(t),
         _ => t,
     }
 }
 
 /// The target of a REF type.
-fn ref_target(types: &TypeGraph, t: TypeId) -> Option<TypeId>
-    ensures { option_map (λ u. u.0) result ≡ ref_target (node_at types.now.nodes.items t.0) }
+fn ref_target(types: &SizedTypes, t: TypeId) -> Option<TypeId>
+    ensures { option_map (λ u. u.0) result ≡ ref_target (node_at types.now.graph.nodes.items t.0) }
 {
-    match types.nodes.get(t.0 as usize) {
+    match types.graph.nodes.get(t.0 as usize) {
         Some(TypeNode::RefTo(_, target)) => Some(*target),
         _ => None,
     }
@@ -48,14 +49,14 @@ fn ref_target(types: &TypeGraph, t: TypeId) -> Option<TypeId>
 /// The shape of a cell, or of an element, that holds a value of a type behind so many words of a header.
 fn value_shape(
     alloc: Global,
-    types: &TypeGraph,
+    types: &SizedTypes,
     t: TypeId,
     header: u64,
     dims: u32,
 ) -> Result<Shape, NoMemory>
-    requires sized { HasSize types.now.nodes.items t.0 }
+    requires sized { HasSize types.now.graph.nodes.items t.0 }
     requires header { header ≤ 1 }
-    ensures layout { IfOk result (λ shape. layout_of shape ≡ value_cell types.now.nodes.items header dims t.0) }
+    ensures layout { IfOk result (λ shape. layout_of shape ≡ value_cell types.now.graph.nodes.items header dims t.0) }
     ensures rises { IfOk result (λ shape. RisesWithin header shape.words shape.pointers.items) }
 {
     let words = types.words_of(t);
@@ -69,9 +70,9 @@ fn value_shape(
 }
 
 /// The shape of a cell that holds a value of a type, or, of an open array, its elements.
-fn target_shape(alloc: Global, types: &TypeGraph, t: TypeId) -> Result<Shape, NoMemory>
-    requires { HasSize types.now.nodes.items (open_element types.now.nodes.items t.0) }
-    ensures layout { IfOk result (λ shape. layout_of shape ≡ target_cell types.now.nodes.items t.0 (node_at types.now.nodes.items t.0)) }
+fn target_shape(alloc: Global, types: &SizedTypes, t: TypeId) -> Result<Shape, NoMemory>
+    requires { HasSize types.now.graph.nodes.items (open_element types.now.graph.nodes.items t.0) }
+    ensures layout { IfOk result (λ shape. layout_of shape ≡ target_cell types.now.graph.nodes.items t.0 (node_at types.now.graph.nodes.items t.0)) }
     ensures order { IfOk result (λ shape. AreInOrder (layout_of shape)) }
 {
     let (element, dims) = open_element(types, t);
@@ -86,10 +87,10 @@ fn target_shape(alloc: Global, types: &TypeGraph, t: TypeId) -> Result<Shape, No
 
 /// The shape of an object's cell: the words of MUTEX or of a type of the interface Thread, and then the
 /// fields of all ancestors, the topmost first.
-fn object_shape(alloc: Global, types: &TypeGraph, t: TypeId) -> Result<Shape, NoMemory>
-    requires object { IsObject types.now.nodes.items types.now.reveals.items (length types.now.nodes.items) t.0 }
-    requires fits { 1 + line_words types.now.nodes.items (line_of types.now.nodes.items types.now.reveals.items t.0) < 2 ^ 64 }
-    ensures layout { IfOk result (λ shape. layout_of shape ≡ object_cell types.now.nodes.items types.now.reveals.items t.0) }
+fn object_shape(alloc: Global, types: &SizedTypes, t: TypeId) -> Result<Shape, NoMemory>
+    requires object { IsObject types.now.graph.nodes.items types.now.graph.reveals.items (length types.now.graph.nodes.items) t.0 }
+    requires fits { 1 + line_words types.now.graph.nodes.items (line_of types.now.graph.nodes.items types.now.graph.reveals.items t.0) < 2 ^ 64 }
+    ensures layout { IfOk result (λ shape. layout_of shape ≡ object_cell types.now.graph.nodes.items types.now.graph.reveals.items t.0) }
     ensures order { IfOk result (λ shape. AreInOrder (layout_of shape)) }
 {
     let line = line_of(alloc, types, t)?;
@@ -104,8 +105,8 @@ fn object_shape(alloc: Global, types: &TypeGraph, t: TypeId) -> Result<Shape, No
 
 /// Whether a type has cells: it is a REF type or an open array type and its target or elements have a
 /// size, or an object type whose fields have sizes and whose ancestors end, and its words are below 2^64.
-pub fn has_cell(types: &TypeGraph, t: TypeId) -> bool
-    ensures { IsTrue result ↔ HasCell types.now.nodes.items types.now.reveals.items t.0 }
+pub fn has_cell(types: &SizedTypes, t: TypeId) -> bool
+    ensures { IsTrue result ↔ HasCell types.now.graph.nodes.items types.now.graph.reveals.items t.0 }
 {
     let shown = unveiled(types, t);
     if let Some(target) = ref_target(types, shown) {
@@ -122,9 +123,9 @@ pub fn has_cell(types: &TypeGraph, t: TypeId) -> bool
 /// type a header and the fields of its ancestors, MUTEX with its holder and Thread.T with the thread's
 /// number, state and result in front. An opaque type counts as the type that fully reveals it (the
 /// report, sections 2.2.5 to 2.2.9, leaves the words to the implementation).
-pub fn cell_shape(alloc: Global, types: &TypeGraph, t: TypeId) -> Result<Shape, NoMemory>
-    requires { HasCell types.now.nodes.items types.now.reveals.items t.0 }
-    ensures layout { IfOk result (λ shape. layout_of shape ≡ cell_of types.now.nodes.items types.now.reveals.items t.0) }
+pub fn cell_shape(alloc: Global, types: &SizedTypes, t: TypeId) -> Result<Shape, NoMemory>
+    requires { HasCell types.now.graph.nodes.items types.now.graph.reveals.items t.0 }
+    ensures layout { IfOk result (λ shape. layout_of shape ≡ cell_of types.now.graph.nodes.items types.now.graph.reveals.items t.0) }
     ensures order { IfOk result (λ shape. AreInOrder (layout_of shape)) }
 {
     let shown = unveiled(types, t);

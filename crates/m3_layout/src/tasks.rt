@@ -6,17 +6,18 @@ use crate::copies::copy_run;
 use crate::values::{array_parts, field_at, is_record, is_reference};
 use crate::walk::{Task, Walk, Whole};
 use m3_base::NoMemory;
-use m3_types::{TypeGraph, TypeId};
+use m3_sizes::SizedTypes;
+use m3_types::TypeId;
 
 impl Walk {
     /// Tells the pointers of a value, or begins with its parts.
-    fn tell_value(&mut self, types: &TypeGraph, t: TypeId, at: u64) -> Result<(), NoMemory>
-        requires { IsWalk types.now.nodes.items self.old.offsets.items (self.old.tasks.items ++ OneValue t at ∷ []) self.old.runs }
-        ensures walk { OnOk result (IsWalk types.now.nodes.items self.new.offsets.items self.new.tasks.items self.new.runs) }
-        ensures same { OnOk result (self.new.offsets.items ++ pending types.now.nodes.items self.new.tasks.items
-            ≡ self.old.offsets.items ++ pending types.now.nodes.items (self.old.tasks.items ++ OneValue t at ∷ [])) }
-        ensures less { OnOk result (total_effort types.now.nodes.items self.new.tasks.items
-            < total_effort types.now.nodes.items (self.old.tasks.items ++ OneValue t at ∷ [])) }
+    fn tell_value(&mut self, types: &SizedTypes, t: TypeId, at: u64) -> Result<(), NoMemory>
+        requires { IsWalk types.now.graph.nodes.items self.old.offsets.items (self.old.tasks.items ++ OneValue t at ∷ []) self.old.runs }
+        ensures walk { OnOk result (IsWalk types.now.graph.nodes.items self.new.offsets.items self.new.tasks.items self.new.runs) }
+        ensures same { OnOk result (self.new.offsets.items ++ pending types.now.graph.nodes.items self.new.tasks.items
+            ≡ self.old.offsets.items ++ pending types.now.graph.nodes.items (self.old.tasks.items ++ OneValue t at ∷ [])) }
+        ensures less { OnOk result (total_effort types.now.graph.nodes.items self.new.tasks.items
+            < total_effort types.now.graph.nodes.items (self.old.tasks.items ++ OneValue t at ∷ [])) }
     {
         if let Some(run) = self.runs.get(&t.0) {
             let run = *run;
@@ -33,7 +34,7 @@ impl Walk {
             return Ok(());
         }
         if let Some((index, element)) = array_parts(types, t) {
-            let count = types.member_count(index);
+            let count = types.graph.member_count(index);
             let rest = Task::ElementsLeft(whole, element, count, at);
             self.tasks.push(rest)?;
             return Ok(());
@@ -50,17 +51,17 @@ impl Walk {
     /// Begins with the next field of a record, or notes where its pointers stand.
     fn tell_fields(
         &mut self,
-        types: &TypeGraph,
+        types: &SizedTypes,
         whole: Whole,
         next: usize,
         at: u64,
     ) -> Result<(), NoMemory>
-        requires { IsWalk types.now.nodes.items self.old.offsets.items (self.old.tasks.items ++ FieldsFrom whole next at ∷ []) self.old.runs }
-        ensures walk { OnOk result (IsWalk types.now.nodes.items self.new.offsets.items self.new.tasks.items self.new.runs) }
-        ensures same { OnOk result (self.new.offsets.items ++ pending types.now.nodes.items self.new.tasks.items
-            ≡ self.old.offsets.items ++ pending types.now.nodes.items (self.old.tasks.items ++ FieldsFrom whole next at ∷ [])) }
-        ensures less { OnOk result (total_effort types.now.nodes.items self.new.tasks.items
-            < total_effort types.now.nodes.items (self.old.tasks.items ++ FieldsFrom whole next at ∷ [])) }
+        requires { IsWalk types.now.graph.nodes.items self.old.offsets.items (self.old.tasks.items ++ FieldsFrom whole next at ∷ []) self.old.runs }
+        ensures walk { OnOk result (IsWalk types.now.graph.nodes.items self.new.offsets.items self.new.tasks.items self.new.runs) }
+        ensures same { OnOk result (self.new.offsets.items ++ pending types.now.graph.nodes.items self.new.tasks.items
+            ≡ self.old.offsets.items ++ pending types.now.graph.nodes.items (self.old.tasks.items ++ FieldsFrom whole next at ∷ [])) }
+        ensures less { OnOk result (total_effort types.now.graph.nodes.items self.new.tasks.items
+            < total_effort types.now.graph.nodes.items (self.old.tasks.items ++ FieldsFrom whole next at ∷ [])) }
     {
         match field_at(types, whole.kind, next) {
             Some(kind) => {
@@ -80,18 +81,18 @@ impl Walk {
     /// array's pointers stand.
     fn tell_elements(
         &mut self,
-        types: &TypeGraph,
+        types: &SizedTypes,
         whole: Whole,
         element: TypeId,
         left: u128,
         at: u64,
     ) -> Result<(), NoMemory>
-        requires { IsWalk types.now.nodes.items self.old.offsets.items (self.old.tasks.items ++ ElementsLeft whole element left at ∷ []) self.old.runs }
-        ensures walk { OnOk result (IsWalk types.now.nodes.items self.new.offsets.items self.new.tasks.items self.new.runs) }
-        ensures same { OnOk result (self.new.offsets.items ++ pending types.now.nodes.items self.new.tasks.items
-            ≡ self.old.offsets.items ++ pending types.now.nodes.items (self.old.tasks.items ++ ElementsLeft whole element left at ∷ [])) }
-        ensures less { OnOk result (total_effort types.now.nodes.items self.new.tasks.items
-            < total_effort types.now.nodes.items (self.old.tasks.items ++ ElementsLeft whole element left at ∷ [])) }
+        requires { IsWalk types.now.graph.nodes.items self.old.offsets.items (self.old.tasks.items ++ ElementsLeft whole element left at ∷ []) self.old.runs }
+        ensures walk { OnOk result (IsWalk types.now.graph.nodes.items self.new.offsets.items self.new.tasks.items self.new.runs) }
+        ensures same { OnOk result (self.new.offsets.items ++ pending types.now.graph.nodes.items self.new.tasks.items
+            ≡ self.old.offsets.items ++ pending types.now.graph.nodes.items (self.old.tasks.items ++ ElementsLeft whole element left at ∷ [])) }
+        ensures less { OnOk result (total_effort types.now.graph.nodes.items self.new.tasks.items
+            < total_effort types.now.graph.nodes.items (self.old.tasks.items ++ ElementsLeft whole element left at ∷ [])) }
     {
         if left == 0 {
             self.close(types, whole)?;
@@ -111,13 +112,13 @@ impl Walk {
     }
 
     /// Carries out one task.
-    pub(crate) fn tell(&mut self, types: &TypeGraph, task: Task) -> Result<(), NoMemory>
-        requires { IsWalk types.now.nodes.items self.old.offsets.items (self.old.tasks.items ++ task ∷ []) self.old.runs }
-        ensures walk { OnOk result (IsWalk types.now.nodes.items self.new.offsets.items self.new.tasks.items self.new.runs) }
-        ensures same { OnOk result (self.new.offsets.items ++ pending types.now.nodes.items self.new.tasks.items
-            ≡ self.old.offsets.items ++ pending types.now.nodes.items (self.old.tasks.items ++ task ∷ [])) }
-        ensures less { OnOk result (total_effort types.now.nodes.items self.new.tasks.items
-            < total_effort types.now.nodes.items (self.old.tasks.items ++ task ∷ [])) }
+    pub(crate) fn tell(&mut self, types: &SizedTypes, task: Task) -> Result<(), NoMemory>
+        requires { IsWalk types.now.graph.nodes.items self.old.offsets.items (self.old.tasks.items ++ task ∷ []) self.old.runs }
+        ensures walk { OnOk result (IsWalk types.now.graph.nodes.items self.new.offsets.items self.new.tasks.items self.new.runs) }
+        ensures same { OnOk result (self.new.offsets.items ++ pending types.now.graph.nodes.items self.new.tasks.items
+            ≡ self.old.offsets.items ++ pending types.now.graph.nodes.items (self.old.tasks.items ++ task ∷ [])) }
+        ensures less { OnOk result (total_effort types.now.graph.nodes.items self.new.tasks.items
+            < total_effort types.now.graph.nodes.items (self.old.tasks.items ++ task ∷ [])) }
     {
         match task {
             Task::OneValue(t, at) => self.tell_value(types, t, at),

@@ -1,37 +1,49 @@
-ghost use Rattle.std.specs.Prelude.{◌≡◌, ◌+◌, ◌<◌, ◌≤◌, ◌^◌, ◌++◌, ◌∷◌, [], ℕ, OnOk, IfOk, MatchOption, List, drop, length};
+ghost use Rattle.std.specs.Prelude.{◌≡◌, ◌+◌, ◌<◌, ◌≤◌, ◌^◌, ◌++◌, ◌∷◌, [], ℕ, OnOk, IfOk, MatchOption, List, Some, drop, length};
 ghost use Rattle.m3_types.specs.declared.nodes.Field.{Field as AField};
 ghost use Rattle.m3_types.specs.declared.nodes.TypeNode.{TypeNode as ANode};
-ghost use Rattle.m3_types.specs.Sizes.{HasSize, EachField, field_words};
+ghost use Rattle.m3_sizes.specs.Sizes.{HasSize, EachField, field_words};
 ghost use Rattle.m3_layout.specs.Pointers.{value_words, value_pointers, field_pointers};
-ghost use Rattle.m3_layout.specs.Walking.{fields_at, is_record, array_parts, IsOpen, AreRuns};
-ghost use Rattle.std.specs.Option.{option_map};
+ghost use Rattle.m3_layout.specs.Walking.{fields_in, fields_at, is_record, array_parts, IsOpen, AreRuns};
+ghost use Rattle.std.specs.Option.{option_map, option_copied, unwrap_or};
 ghost use Rattle.m3_types.specs.Definitions.{node_at, head_at};
-ghost use Rattle.m3_types.specs.Subtypes.{is_reference};
+ghost use Rattle.m3_types.specs.Kinds.{is_reference};
 
 use crate::walk::{Run, Task, Walk, Whole};
 use m3_base::NoMemory;
-use m3_types::{Field, TypeGraph, TypeId, TypeNode};
+use m3_sizes::SizedTypes;
+use m3_types::{Field, TypeId, TypeNode, node_at};
 use std::alloc::Global;
 use std::collections::BTreeMap;
 
-/// The fields of a record type; none where a type isn't one.
-fn fields_of(types: &TypeGraph, t: TypeId) -> &[Field]
-    ensures { result.now ≡ fields_at types.now.nodes.items t.0 }
+fn record_fields<'a>(node: TypeNode<'a>) -> Option<&'a [Field<'a>]>
+    ensures { unwrap_or (option_copied result) [] ≡ fields_in (Some node.entry) }
 {
-    match types.nodes.get(t.0 as usize) {
-        Some(TypeNode::Fields(fields)) => fields,
-        _ => &[],
+    match node {
+        TypeNode::Fields(fields) => Some(fields),
+        _ => None,
+    }
+}
+
+/// The fields of a record type; none where a type isn't one.
+fn fields_of<'a>(types: &SizedTypes<'a>, t: TypeId) -> Option<&'a [Field<'a>]>
+    ensures { unwrap_or (option_copied result) [] ≡ fields_at types.now.graph.nodes.items t.0 }
+{
+    match node_at(&types.graph.nodes, t.0 as usize) {
+        Some(node) => record_fields(node),
+        None => None,
     }
 }
 
 /// The type of a field of a record; none past the last.
-pub(crate) fn field_at(types: &TypeGraph, whole: TypeId, n: usize) -> Option<TypeId>
+pub(crate) fn field_at(types: &SizedTypes, whole: TypeId, n: usize) -> Option<TypeId>
     ensures { MatchOption result
-        (drop n (fields_at types.now.nodes.items whole.0) ≡ [])
-        (λ t. (f : AField) × (f.kind ≡ t) × (n < length (fields_at types.now.nodes.items whole.0))
-        × (drop n (fields_at types.now.nodes.items whole.0) ≡ f ∷ drop (n + 1) (fields_at types.now.nodes.items whole.0))) }
+        (drop n (fields_at types.now.graph.nodes.items whole.0) ≡ [])
+        (λ t. (f : AField) × (f.kind ≡ t) × (n < length (fields_at types.now.graph.nodes.items whole.0))
+        × (drop n (fields_at types.now.graph.nodes.items whole.0) ≡ f ∷ drop (n + 1) (fields_at types.now.graph.nodes.items whole.0)) × (n + 1 < 2 ^ 64)) }
 {
-    let fields = fields_of(types, whole);
+    let Some(fields) = fields_of(types, whole) else {
+        return None;
+    };
     if n < fields.len() {
         Some(fields[n].kind)
     } else {
@@ -39,30 +51,30 @@ pub(crate) fn field_at(types: &TypeGraph, whole: TypeId, n: usize) -> Option<Typ
     }
 }
 
-pub(crate) fn is_record(types: &TypeGraph, t: TypeId) -> bool
-    ensures { result ≡ is_record (node_at types.now.nodes.items t.0) }
+pub(crate) fn is_record(types: &SizedTypes, t: TypeId) -> bool
+    ensures { result ≡ is_record (node_at types.now.graph.nodes.items t.0) }
 {
-    match types.nodes.get(t.0 as usize) {
+    match types.graph.nodes.get(t.0 as usize) {
         Some(node) => matches!(node, TypeNode::Fields(_)),
         None => false,
     }
 }
 
 /// The index type and the element type of a fixed array.
-pub(crate) fn array_parts(types: &TypeGraph, t: TypeId) -> Option<(TypeId, TypeId)>
-    ensures { option_map (λ p. (p.0.0, p.1.0)) result ≡ array_parts (node_at types.now.nodes.items t.0) }
+pub(crate) fn array_parts(types: &SizedTypes, t: TypeId) -> Option<(TypeId, TypeId)>
+    ensures { option_map (λ p. (p.0.0, p.1.0)) result ≡ array_parts (node_at types.now.graph.nodes.items t.0) }
 {
-    match types.nodes.get(t.0 as usize) {
+    match types.graph.nodes.get(t.0 as usize) {
         Some(TypeNode::FixedArray(index, element)) => Some((*index, *element)),
         _ => None,
     }
 }
 
 /// Whether a value of the type is a reference.
-pub(crate) fn is_reference(types: &TypeGraph, t: TypeId) -> bool
-    ensures { result ≡ is_reference (head_at types.now.nodes.items t.0) }
+pub(crate) fn is_reference(types: &SizedTypes, t: TypeId) -> bool
+    ensures { result ≡ is_reference (head_at types.now.graph.nodes.items t.0) }
 {
-    match types.nodes.get(t.0 as usize) {
+    match types.graph.nodes.get(t.0 as usize) {
         Some(node) => matches!(
             node,
             TypeNode::RefTo(_, _)
@@ -92,10 +104,10 @@ impl Walk {
     }
 
     /// Notes where the pointers of a value stand of which all are told.
-    pub(crate) fn close(&mut self, types: &TypeGraph, whole: Whole) -> Result<(), NoMemory>
-        requires known { AreRuns types.now.nodes.items self.old.offsets.items self.old.runs }
-        requires open { IsOpen types.now.nodes.items self.old.offsets.items whole [] }
-        ensures known { OnOk result (AreRuns types.now.nodes.items self.new.offsets.items self.new.runs) }
+    pub(crate) fn close(&mut self, types: &SizedTypes, whole: Whole) -> Result<(), NoMemory>
+        requires known { AreRuns types.now.graph.nodes.items self.old.offsets.items self.old.runs }
+        requires open { IsOpen types.now.graph.nodes.items self.old.offsets.items whole [] }
+        ensures known { OnOk result (AreRuns types.now.graph.nodes.items self.new.offsets.items self.new.runs) }
         ensures offsets { OnOk result (self.new.offsets.items ≡ self.old.offsets.items) }
         ensures tasks { OnOk result (self.new.tasks.items ≡ self.old.tasks.items) }
     {
@@ -112,17 +124,17 @@ impl Walk {
     /// Adds the pointers of a value that begins at a word.
     pub(crate) fn add_value(
         &mut self,
-        types: &TypeGraph,
+        types: &SizedTypes,
         t: TypeId,
         at: u64,
     ) -> Result<(), NoMemory>
-        requires known { AreRuns types.now.nodes.items self.old.offsets.items self.old.runs }
+        requires known { AreRuns types.now.graph.nodes.items self.old.offsets.items self.old.runs }
         requires idle { self.old.tasks.items ≡ [] }
-        requires sized { HasSize types.now.nodes.items t.0 }
-        requires fits { at + value_words types.now.nodes.items t.0 < 2 ^ 64 }
-        ensures known { OnOk result (AreRuns types.now.nodes.items self.new.offsets.items self.new.runs) }
+        requires sized { HasSize types.now.graph.nodes.items t.0 }
+        requires fits { at + value_words types.now.graph.nodes.items t.0 < 2 ^ 64 }
+        ensures known { OnOk result (AreRuns types.now.graph.nodes.items self.new.offsets.items self.new.runs) }
         ensures idle { OnOk result (self.new.tasks.items ≡ []) }
-        ensures offsets { OnOk result (self.new.offsets.items ≡ self.old.offsets.items ++ value_pointers types.now.nodes.items at t.0) }
+        ensures offsets { OnOk result (self.new.offsets.items ≡ self.old.offsets.items ++ value_pointers types.now.graph.nodes.items at t.0) }
     {
         let _words = types.words_of(t);
         self.tasks.push(Task::OneValue(t, at))?;
@@ -135,19 +147,19 @@ impl Walk {
     /// Adds the pointers of fields that follow one another from a word on, and gives the word after them.
     pub(crate) fn add_fields(
         &mut self,
-        types: &TypeGraph,
+        types: &SizedTypes,
         fields: &[Field],
         at: u64,
     ) -> Result<u64, NoMemory>
-        requires known { AreRuns types.now.nodes.items self.old.offsets.items self.old.runs }
+        requires known { AreRuns types.now.graph.nodes.items self.old.offsets.items self.old.runs }
         requires idle { self.old.tasks.items ≡ [] }
-        requires sized { EachField (HasSize types.now.nodes.items) fields.now }
-        requires fits { at + field_words (value_words types.now.nodes.items) fields.now < 2 ^ 64 }
-        ensures known { OnOk result (AreRuns types.now.nodes.items self.new.offsets.items self.new.runs) }
+        requires sized { EachField (HasSize types.now.graph.nodes.items) fields.now }
+        requires fits { at + field_words (value_words types.now.graph.nodes.items) fields.now < 2 ^ 64 }
+        ensures known { OnOk result (AreRuns types.now.graph.nodes.items self.new.offsets.items self.new.runs) }
         ensures idle { OnOk result (self.new.tasks.items ≡ []) }
         ensures offsets { OnOk result (self.new.offsets.items ≡
-            self.old.offsets.items ++ field_pointers (value_words types.now.nodes.items) (value_pointers types.now.nodes.items) at fields.now) }
-        ensures after { IfOk result (λ after. after ≡ at + field_words (value_words types.now.nodes.items) fields.now) }
+            self.old.offsets.items ++ field_pointers (value_words types.now.graph.nodes.items) (value_pointers types.now.graph.nodes.items) at fields.now) }
+        ensures after { IfOk result (λ after. after ≡ at + field_words (value_words types.now.graph.nodes.items) fields.now) }
     {
         let mut next = at;
         for field in fields {

@@ -2,7 +2,7 @@ ghost use Rattle.std.specs.Prelude.{Some, None, ◌≡◌, ◌≤◌, ◌<◌, �
 ghost use Rattle.m3_sizes.specs.Sizes.{most_words, set_words, field_words, words_of_node, EachField, EachPart, Known, known_at, known_words, IsRight, AreSized, IsLow, IsFull, CanBeTold, IsTold, lacking};
 
 use m3_base::NoMemory;
-use m3_types::{Field, TypeNode, size_at};
+use m3_types::{Field, TypeNode, node_at, size_at};
 use std::alloc::Global;
 
 /// The most words that a type of a program may take.
@@ -102,7 +102,10 @@ fn settle(nodes: &[TypeNode], table: &mut [Option<u64>], i: usize) -> bool
     if table[i].is_some() {
         return false;
     }
-    match words_of_node(nodes, table, nodes[i]) {
+    let Some(node) = node_at(nodes, i) else {
+        return false;
+    };
+    match words_of_node(nodes, table, node) {
         Some(words) => {
             table[i] = Some(words);
             true

@@ -8,3 +8,5 @@ pub mod Adding
 pub mod Stepping
 pub mod Exhausting
 pub mod Rows
+pub mod Levels
+pub mod Hiding

@@ -1,4 +1,5 @@
 pub mod Subtypes
 pub mod Assignments
+pub mod Heights
 pub mod Reaching
 pub mod Ranges

@@ -8,7 +8,7 @@ use crate::assign::Assign;
 use crate::upward::is_below;
 use m3_base::NoMemory;
 use m3_same::same_types;
-use m3_types::{Reveal, TypeNode, is_reference_at, node_at};
+use m3_types::{TypeGraph, TypeNode, is_reference_at, node_at};
 use std::alloc::Global;
 
 /// The members of an ordinal type: its base type, and the numbers of the first and the last.
@@ -99,23 +99,22 @@ fn is_array_or_reference_at(nodes: &[TypeNode], place: usize) -> bool
 /// How a value of the first type may be assigned to a variable of the second, in the view of a unit.
 pub(crate) fn way_to_assign(
     alloc: Global,
-    nodes: &[TypeNode],
-    reveals: &[Reveal],
+    graph: &TypeGraph,
     view: u32,
     a: usize,
     b: usize,
 ) -> Result<Assign, NoMemory>
-    ensures { IfOk result (λ assign. IsAssign nodes.now reveals.now view a b assign) }
+    ensures { IfOk result (λ assign. IsAssign graph.now.nodes.items graph.now.reveals.items view a b assign) }
 {
-    if is_below(alloc, nodes, reveals, view, a, b)? {
+    if is_below(alloc, graph, view, a, b)? {
         return Ok(Assign::Yes);
     }
-    if is_array_or_reference_at(nodes, a) {
-        if is_below(alloc, nodes, reveals, view, b, a)? {
+    if is_array_or_reference_at(&graph.nodes, a) {
+        if is_below(alloc, graph, view, b, a)? {
             return Ok(Assign::Checked);
         }
     }
-    if share_member(alloc, nodes, a, b)? {
+    if share_member(alloc, &graph.nodes, a, b)? {
         return Ok(Assign::Checked);
     }
     Ok(Assign::No)

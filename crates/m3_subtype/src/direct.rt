@@ -1,6 +1,7 @@
-ghost use Rattle.std.specs.Prelude.{◌≡◌, ◌↔◌, ◌∷◌, [], ℕ, ℤ, true, false, Bool, List, map, IsTrue, is_some, IfOk, IfSome, IfNone};
+ghost use Rattle.std.specs.Prelude.{◌≡◌, ◌≢◌, ◌↔◌, ◌∷◌, [], ℕ, ℤ, true, false, Bool, List, map, IsTrue, is_some, IfOk, IfSome, IfNone};
 ghost use Rattle.m3_types.specs.Definitions.{head_at, head_of, types_at, ASubrange};
 ghost use Rattle.m3_same.specs.Sameness.{Matched, Same};
+ghost use Rattle.m3_subtype.specs.Heights.{HasHeight};
 ghost use Rattle.m3_subtype.specs.Subtypes.{IsWithin, SubrangeBelow, Directly};
 
 use crate::arrays::array_below;
@@ -53,15 +54,11 @@ fn subrange_below(alloc: Global, nodes: &[TypeNode], a: usize, b: usize) -> Resu
     same_named(alloc, nodes, a, b)
 }
 
-/// Whether two types are the same, or a rule on the two alone puts the first below the second.
-pub(crate) fn directly(
-    alloc: Global,
-    nodes: &[TypeNode],
-    a: usize,
-    b: usize,
-) -> Result<bool, NoMemory>
+/// Whether a rule on the two types alone, other than that they are the same, puts the first below the
+/// second.
+fn is_ruled(alloc: Global, nodes: &[TypeNode], a: usize, b: usize) -> Result<bool, NoMemory>
     ensures yes { IfOk result (λ yes. yes ≡ true → Directly nodes.now a b) }
-    ensures no { IfOk result (λ yes. yes ≡ false → Directly nodes.now a b → ⊥) }
+    ensures no { IfOk result (λ yes. yes ≡ false → Directly nodes.now a b → Same nodes.now a b) }
 {
     if null_below(nodes, a, b) || refany_above(nodes, a, b) || root_above(nodes, a, b) {
         return Ok(true);
@@ -72,8 +69,55 @@ pub(crate) fn directly(
     if procedure_below(alloc, nodes, a, b)? {
         return Ok(true);
     }
-    if array_below(alloc, nodes, a, b)? {
+    Ok(array_below(alloc, nodes, a, b)?)
+}
+
+/// Whether two types are the same, or a rule on the two alone puts the first below the second.
+pub(crate) fn directly(
+    alloc: Global,
+    nodes: &[TypeNode],
+    a: usize,
+    b: usize,
+) -> Result<bool, NoMemory>
+    ensures yes { IfOk result (λ yes. yes ≡ true → Directly nodes.now a b) }
+    ensures no { IfOk result (λ yes. yes ≡ false → Directly nodes.now a b → ⊥) }
+{
+    if is_ruled(alloc, nodes, a, b)? {
         return Ok(true);
+    }
+    Ok(same_types(alloc, nodes, a, b)?)
+}
+
+/// Whether two heights are known and differ.
+fn heights_differ(height: Option<usize>, other: Option<usize>) -> bool
+    ensures { result ≡ true → (h : ℕ) × (k : ℕ) × (height ≡ Some h) × (other ≡ Some k) × (h ≢ k) }
+{
+    match (height, other) {
+        (Some(h), Some(k)) => h != k,
+        _ => false,
+    }
+}
+
+/// Whether two types, of these heights where they are known, are the same, or a rule on the two alone
+/// puts the first below the second.
+pub(crate) fn meets(
+    alloc: Global,
+    nodes: &[TypeNode],
+    a: usize,
+    height: Option<usize>,
+    b: usize,
+    goal: Option<usize>,
+) -> Result<bool, NoMemory>
+    requires height { IfSome height (λ h. HasHeight nodes.now a h) }
+    requires goal { IfSome goal (λ h. HasHeight nodes.now b h) }
+    ensures yes { IfOk result (λ yes. yes ≡ true → Directly nodes.now a b) }
+    ensures no { IfOk result (λ yes. yes ≡ false → Directly nodes.now a b → ⊥) }
+{
+    if is_ruled(alloc, nodes, a, b)? {
+        return Ok(true);
+    }
+    if heights_differ(height, goal) {
+        return Ok(false);
     }
     Ok(same_types(alloc, nodes, a, b)?)
 }

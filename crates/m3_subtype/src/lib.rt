@@ -6,12 +6,15 @@ mod assign;
 mod assigning;
 mod below;
 mod direct;
+mod heights;
 mod named;
 mod procedures;
 mod raises;
 mod reached;
 mod relations;
 mod upward;
+mod seen;
 
 pub use assign::Assign;
 pub use relations::{assignable, subtype};
+pub use seen::{structure, visible};

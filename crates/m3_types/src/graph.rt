@@ -116,7 +116,7 @@ impl<'a> TypeGraph<'a> {
         ensures nodes { self.new.nodes.items ≡ self.old.nodes.items }
         ensures reveals { self.new.reveals.items ≡ self.old.reveals.items }
     {
-        self.about.note(reveal.view, reveal.opaque.0, place)
+        self.about.note(reveal.view, reveal.opaque.0 as usize, place)
     }
 
     /// Notes a place under the view of a full reveal and the mark of the type that it gives.
@@ -131,7 +131,7 @@ impl<'a> TypeGraph<'a> {
             return Ok(());
         }
         let mark = mark_at(&self.nodes, reveal.bound.0 as usize);
-        self.hiding.note(reveal.view, mark, place)
+        self.hiding.note(reveal.view, mark as usize, place)
     }
 
     /// Adds a reveal whose place is noted.
@@ -166,32 +166,32 @@ impl<'a> TypeGraph<'a> {
         size_at(&self.nodes, t.0 as usize)
     }
 
-    /// Reveals of the graph, those of an opaque type in a view among them.
+    /// Reveals of the graph, those of the opaque type at a place in a view among them.
     pub fn reveals_of(
         &self,
         alloc: Global,
         view: u32,
-        opaque: TypeId,
+        opaque: usize,
     ) -> Result<Vec<Reveal>, NoMemory>
         ensures there { IfOk result (λ found. All (λ r. Contains self.now.reveals.items r) found.items) }
-        ensures all { IfOk result (λ found. (r : AReveal) → Contains self.now.reveals.items r → r.view ≡ view → r.opaque.0 ≡ opaque.0 →
+        ensures all { IfOk result (λ found. (r : AReveal) → Contains self.now.reveals.items r → r.view ≡ view → r.opaque.0 ≡ opaque →
             ∥ Contains found.items r ∥₁) }
     {
-        let places = self.about.noted(alloc, view, opaque.0)?;
+        let places = self.about.noted(alloc, view, opaque)?;
         let found = reveals_at(alloc, &self.reveals, &places)?;
         Ok(found)
     }
 
     /// Reveals of the graph, among them each full one in a view whose type has a mark of 0 or that of
-    /// a type: its brand is that type's, or it has none.
-    pub fn reveals_to(&self, alloc: Global, view: u32, t: TypeId) -> Result<Vec<Reveal>, NoMemory>
+    /// the type at a place: its brand is that type's, or it has none.
+    pub fn reveals_to(&self, alloc: Global, view: u32, t: usize) -> Result<Vec<Reveal>, NoMemory>
         ensures there { IfOk result (λ found. All (λ r. Contains self.now.reveals.items r) found.items) }
         ensures all { IfOk result (λ found. (r : AReveal) → Contains self.now.reveals.items r → r.view ≡ view → r.full ≡ true →
-            (mark_at self.now.nodes.items r.bound.0 ≡ 0) ⊎ (mark_at self.now.nodes.items r.bound.0 ≡ mark_at self.now.nodes.items t.0) →
+            (mark_at self.now.nodes.items r.bound.0 ≡ 0) ⊎ (mark_at self.now.nodes.items r.bound.0 ≡ mark_at self.now.nodes.items t) →
             ∥ Contains found.items r ∥₁) }
     {
-        let mark = mark_at(&self.nodes, t.0 as usize);
-        let places = self.hiding.noted_at_either(alloc, view, mark)?;
+        let mark = mark_at(&self.nodes, t);
+        let places = self.hiding.noted_at_either(alloc, view, mark as usize)?;
         let found = reveals_at(alloc, &self.reveals, &places)?;
         Ok(found)
     }

@@ -15,7 +15,7 @@ pub(crate) struct Link {
 /// Places under keys: each key has the link of the place that was noted last.
 #[derive(Drop)]
 pub(crate) struct PlaceIndex {
-    pub(crate) newest: IndexMap<(u32, u32), u32>,
+    pub(crate) newest: IndexMap<(u32, usize), u32>,
     pub(crate) links: Vec<Link>,
     ghost descends: { Descends links.items },
     ghost there: { AreThere newest links.items },
@@ -30,7 +30,7 @@ impl PlaceIndex {
     }
 
     /// Notes a place under a key. What was noted stays, also where memory runs out.
-    pub(crate) fn note(&mut self, view: u32, id: u32, place: u32) -> Result<(), NoMemory>
+    pub(crate) fn note(&mut self, view: u32, id: usize, place: u32) -> Result<(), NoMemory>
         ensures keeps { (v i p : ℕ) → IsNoted self.old.links.items (newest_of self.old.newest v i) p →
             IsNoted self.new.links.items (newest_of self.new.newest v i) p }
         ensures noted { OnOk result (IsNoted self.new.links.items (newest_of self.new.newest view id) place) }
@@ -52,7 +52,7 @@ impl PlaceIndex {
     }
 
     /// The places that were noted under a key.
-    pub(crate) fn noted(&self, alloc: Global, view: u32, id: u32) -> Result<Vec<u32>, NoMemory>
+    pub(crate) fn noted(&self, alloc: Global, view: u32, id: usize) -> Result<Vec<u32>, NoMemory>
         ensures { IfOk result (λ places. (p : ℕ) → IsNoted self.now.links.items (newest_of self.now.newest view id) p → Contains places.items p) }
     {
         let mut places = Vec::new(alloc);
@@ -72,7 +72,7 @@ impl PlaceIndex {
         &self,
         alloc: Global,
         view: u32,
-        id: u32,
+        id: usize,
     ) -> Result<Vec<u32>, NoMemory>
         ensures zero { IfOk result (λ places. (p : ℕ) → IsNoted self.now.links.items (newest_of self.now.newest view 0) p → Contains places.items p) }
         ensures other { IfOk result (λ places. (p : ℕ) → IsNoted self.now.links.items (newest_of self.now.newest view id) p → Contains places.items p) }

@@ -1,102 +1,113 @@
-use m3_base::Bytes;
+use bumpalo::Bump;
+use m3_same::same;
+use m3_sizes::SizedTypes;
+use m3_subtype::{Assign, assignable, subtype};
 use m3_types::{
-    Assign, Brand, ConstId, ConstValue, Field, Formal, Mode, Raises, Reveal, Secret, TypeGraph,
+    Brand, ConstId, ConstValue, Field, Formal, Initial, Mode, Raises, Reveal, Secret, TypeGraph,
     TypeId, TypeNode,
 };
 use std::alloc::Global;
-use std::collections::BTreeSet;
 use std::process::Abort;
 use std::test::Fail;
 
-fn field(alloc: Global, name: &[u8], kind: u32) -> Result<Field, Fail> {
-    Ok(Field {
-        name: Bytes::of(alloc, name)?,
+fn field<'a>(name: &'a [u8], kind: u32) -> Field<'a> {
+    Field {
+        name,
         kind: TypeId(kind),
         default: None,
-    })
+    }
 }
 
-fn record(alloc: Global, name: &[u8], kind: u32) -> Result<TypeNode, Fail> {
-    Ok(TypeNode::Fields(vec![in alloc; field(alloc, name, kind)?]?))
-}
-
-fn record_with_default(alloc: Global) -> Result<TypeNode, Fail> {
-    let field = Field {
-        name: Bytes::of(alloc, b"a")?,
-        kind: TypeId(0),
-        default: Some(ConstId(0)),
-    };
-    Ok(TypeNode::Fields(vec![in alloc; field]?))
-}
-
-fn object(alloc: Global, brand: Option<Brand>, parent: u32) -> Result<TypeNode, Fail> {
-    let fields = vec![in alloc; field(alloc, b"f", 0)?]?;
-    Ok(TypeNode::Object(
-        brand,
-        TypeId(parent),
-        fields,
-        Vec::new(alloc),
-        Vec::new(alloc),
+fn record<'a>(bump: &'a Bump, name: &'a [u8], kind: u32) -> Result<TypeNode<'a>, Fail> {
+    Ok(TypeNode::Fields(
+        bump.try_alloc_slice_copy(&[field(name, kind)])?,
     ))
 }
 
-fn bare_object(alloc: Global, parent: u32) -> TypeNode {
-    TypeNode::Object(
-        None,
-        TypeId(parent),
-        Vec::new(alloc),
-        Vec::new(alloc),
-        Vec::new(alloc),
-    )
+fn record_with_default<'a>(
+    bump: &'a Bump,
+    name: &'a [u8],
+    value: u32,
+) -> Result<TypeNode<'a>, Fail> {
+    let field = Field {
+        name,
+        kind: TypeId(0),
+        default: Some(Initial {
+            value: ConstId(value),
+            source: value,
+        }),
+    };
+    Ok(TypeNode::Fields(bump.try_alloc_slice_copy(&[field])?))
 }
 
-fn enumeration(alloc: Global, first: &[u8], second: &[u8]) -> Result<TypeNode, Fail> {
-    let names = vec![in alloc; Bytes::of(alloc, first)?, Bytes::of(alloc, second)?]?;
-    Ok(TypeNode::Enumeration(names))
+fn object<'a>(
+    bump: &'a Bump,
+    brand: Option<Brand<'a>>,
+    parent: u32,
+) -> Result<TypeNode<'a>, Fail> {
+    let fields = bump.try_alloc_slice_copy(&[field(b"f", 0)])?;
+    Ok(TypeNode::Object(brand, TypeId(parent), fields, &[], &[]))
 }
 
-fn text_brand(alloc: Global) -> Result<TypeNode, Fail> {
-    let brand = Brand::Text(Bytes::of(alloc, b"x")?);
-    Ok(TypeNode::RefTo(Some(brand), TypeId(0)))
+fn bare_object<'a>(brand: Option<Brand<'a>>, parent: u32) -> TypeNode<'a> {
+    TypeNode::Object(brand, TypeId(parent), &[], &[], &[])
 }
 
-fn raising(alloc: Global, exception: Option<u32>) -> Result<TypeNode, Fail> {
-    let mut raises = BTreeSet::new(alloc);
-    if let Some(e) = exception {
-        raises.insert(e)?;
-    }
-    Ok(TypeNode::Procedure(Vec::new(alloc), None, Raises::Only(raises)))
+fn enumeration<'a>(
+    bump: &'a Bump,
+    first: &'a [u8],
+    second: &'a [u8],
+) -> Result<TypeNode<'a>, Fail> {
+    Ok(TypeNode::Enumeration(
+        bump.try_alloc_slice_copy(&[first, second])?,
+    ))
 }
 
-fn taking(alloc: Global, name: &[u8], mode: Mode) -> Result<TypeNode, Fail> {
+fn text_brand<'a>() -> TypeNode<'a> {
+    TypeNode::RefTo(Some(Brand::Text(b"x")), TypeId(0))
+}
+
+fn raising<'a>(raises: &'a [u32]) -> TypeNode<'a> {
+    TypeNode::Procedure(&[], None, Raises::Only(raises))
+}
+
+fn taking<'a>(bump: &'a Bump, name: &'a [u8], mode: Mode) -> Result<TypeNode<'a>, Fail> {
     let formal = Formal {
-        name: Bytes::of(alloc, name)?,
+        name,
         mode,
         kind: TypeId(0),
         default: None,
     };
-    Ok(TypeNode::Procedure(
-        vec![in alloc; formal]?,
-        None,
-        Raises::Only(BTreeSet::new(alloc)),
-    ))
+    let formals = bump.try_alloc_slice_copy(&[formal])?;
+    Ok(TypeNode::Procedure(formals, None, Raises::Only(&[])))
 }
 
-fn giving(alloc: Global) -> TypeNode {
-    TypeNode::Procedure(
-        Vec::new(alloc),
-        Some(TypeId(0)),
-        Raises::Only(BTreeSet::new(alloc)),
-    )
+fn giving<'a>() -> TypeNode<'a> {
+    TypeNode::Procedure(&[], Some(TypeId(0)), Raises::Only(&[]))
 }
 
-fn put(nodes: &mut Vec<TypeNode>, node: TypeNode) -> Result<(), Fail> {
-    nodes.push(node)?;
+fn put<'a>(types: &mut TypeGraph<'a>, node: TypeNode<'a>) -> Result<(), Fail> {
+    types.push(node)?;
+    Ok(())
+}
+
+// Sets a place that was reserved.
+fn fill<'a>(types: &mut TypeGraph<'a>, place: u32, node: TypeNode<'a>) {
+    if types.is_reserved(TypeId(place)) {
+        types.set(TypeId(place), node);
+    }
+}
+
+// Adds a reveal of an opaque type that is there.
+fn add(types: &mut TypeGraph, reveal: Reveal) -> Result<(), Fail> {
+    if (reveal.opaque.0 as usize) < types.nodes.len() {
+        types.reveal(reveal)?;
+    }
     Ok(())
 }
 
 // 0 to 11: INTEGER, BOOLEAN, CHAR, NULL, REFANY, TEXT, MUTEX, ROOT, CARDINAL, [1..4], [0..3], [5..4]
-fn put_basic(nodes: &mut Vec<TypeNode>) -> Result<(), Fail> {
+fn put_basic(types: &mut TypeGraph) -> Result<(), Fail> {
     for node in [
         TypeNode::Integer,
         TypeNode::Boolean,
@@ -111,17 +122,17 @@ fn put_basic(nodes: &mut Vec<TypeNode>) -> Result<(), Fail> {
         TypeNode::Subrange(TypeId(0), 0, 3),
         TypeNode::Subrange(TypeId(0), 5, 4),
     ] {
-        put(nodes, node)?;
+        put(types, node)?;
     }
     Ok(())
 }
 
 // 12 to 22: {a, b} twice, {FALSE, TRUE}; ARRAY [1..4] and [0..3] OF INTEGER, [0..3] OF CHAR, OF CHAR,
 // OF INTEGER, ARRAY [1..4] OF ARRAY [0..3] OF INTEGER, ARRAY OF 16, ARRAY OF ARRAY OF INTEGER
-fn put_arrays(alloc: Global, nodes: &mut Vec<TypeNode>) -> Result<(), Fail> {
-    put(nodes, enumeration(alloc, b"a", b"b")?)?;
-    put(nodes, enumeration(alloc, b"a", b"b")?)?;
-    put(nodes, enumeration(alloc, b"FALSE", b"TRUE")?)?;
+fn put_arrays<'a>(bump: &'a Bump, types: &mut TypeGraph<'a>) -> Result<(), Fail> {
+    put(types, enumeration(bump, b"a", b"b")?)?;
+    put(types, enumeration(bump, b"a", b"b")?)?;
+    put(types, enumeration(bump, b"FALSE", b"TRUE")?)?;
     for node in [
         TypeNode::FixedArray(TypeId(9), TypeId(0)),
         TypeNode::FixedArray(TypeId(10), TypeId(0)),
@@ -132,61 +143,62 @@ fn put_arrays(alloc: Global, nodes: &mut Vec<TypeNode>) -> Result<(), Fail> {
         TypeNode::OpenArray(TypeId(16)),
         TypeNode::OpenArray(TypeId(19)),
     ] {
-        put(nodes, node)?;
+        put(types, node)?;
     }
     Ok(())
 }
 
 // 23 to 33: A = REF RECORD n: A END, B likewise, REF RECORD m: A END; REF INTEGER, with two brands of
 // its own, and twice with the brand "x"
-fn put_references(alloc: Global, nodes: &mut Vec<TypeNode>) -> Result<(), Fail> {
-    put(nodes, TypeNode::RefTo(None, TypeId(24)))?;
-    put(nodes, record(alloc, b"n", 23)?)?;
-    put(nodes, TypeNode::RefTo(None, TypeId(26)))?;
-    put(nodes, record(alloc, b"n", 25)?)?;
-    put(nodes, TypeNode::RefTo(None, TypeId(28)))?;
-    put(nodes, record(alloc, b"m", 23)?)?;
-    put(nodes, TypeNode::RefTo(None, TypeId(0)))?;
+fn put_references<'a>(bump: &'a Bump, types: &mut TypeGraph<'a>) -> Result<(), Fail> {
+    put(types, TypeNode::RefTo(None, TypeId(24)))?;
+    put(types, record(bump, b"n", 23)?)?;
+    put(types, TypeNode::RefTo(None, TypeId(26)))?;
+    put(types, record(bump, b"n", 25)?)?;
+    put(types, TypeNode::RefTo(None, TypeId(28)))?;
+    put(types, record(bump, b"m", 23)?)?;
+    put(types, TypeNode::RefTo(None, TypeId(0)))?;
     put(
-        nodes,
+        types,
         TypeNode::RefTo(Some(Brand::Occurrence(1)), TypeId(0)),
     )?;
     put(
-        nodes,
+        types,
         TypeNode::RefTo(Some(Brand::Occurrence(2)), TypeId(0)),
     )?;
-    put(nodes, text_brand(alloc)?)?;
-    put(nodes, text_brand(alloc)?)
+    put(types, text_brand())?;
+    put(types, text_brand())
 }
 
 // 34 to 45: OBJECT f: INTEGER END, 34 OBJECT END, 34 again; PROCEDURE (), with RAISES {1}, with RAISES
 // ANY, (x: INTEGER), (y: INTEGER), (VAR x: INTEGER), (): INTEGER; SET OF [1..4], SET OF [0..3]
-fn put_objects(alloc: Global, nodes: &mut Vec<TypeNode>) -> Result<(), Fail> {
-    put(nodes, object(alloc, None, 7)?)?;
-    put(nodes, bare_object(alloc, 34))?;
-    put(nodes, object(alloc, None, 7)?)?;
-    put(nodes, raising(alloc, None)?)?;
-    put(nodes, raising(alloc, Some(1))?)?;
+fn put_objects<'a>(bump: &'a Bump, types: &mut TypeGraph<'a>) -> Result<(), Fail> {
+    put(types, object(bump, None, 7)?)?;
+    put(types, bare_object(None, 34))?;
+    put(types, object(bump, None, 7)?)?;
+    put(types, raising(&[]))?;
+    put(types, raising(&[1]))?;
     put(
-        nodes,
-        TypeNode::Procedure(Vec::new(alloc), None, Raises::Any),
+        types,
+        TypeNode::Procedure(&[], None, Raises::Any),
     )?;
-    put(nodes, taking(alloc, b"x", Mode::Value)?)?;
-    put(nodes, taking(alloc, b"y", Mode::Value)?)?;
-    put(nodes, taking(alloc, b"x", Mode::Var)?)?;
-    put(nodes, giving(alloc))?;
-    put(nodes, TypeNode::SetOf(TypeId(9)))?;
-    put(nodes, TypeNode::SetOf(TypeId(10)))
+    put(types, taking(bump, b"x", Mode::Value)?)?;
+    put(types, taking(bump, b"y", Mode::Value)?)?;
+    put(types, taking(bump, b"x", Mode::Var)?)?;
+    put(types, giving())?;
+    put(types, TypeNode::SetOf(TypeId(9)))?;
+    put(types, TypeNode::SetOf(TypeId(10)))
 }
 
-// 46 to 50: T <: REFANY, U <: ROOT, BRANDED OBJECT f: INTEGER END; RECORD a: INTEGER := 5 END, and
-// without the default
-fn put_opaque(alloc: Global, nodes: &mut Vec<TypeNode>) -> Result<(), Fail> {
-    put(nodes, TypeNode::Opaque(TypeId(4), Secret::Revealed))?;
-    put(nodes, TypeNode::Opaque(TypeId(7), Secret::Revealed))?;
-    put(nodes, object(alloc, Some(Brand::Occurrence(3)), 7)?)?;
-    put(nodes, record_with_default(alloc)?)?;
-    put(nodes, record(alloc, b"a", 0)?)
+// 46 to 51: T <: REFANY, U <: ROOT, BRANDED OBJECT f: INTEGER END; RECORD a: INTEGER := 5 END, and
+// without the default; the constant 5
+fn put_opaque<'a>(bump: &'a Bump, types: &mut TypeGraph<'a>) -> Result<(), Fail> {
+    put(types, TypeNode::Opaque(TypeId(4), Secret::Revealed))?;
+    put(types, TypeNode::Opaque(TypeId(7), Secret::Revealed))?;
+    put(types, object(bump, Some(Brand::Occurrence(3)), 7)?)?;
+    put(types, record_with_default(bump, b"a", 51)?)?;
+    put(types, record(bump, b"a", 0)?)?;
+    put(types, TypeNode::Constant(ConstValue::Ordinal(5)))
 }
 
 fn reveal(view: u32, opaque: u32, bound: u32, full: bool) -> Reveal {
@@ -198,39 +210,33 @@ fn reveal(view: u32, opaque: u32, bound: u32, full: bool) -> Reveal {
     }
 }
 
-fn graph(alloc: Global) -> Result<TypeGraph, Fail> {
-    let mut nodes = Vec::new(alloc);
-    put_basic(&mut nodes)?;
-    put_arrays(alloc, &mut nodes)?;
-    put_references(alloc, &mut nodes)?;
-    put_objects(alloc, &mut nodes)?;
-    put_opaque(alloc, &mut nodes)?;
-    let reveals = vec![in alloc;
-        reveal(1, 46, 30, true),
-        reveal(1, 47, 48, true),
-        reveal(2, 47, 34, false),
-    ]?;
-    let constants = vec![in alloc; ConstValue::Ordinal(5)]?;
-    Ok(TypeGraph::new(alloc, nodes, reveals, constants)?)
-}
-
-fn plain_graph(alloc: Global, nodes: Vec<TypeNode>) -> Result<TypeGraph, Fail> {
-    Ok(TypeGraph::new(alloc, nodes, Vec::new(alloc), Vec::new(alloc))?)
+fn graph<'a>(alloc: Global, bump: &'a Bump) -> Result<TypeGraph<'a>, Fail> {
+    let mut types = TypeGraph::new(alloc);
+    put_basic(&mut types)?;
+    put_arrays(bump, &mut types)?;
+    put_references(bump, &mut types)?;
+    put_objects(bump, &mut types)?;
+    put_opaque(bump, &mut types)?;
+    add(&mut types, reveal(1, 46, 30, true))?;
+    add(&mut types, reveal(1, 47, 48, true))?;
+    add(&mut types, reveal(2, 47, 34, false))?;
+    Ok(types)
 }
 
 // view, the two types, whether they are the same, whether the first is a subtype, how it is assigned
 type Row = (u32, u32, u32, bool, bool, Assign);
 
 fn check_rows(rt: &impl Abort, alloc: Global, rows: &[Row]) -> Result<(), Fail> {
-    let types = graph(alloc)?;
-    for (view, a, b, same, subtype, assign) in rows {
+    let bump = Bump::new(alloc);
+    let types = graph(alloc, &bump)?;
+    for (view, a, b, alike, below, assign) in rows {
         let a = TypeId(*a);
         let b = TypeId(*b);
-        let is_same = types.same(alloc, a, b)?;
-        let is_subtype = types.subtype(alloc, *view, a, b)?;
-        let how = types.assignable(alloc, *view, a, b)?;
-        assert!(rt; is_same == *same, "same {a:?} {b:?}");
-        assert!(rt; is_subtype == *subtype, "subtype {a:?} {b:?} in {view}");
+        let is_same = same(alloc, &types, a, b)?;
+        let is_subtype = subtype(alloc, &types, *view, a, b)?;
+        let how = assignable(alloc, &types, *view, a, b)?;
+        assert!(rt; is_same == *alike, "same {a:?} {b:?}");
+        assert!(rt; is_subtype == *below, "subtype {a:?} {b:?} in {view}");
         assert!(rt; how == *assign, "assignable {a:?} {b:?} in {view}");
     }
     Ok(())
@@ -373,12 +379,22 @@ fn procedures_and_opaque_types(rt: HostRuntime) -> Result<(), Fail> {
 }
 
 // Two families of count references to records: the i-th record has the next reference and another one,
-// and the last record of the second family has other names if it is to differ.
-fn families(alloc: Global, count: u32, differ: bool) -> Result<TypeGraph, Fail> {
-    let mut nodes = Vec::new(alloc);
+// and the last record of the second family has other names if it is to differ. All places are reserved
+// first and set from the last one on.
+fn families<'a>(
+    alloc: Global,
+    bump: &'a Bump,
+    count: u32,
+    differ: bool,
+) -> Result<TypeGraph<'a>, Fail> {
+    let mut types = TypeGraph::new(alloc);
+    for _place in 0..count.wrapping_mul(4) {
+        types.reserve()?;
+    }
     for family in 0..2u32 {
         let first = family.wrapping_mul(count).wrapping_mul(2);
-        for i in 0..count {
+        for step in 0..count {
+            let i = count.wrapping_sub(step).wrapping_sub(1);
             let next = i.wrapping_add(1) % count.max(1);
             let other = i.wrapping_mul(7).wrapping_add(3) % count.max(1);
             let here = first.wrapping_add(i.wrapping_mul(2));
@@ -387,27 +403,34 @@ fn families(alloc: Global, count: u32, differ: bool) -> Result<TypeGraph, Fail> 
             } else {
                 b"a"
             };
-            put(
-                &mut nodes,
+            let fields = bump.try_alloc_slice_copy(&[
+                field(name, first.wrapping_add(next.wrapping_mul(2))),
+                field(b"b", first.wrapping_add(other.wrapping_mul(2))),
+            ])?;
+            fill(
+                &mut types,
+                here,
                 TypeNode::RefTo(None, TypeId(here.wrapping_add(1))),
-            )?;
-            let fields = vec![in alloc;
-                field(alloc, name, first.wrapping_add(next.wrapping_mul(2)))?,
-                field(alloc, b"b", first.wrapping_add(other.wrapping_mul(2)))?,
-            ]?;
-            put(&mut nodes, TypeNode::Fields(fields))?;
+            );
+            fill(&mut types, here.wrapping_add(1), TypeNode::Fields(fields));
         }
     }
-    plain_graph(alloc, nodes)
+    Ok(types)
 }
 
 #[test]
 fn large_families(rt: HostRuntime) -> Result<(), Fail> {
-    let alike = families(rt.alloc(), 20000, false)?;
-    assert!(rt; alike.same(rt.alloc(), TypeId(0), TypeId(40000))?);
-    let other = families(rt.alloc(), 20000, true)?;
-    assert!(rt; !other.same(rt.alloc(), TypeId(0), TypeId(40000))?);
-    assert!(rt; !other.subtype(rt.alloc(), 0, TypeId(0), TypeId(40000))?);
+    let alloc = rt.alloc();
+    let bump = Bump::new(alloc);
+    let mut alike = families(alloc, &bump, 20000, false)?;
+    assert!(rt; same(alloc, &alike, TypeId(0), TypeId(40000))?);
+    // the graph grows, and answers stay
+    put(&mut alike, TypeNode::RefTo(None, TypeId(1)))?;
+    assert!(rt; same(alloc, &alike, TypeId(80000), TypeId(40000))?);
+    assert!(rt; same(alloc, &alike, TypeId(0), TypeId(40000))?);
+    let other = families(alloc, &bump, 20000, true)?;
+    assert!(rt; !same(alloc, &other, TypeId(0), TypeId(40000))?);
+    assert!(rt; !subtype(alloc, &other, 0, TypeId(0), TypeId(40000))?);
     Ok(())
 }
 
@@ -415,37 +438,164 @@ fn large_families(rt: HostRuntime) -> Result<(), Fail> {
 #[test]
 fn long_records(rt: HostRuntime) -> Result<(), Fail> {
     let alloc = rt.alloc();
-    let mut nodes = Vec::new(alloc);
-    put(&mut nodes, TypeNode::Integer)?;
+    let bump = Bump::new(alloc);
+    let mut types = TypeGraph::new(alloc);
+    put(&mut types, TypeNode::Integer)?;
     for i in 0..120000u32 {
         let below = if i < 2 { 0 } else { i - 1 };
-        put(&mut nodes, record(alloc, b"r", below)?)?;
+        put(&mut types, record(&bump, b"r", below)?)?;
     }
-    let types = plain_graph(alloc, nodes)?;
-    assert!(rt; types.same(alloc, TypeId(119999), TypeId(120000))?);
-    assert!(rt; !types.same(alloc, TypeId(119998), TypeId(119999))?);
+    assert!(rt; same(alloc, &types, TypeId(119999), TypeId(120000))?);
+    assert!(rt; !same(alloc, &types, TypeId(119998), TypeId(119999))?);
     Ok(())
 }
 
-// A chain of 60,000 parents.
+// A chain of 60,000 parents, and another of 30,000 whose types are the same as its first ones.
 #[test]
 fn long_parents(rt: HostRuntime) -> Result<(), Fail> {
     let alloc = rt.alloc();
-    let mut nodes = Vec::new(alloc);
-    put(&mut nodes, TypeNode::Root)?;
+    let mut types = TypeGraph::new(alloc);
+    put(&mut types, TypeNode::Root)?;
     for i in 0..60000u32 {
-        put(&mut nodes, bare_object(alloc, i))?;
+        put(&mut types, bare_object(None, i))?;
     }
-    let types = plain_graph(alloc, nodes)?;
-    assert!(rt; types.subtype(alloc, 0, TypeId(60000), TypeId(1))?);
-    assert!(rt; types.subtype(alloc, 0, TypeId(60000), TypeId(0))?);
-    assert!(rt; !types.subtype(alloc, 0, TypeId(1), TypeId(60000))?);
+    for i in 0..30000u32 {
+        let parent = if i == 0 { 0 } else { i.wrapping_add(60000) };
+        put(&mut types, bare_object(None, parent))?;
+    }
+    for (a, b, below) in [
+        (60000, 1, true),
+        (60000, 0, true),
+        (1, 60000, false),
+        (60000, 60001, true),
+        (60000, 75000, true),
+        (90000, 30000, true),
+        (90000, 15000, true),
+        (75000, 30000, false),
+    ] {
+        let is = subtype(alloc, &types, 0, TypeId(a), TypeId(b))?;
+        assert!(rt; is == below, "subtype {a} {b}");
+    }
+    Ok(())
+}
+
+// A chain of 60,000 opaque types, each bounded by the one before: from 1 on the opaque types have odd
+// places, and behind each stands the branded object type that fully reveals it in view 1, whose parent
+// is the opaque type before.
+#[test]
+fn long_opaque_types(rt: HostRuntime) -> Result<(), Fail> {
+    let alloc = rt.alloc();
+    let mut types = TypeGraph::new(alloc);
+    put(&mut types, TypeNode::Root)?;
+    for i in 0..60000u32 {
+        let opaque = i.wrapping_mul(2).wrapping_add(1);
+        let below = if i == 0 { 0 } else { opaque.wrapping_sub(2) };
+        put(&mut types, TypeNode::Opaque(TypeId(below), Secret::Revealed))?;
+        put(&mut types, bare_object(Some(Brand::Occurrence(i)), below))?;
+        add(&mut types, reveal(1, opaque, opaque.wrapping_add(1), true))?;
+        if i % 20000 == 0 {
+            assert!(rt; subtype(alloc, &types, 1, TypeId(opaque), TypeId(1))?);
+            assert!(rt; subtype(alloc, &types, 1, TypeId(opaque.wrapping_add(1)), TypeId(opaque))?);
+        }
+    }
+    let last = 119999;
+    for (view, a, b, below) in [
+        (0, last, 1, true),
+        (1, last, 1, true),
+        (1, last, 2, true),
+        (0, last, 2, false),
+        (1, 120000, 2, true),
+        (1, 1, last, false),
+        (0, last, 0, true),
+    ] {
+        let is = subtype(alloc, &types, view, TypeId(a), TypeId(b))?;
+        assert!(rt; is == below, "subtype {a} {b} in {view}");
+    }
+    Ok(())
+}
+
+// 65,535 types: what a program may have. References to the ones before, all told apart.
+#[test]
+fn as_many_types_as_a_program_may_have(rt: HostRuntime) -> Result<(), Fail> {
+    let alloc = rt.alloc();
+    let mut types = TypeGraph::new(alloc);
+    put(&mut types, TypeNode::Integer)?;
+    for i in 0..65534u32 {
+        put(&mut types, TypeNode::RefTo(None, TypeId(i)))?;
+    }
+    assert!(rt; !same(alloc, &types, TypeId(65534), TypeId(65533))?);
+    assert!(rt; assignable(alloc, &types, 0, TypeId(65534), TypeId(65533))? == Assign::No);
+    assert!(rt; assignable(alloc, &types, 0, TypeId(65534), TypeId(65534))? == Assign::Yes);
+    let sized = SizedTypes::measure(alloc, types)?;
+    assert!(rt; sized.has_size(TypeId(65534)));
+    Ok(())
+}
+
+// Constants are compared by value: 1 to 10 are 5, 5, 6, the texts ab, ab and ac, (5, ab) twice by other
+// places, (6, ab), and NIL.
+#[test]
+fn constants(rt: HostRuntime) -> Result<(), Fail> {
+    let alloc = rt.alloc();
+    let bump = Bump::new(alloc);
+    let mut types = TypeGraph::new(alloc);
+    put(&mut types, TypeNode::Integer)?;
+    for value in [
+        ConstValue::Ordinal(5),
+        ConstValue::Ordinal(5),
+        ConstValue::Ordinal(6),
+        ConstValue::Text(b"ab"),
+        ConstValue::Text(b"ab"),
+        ConstValue::Text(b"ac"),
+        ConstValue::Fields(bump.try_alloc_slice_copy(&[ConstId(1), ConstId(4)])?),
+        ConstValue::Fields(bump.try_alloc_slice_copy(&[ConstId(2), ConstId(5)])?),
+        ConstValue::Fields(bump.try_alloc_slice_copy(&[ConstId(3), ConstId(4)])?),
+        ConstValue::Nil,
+    ] {
+        put(&mut types, TypeNode::Constant(value))?;
+    }
+    // 11 to 20: a record whose field has each of them as its default
+    for value in 1..11u32 {
+        put(&mut types, record_with_default(&bump, b"a", value)?)?;
+    }
+    for (a, b, alike) in [
+        (11, 12, true),
+        (11, 13, false),
+        (14, 15, true),
+        (14, 16, false),
+        (11, 14, false),
+        (17, 18, true),
+        (17, 19, false),
+        (20, 14, false),
+        (20, 20, true),
+    ] {
+        let is = same(alloc, &types, TypeId(a), TypeId(b))?;
+        assert!(rt; is == alike, "same {a} {b}");
+    }
+    Ok(())
+}
+
+// A place that is reserved is the same as itself alone, and can be set once.
+#[test]
+fn reserved_places(rt: HostRuntime) -> Result<(), Fail> {
+    let alloc = rt.alloc();
+    let mut types = TypeGraph::new(alloc);
+    let first = types.reserve()?;
+    let second = types.reserve()?;
+    assert!(rt; types.is_reserved(first));
+    assert!(rt; same(alloc, &types, first, first)?);
+    assert!(rt; !same(alloc, &types, first, second)?);
+    fill(&mut types, first.0, TypeNode::Integer);
+    fill(&mut types, second.0, TypeNode::Integer);
+    assert!(rt; !types.is_reserved(first));
+    assert!(rt; same(alloc, &types, first, second)?);
     Ok(())
 }
 
 #[test]
 fn words(rt: HostRuntime) -> Result<(), Fail> {
-    let types = graph(rt.alloc())?;
+    let alloc = rt.alloc();
+    let bump = Bump::new(alloc);
+    let types = SizedTypes::measure(alloc, graph(alloc, &bump)?)?;
     for (place, words) in [
         (0u32, 1u64),
         (5, 1),

@@ -9,13 +9,13 @@ use Rattle.m3_layout.proofs.cells.object_shape.Goals as goal
 
 pub add_line-requires-clause-known : goal.add_line-requires-clause-known
 add_line-requires-clause-known c =
-    let nodes = c.args.types.now.nodes.items in
+    let nodes = c.args.types.now.graph.nodes.items in
     subst (λ (o : List ℕ). AreRuns nodes o c.new-walk.result.runs) (sym c.new-walk.ensures.offsets) (c.new-walk.ensures.known nodes)
 
 pub returns-clause-order : goal.returns-clause-order
 returns-clause-order c =
-    let nodes = c.args.types.now.nodes.items in
-    let reveals = c.args.types.now.reveals.items in
+    let nodes = c.args.types.now.graph.nodes.items in
+    let reveals = c.args.types.now.graph.reveals.items in
     let us = c.deref.result.now in
     let xs = map (λ (u : TypeId). u.0) us in
     let P = λ (u : TypeId). CanStand nodes reveals u.0 (node_at nodes u.0) in

@@ -1,5 +1,5 @@
 use Rattle.std.proofs.Common.{◌≡◌, ℕ, ◌+◌, ◌++◌, ◌≤◌, List, length, ap, sym, ◌∙◌, subst, arith}
-use Rattle.m3_types.specs.Sizes.{most_words}
+use Rattle.m3_sizes.specs.Sizes.{most_words}
 use Rattle.m3_layout.specs.Pointers.{value_words, value_pointers, RisesWithin}
 use Rattle.m3_layout.specs.Walking.{AreRuns}
 use Rattle.m3_layout.proofs.InOrder.{sized_low}
@@ -8,18 +8,18 @@ use Rattle.m3_layout.proofs.cells.value_shape.Goals as goal
 
 pub add_value-requires-clause-known : goal.add_value-requires-clause-known
 add_value-requires-clause-known c =
-    let nodes = c.args.types.now.nodes.items in
+    let nodes = c.args.types.now.graph.nodes.items in
     subst (λ (o : List ℕ). AreRuns nodes o c.new-walk.result.runs) (sym c.new-walk.ensures.offsets) (c.new-walk.ensures.known nodes)
 
 pub add_value-requires-clause-fits : goal.add_value-requires-clause-fits
 add_value-requires-clause-fits c =
-    let nodes = c.args.types.now.nodes.items in
+    let nodes = c.args.types.now.graph.nodes.items in
     let low : value_words nodes c.args.t.0 ≤ most_words = sized_low nodes (length nodes) c.args.t.0 c.words_of-words.ensures.shallow in
     omega (arith, c.requires.header)
 
 pub returns-clause-rises : goal.returns-clause-rises
 returns-clause-rises c =
-    let nodes = c.args.types.now.nodes.items in
+    let nodes = c.args.types.now.graph.nodes.items in
     let header = c.args.header in
     let i = c.args.t.0 in
     let words : c.words_of-words.result ≡ value_words nodes i = c.words_of-words.ensures.words (length nodes) c.words_of-words.ensures.shallow in

@@ -1,11 +1,11 @@
 use Rattle.std.proofs.Common.{◌≡◌, ◌+◌, drop}
-use Rattle.m3_types.specs.Sizes.{HasSize, EachField, field_words}
+use Rattle.m3_sizes.specs.Sizes.{HasSize, EachField, field_words}
 use Rattle.m3_layout.specs.Pointers.{value_words}
 use Rattle.m3_layout.proofs.lines.field_words.Given as goal
 
 abbrev pub invariant-loop-field : goal.invariant-loop-field
 invariant-loop-field l = record {
-  sum : l.sum + field_words (value_words l.types.nodes.items) (drop l.field-index l.fields) ≡ field_words (value_words l.types.nodes.items) l.fields;
-  sizes : EachField (HasSize l.types.nodes.items) (drop l.field-index l.fields) → EachField (HasSize l.types.nodes.items) l.fields;
-  left : EachField (HasSize l.types.nodes.items) l.fields → EachField (HasSize l.types.nodes.items) (drop l.field-index l.fields);
+  sum : l.sum + field_words (value_words l.types.graph.nodes.items) (drop l.field-index l.fields) ≡ field_words (value_words l.types.graph.nodes.items) l.fields;
+  sizes : EachField (HasSize l.types.graph.nodes.items) (drop l.field-index l.fields) → EachField (HasSize l.types.graph.nodes.items) l.fields;
+  left : EachField (HasSize l.types.graph.nodes.items) l.fields → EachField (HasSize l.types.graph.nodes.items) (drop l.field-index l.fields);
 }

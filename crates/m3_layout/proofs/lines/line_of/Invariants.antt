@@ -3,7 +3,7 @@ use Rattle.m3_layout.proofs.Lineage.{LineSoFar}
 use Rattle.m3_layout.proofs.lines.line_of.Given as goal
 
 abbrev pub invariant-loop-parent : goal.invariant-loop-parent
-invariant-loop-parent l = LineSoFar l.types.nodes.items l.types.reveals.items l.line.items l.top l.fn.t
+invariant-loop-parent l = LineSoFar l.types.graph.nodes.items l.types.graph.reveals.items l.line.items l.top l.fn.t
 
 abbrev pub decreases-loop-parent : goal.decreases-loop-parent
-decreases-loop-parent l = length l.types.nodes.items - length l.line.items
+decreases-loop-parent l = length l.types.graph.nodes.items - length l.line.items

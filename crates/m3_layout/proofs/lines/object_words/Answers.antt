@@ -6,8 +6,8 @@ use Rattle.m3_layout.proofs.lines.object_words.Goals as goal
 
 pub returns-in_err-own_words-clause-none : goal.returns-in_err-own_words-clause-none
 returns-in_err-own_words-clause-none c =
-    let nodes = c.args.types.now.nodes.items in
-    let reveals = c.args.types.now.reveals.items in
+    let nodes = c.args.types.now.graph.nodes.items in
+    let reveals = c.args.types.now.graph.reveals.items in
     let limit = length nodes - c.loop-type._type in
     let limit' = length nodes - (c.loop-type._type + 1) in
     let el : limit ≡ suc limit' = omega arith in
@@ -17,8 +17,8 @@ returns-in_err-own_words-clause-none c =
 
 pub returns-in_err-words-clause-none : goal.returns-in_err-words-clause-none
 returns-in_err-words-clause-none c =
-    let nodes = c.args.types.now.nodes.items in
-    let reveals = c.args.types.now.reveals.items in
+    let nodes = c.args.types.now.graph.nodes.items in
+    let reveals = c.args.types.now.graph.reveals.items in
     let limit = length nodes - c.loop-type._type in
     let limit' = length nodes - (c.loop-type._type + 1) in
     let el : limit ≡ suc limit' = omega arith in
@@ -29,8 +29,8 @@ returns-in_err-words-clause-none c =
 
 pub returns-in-None-clause-some : goal.returns-in-None-clause-some
 returns-in-None-clause-some c =
-    let nodes = c.args.types.now.nodes.items in
-    let reveals = c.args.types.now.reveals.items in
+    let nodes = c.args.types.now.graph.nodes.items in
+    let reveals = c.args.types.now.graph.reveals.items in
     let limit = length nodes - c.loop-type._type in
     let limit' = length nodes - (c.loop-type._type + 1) in
     let el : limit ≡ suc limit' = omega arith in
@@ -39,8 +39,8 @@ returns-in-None-clause-some c =
 
 pub loop-type-preserved : goal.loop-type-preserved
 loop-type-preserved c =
-    let nodes = c.args.types.now.nodes.items in
-    let reveals = c.args.types.now.reveals.items in
+    let nodes = c.args.types.now.graph.nodes.items in
+    let reveals = c.args.types.now.graph.reveals.items in
     let limit = length nodes - c.loop-type._type in
     let limit' = length nodes - (c.loop-type._type + 1) in
     let el : limit ≡ suc limit' = omega arith in

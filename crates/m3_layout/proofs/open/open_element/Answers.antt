@@ -5,7 +5,7 @@ use Rattle.m3_layout.proofs.open.open_element.Goals as goal
 
 pub loop-dim-preserved : goal.loop-dim-preserved
 loop-dim-preserved c =
-    let nodes = c.args.types.now.nodes.items in
+    let nodes = c.args.types.now.graph.nodes.items in
     let limit = most_dims nodes - c.loop-dim._dim in
     let limit' = most_dims nodes - (c.loop-dim._dim + 1) in
     let el : limit ≡ suc limit' = omega arith in

@@ -1,28 +1,34 @@
-use Rattle.std.proofs.Common.{◌≡◌, ◌+◌, ◌++◌, length, drop, ap, ◌∙◌, arith}
+use Rattle.std.proofs.Common.{◌≡◌, ◌+◌, ◌++◌, [], None, length, get_or, drop, ap, ◌∙◌, arith}
+use Rattle.m3_types.specs.declared.nodes.Field.{Field}
+use Rattle.m3_types.proofs.Lists.{get_or_any}
 use Rattle.m3_layout.specs.Pointers.{value_words, value_pointers, field_pointers}
 use Rattle.m3_layout.proofs.Lineage.{field_step, offsets_on}
 use Rattle.m3_layout.proofs.walk.Walk.add_fields.Goals as goal
 
+-- the field that stands past the end of a list
+abbrev no_field : Field
+no_field = record { name = record { ref_ptr = (0, 0); now = [] }; kind = record { 0 = 0 }; default = None }
+
 pub add_value-requires-clause-sized : goal.add_value-requires-clause-sized
 add_value-requires-clause-sized c =
-    (field_step c.args.types.now.nodes.items c.args.fields.now c.loop-field.field-index c.loop-field.next c.field-item.result c.loop-field-test.true c.field-item.is).size c.loop-field.invariant.sized
+    (field_step c.args.types.now.graph.nodes.items c.args.fields.now c.loop-field.field-index c.loop-field.next (get_or c.args.fields.now c.loop-field.field-index no_field) c.loop-field-test.true (get_or_any c.args.fields.now c.loop-field.field-index _ _ c.loop-field-test.true)).size c.loop-field.invariant.sized
 
 pub add_value-requires-clause-fits : goal.add_value-requires-clause-fits
 add_value-requires-clause-fits c =
-    let s = field_step c.args.types.now.nodes.items c.args.fields.now c.loop-field.field-index c.loop-field.next c.field-item.result c.loop-field-test.true c.field-item.is in
+    let s = field_step c.args.types.now.graph.nodes.items c.args.fields.now c.loop-field.field-index c.loop-field.next (get_or c.args.fields.now c.loop-field.field-index no_field) c.loop-field-test.true (get_or_any c.args.fields.now c.loop-field.field-index _ _ c.loop-field-test.true) in
     omega (arith, s.words, c.loop-field.invariant.after, c.requires.fits)
 
 pub words_of-next-requires : goal.words_of-next-requires
 words_of-next-requires c =
-    (field_step c.args.types.now.nodes.items c.args.fields.now c.loop-field.field-index c.loop-field.next c.field-item.result c.loop-field-test.true c.field-item.is).size c.loop-field.invariant.sized
+    (field_step c.args.types.now.graph.nodes.items c.args.fields.now c.loop-field.field-index c.loop-field.next (get_or c.args.fields.now c.loop-field.field-index no_field) c.loop-field-test.true (get_or_any c.args.fields.now c.loop-field.field-index _ _ c.loop-field-test.true)).size c.loop-field.invariant.sized
 
 pub loop-field-preserved : goal.loop-field-preserved
 loop-field-preserved c =
-    let nodes = c.args.types.now.nodes.items in
+    let nodes = c.args.types.now.graph.nodes.items in
     let next = c.loop-field.next in
-    let f = c.field-item.result in
+    let f = (get_or c.args.fields.now c.loop-field.field-index no_field) in
     let rest = drop (c.loop-field.field-index + 1) c.args.fields.now in
-    let s = field_step nodes c.args.fields.now c.loop-field.field-index next f c.loop-field-test.true c.field-item.is in
+    let s = field_step nodes c.args.fields.now c.loop-field.field-index next f c.loop-field-test.true (get_or_any c.args.fields.now c.loop-field.field-index _ _ c.loop-field-test.true) in
     let words : c.words_of-next.result ≡ value_words nodes f.kind.0 = c.words_of-next.ensures.words (length nodes) c.words_of-next.ensures.shallow in
     record {
       known = c.in_ok-add_value.ensures.known;

@@ -13,12 +13,12 @@ add_own-requires-clause-fits c =
     let u = get_or line c.loop-t.t-index none in
     let xs = map (λ (v : TypeId). v.0) line in
     let l : c.loop-t.t-index < length xs = omega (arith, length-map line (λ (v : TypeId). v.0)) in
-    let s : LineStep c.args.types.now.nodes.items xs c.loop-t.t-index c.loop-t.next u.0 = line_step c.args.types.now.nodes.items xs c.loop-t.t-index c.loop-t.next u.0 l (sym (get_or-map (λ (v : TypeId). v.0) line c.loop-t.t-index none u.0 c.loop-t-test.true)) in
+    let s : LineStep c.args.types.now.graph.nodes.items xs c.loop-t.t-index c.loop-t.next u.0 = line_step c.args.types.now.graph.nodes.items xs c.loop-t.t-index c.loop-t.next u.0 l (sym (get_or-map (λ (v : TypeId). v.0) line c.loop-t.t-index none u.0 c.loop-t-test.true)) in
     omega (arith, s.words, c.loop-t.invariant.after, c.requires.fits)
 
 pub loop-t-preserved : goal.loop-t-preserved
 loop-t-preserved c =
-    let nodes = c.args.types.now.nodes.items in
+    let nodes = c.args.types.now.graph.nodes.items in
     let line = c.args.line.now in
     let none : TypeId = record { 0 = 0 } in
     let u = get_or line c.loop-t.t-index none in
