@@ -114,6 +114,31 @@ pub enum CoreExpr<'a> {
     },
 }
 
+impl CoreExpr<'_> {
+    /// The place of its first token.
+    pub fn pos(&self) -> Pos {
+        match self {
+            CoreExpr::Chain(chain) => chain.pos,
+            CoreExpr::Builtin(call) => call.pos,
+            CoreExpr::Number { pos, .. }
+            | CoreExpr::Text { pos, .. }
+            | CoreExpr::Nil { pos, .. }
+            | CoreExpr::Procedure { pos, .. }
+            | CoreExpr::InnerProcedure { pos, .. }
+            | CoreExpr::Constant { pos, .. }
+            | CoreExpr::Prefixed { pos, .. }
+            | CoreExpr::Operations { pos, .. }
+            | CoreExpr::SetOf { pos, .. }
+            | CoreExpr::ArrayOf { pos, .. }
+            | CoreExpr::RecordOf { pos, .. }
+            | CoreExpr::New { pos, .. }
+            | CoreExpr::Convert { pos, .. }
+            | CoreExpr::TypeTest { pos, .. }
+            | CoreExpr::ArrayLimit { pos, .. } => *pos,
+        }
+    }
+}
+
 /// An operator before an operand, with its place, where a minus or ABS faults with Overflow.
 #[derive(Clone, Copy)]
 pub struct Prefix {

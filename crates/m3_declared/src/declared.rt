@@ -40,6 +40,7 @@ pub struct Declared<'a> {
     types_at: IndexMap<(u32, Pos), TypeId>,
     constants_at: IndexMap<(u32, Pos), Constant>,
     texts_at: IndexMap<(u32, Pos), u32>,
+    procedures: IndexMap<EntityId, u32>,
 }
 
 impl<'a> Declared<'a> {
@@ -56,6 +57,7 @@ impl<'a> Declared<'a> {
             types_at: IndexMap::new(alloc),
             constants_at: IndexMap::new(alloc),
             texts_at: IndexMap::new(alloc),
+            procedures: IndexMap::new(alloc),
         }
     }
 
@@ -122,6 +124,16 @@ impl<'a> Declared<'a> {
 
     pub fn place_text(&mut self, unit: u32, at: Pos, cell: u32) -> Result<(), NoMemory> {
         self.texts_at.insert((unit, at), cell)?;
+        Ok(())
+    }
+
+    /// The number of a procedure that has a body; of a head in an interface that of its body.
+    pub fn procedure_number(&self, entity: EntityId) -> Option<u32> {
+        self.procedures.get(&entity).copied()
+    }
+
+    pub fn number_procedure(&mut self, entity: EntityId, number: u32) -> Result<(), NoMemory> {
+        self.procedures.insert(entity, number)?;
         Ok(())
     }
 }

@@ -1,52 +1,51 @@
-//! Reads and links the programs that its arguments name: `build IMAGE FILE..` prints the least refusal.
+//! Tries what reads and links programs on files of cases, which the arguments name. A case is a title
+//! behind `== `, its files behind `--- NAME`, and behind `>>> ` what they give: `ok`, the least refusal as
+//! `FILE:LINE:COLUMN: rule N`, `order` and the places of the modules in the order of their bodies, or
+//! `units` and their number. Cases that come out otherwise are shown. The word `link` and files behind it
+//! in place of that print the refusal of these files alone.
 #![tactic(auto)]
 
-use bumpalo::Bump;
-use m3_base::{Refused, Source, rule_text};
-use m3_checker::read_program;
-use std::process::ExitCode;
+mod cases;
+mod large;
+mod programs;
+
+use cases::try_cases;
+use large::try_large;
+use programs::{answer_of, read_files};
 use std::rt::{Env, Files};
 use std::{env, fs, io};
 
-fn run(rt: &(impl Print + Eprint + Env + Files + AllocGlobal)) -> io::Result<ExitCode> {
-    let mut names = Vec::new(rt.alloc());
-    for word in env::args(rt)?.skip(3) {
-        names.push(word)?;
+fn run(rt: &(impl Print + Env + Files + AllocGlobal)) -> io::Result<()> {
+    let mut words = Vec::new(rt.alloc());
+    for word in env::args(rt)?.skip(1) {
+        words.push(word)?;
     }
-    let mut texts = Vec::new(rt.alloc());
-    for name in &names {
-        texts.push(fs::read(rt, name.as_str())?)?;
-    }
-    let mut sources = Vec::new(rt.alloc());
-    for (name, text) in names.iter().zip(&texts) {
-        if text.len() < 1_048_577 {
-            sources.push(Source {
-                name: name.as_bytes(),
-                text: text.as_slice(),
-            })?;
+    if let Some(first) = words.first() {
+        if first.as_str() == "link" {
+            return link_files(rt, words.get(1..).unwrap_or(&[]));
         }
     }
-    let arena = Bump::new(rt.alloc());
-    match read_program(rt.alloc(), &arena, sources.as_slice()) {
-        Ok(_) => Ok(ExitCode::SUCCESS),
-        Err(Refused::NoMemory) => {
-            eprintln!(rt; "out of memory")?;
-            Ok(ExitCode::from(5))
-        }
-        Err(Refused::Rule(refusal)) => {
-            let text = rule_text(refusal.rule).unwrap_or("");
-            let name = names
-                .get(refusal.pos.file as usize)
-                .map_or("", |name| name.as_str());
-            let line = refusal.pos.line;
-            let col = refusal.pos.col;
-            let rule = refusal.rule;
-            eprintln!(rt; "{name}:{line}:{col}: rule {rule} {text}")?;
-            Ok(ExitCode::from(1))
-        }
+    for word in &words {
+        let name = word.as_str();
+        let tally = if name == "large" {
+            try_large(rt)?
+        } else {
+            let content = fs::read_to_string(rt, name)?;
+            try_cases(rt, content.as_str())?
+        };
+        let cases = tally.cases;
+        let differing = tally.differing;
+        println!(rt; "{name}: {cases} cases, {differing} come out otherwise")?;
     }
+    Ok(())
 }
 
-fn main(rt: HostRuntime) -> io::Result<ExitCode> {
+fn link_files(rt: &(impl Print + Files + AllocGlobal), names: &[String]) -> io::Result<()> {
+    let texts = read_files(rt, names)?;
+    let answer = answer_of(rt.alloc(), names, texts.as_slice(), "")?;
+    println!(rt; "{answer}")
+}
+
+fn main(rt: HostRuntime) -> io::Result<()> {
     run(&rt)
 }

@@ -1,18 +1,7 @@
 use crate::types::walk_type;
 use m3_base::NoMemory;
 use m3_scopes::Linker;
-use m3_syntax::{Actual, Element, Expr, Selector};
-
-#[cycle(phrases)]
-pub fn walk_optional<'a>(
-    linker: &mut Linker<'a>,
-    value: Option<&Expr<'a>>,
-) -> Result<(), NoMemory> {
-    match value {
-        Some(value) => walk_expression(linker, value),
-        None => Ok(()),
-    }
-}
+use m3_syntax::{Actual, Element, Expr, Name, Selector};
 
 /// The names in an expression.
 #[cycle(phrases)]
@@ -39,7 +28,16 @@ pub fn walk_expression<'a>(linker: &mut Linker<'a>, value: &Expr<'a>) -> Result<
             operand,
             selectors,
             ..
-        } => walk_selected(linker, operand, selectors),
+        } => {
+            match operand {
+                Expr::Name(name) => walk_first(linker, *name, selectors)?,
+                other => walk_expression(linker, other)?,
+            }
+            for selector in *selectors {
+                walk_selector(linker, selector)?;
+            }
+            Ok(())
+        }
         Expr::Constructor { kind, elements, .. } => {
             walk_type(linker, kind)?;
             for element in *elements {
@@ -50,23 +48,15 @@ pub fn walk_expression<'a>(linker: &mut Linker<'a>, value: &Expr<'a>) -> Result<
     }
 }
 
-#[cycle(phrases)]
-fn walk_selected<'a>(
+/// The name that a chain of selectors begins with, and behind it a name of the interface that it may be.
+fn walk_first<'a>(
     linker: &mut Linker<'a>,
-    operand: &Expr<'a>,
+    name: Name<'a>,
     selectors: &[Selector<'a>],
 ) -> Result<(), NoMemory> {
-    match operand {
-        Expr::Name(name) => {
-            let found = linker.name(*name)?;
-            if let (Some(found), Some(Selector::Member(member))) = (found, selectors.first()) {
-                linker.member(found.kind, *member)?;
-            }
-        }
-        other => walk_expression(linker, other)?,
-    }
-    for selector in selectors {
-        walk_selector(linker, selector)?;
+    let found = linker.name(name)?;
+    if let (Some(found), Some(Selector::Member(member))) = (found, selectors.first()) {
+        linker.member(found.kind, *member)?;
     }
     Ok(())
 }

@@ -2,7 +2,7 @@ use crate::declarations::{
     declare_all, declare_formals, walk_constants, walk_exceptions, walk_reveals, walk_types,
     walk_variables,
 };
-use crate::expressions::{walk_actuals, walk_expression, walk_optional};
+use crate::expressions::{walk_actuals, walk_expression};
 use crate::types::{walk_signature, walk_type};
 use m3_base::NoMemory;
 use m3_scopes::{EntityKind, Linker};
@@ -118,17 +118,6 @@ fn walk_named<'a>(
 }
 
 #[cycle(statements)]
-fn walk_otherwise<'a>(
-    linker: &mut Linker<'a>,
-    otherwise: Option<&'a [Stmt<'a>]>,
-) -> Result<(), NoMemory> {
-    match otherwise {
-        Some(statements) => walk_statements(linker, statements),
-        None => Ok(()),
-    }
-}
-
-#[cycle(statements)]
 fn walk_statement<'a>(linker: &mut Linker<'a>, statement: &'a Stmt<'a>) -> Result<(), NoMemory> {
     match statement {
         Stmt::Assign { target, value, .. } => {
@@ -151,9 +140,16 @@ fn walk_statement<'a>(linker: &mut Linker<'a>, statement: &'a Stmt<'a>) -> Resul
             ..
         } => {
             linker.qualid(exception)?;
-            walk_optional(linker, *argument)
+            match argument {
+                Some(argument) => walk_expression(linker, argument),
+                None => Ok(()),
+            }
         }
-        Stmt::Return { value, .. } => walk_optional(linker, *value),
+        Stmt::Return {
+            value: Some(value),
+            ..
+        } => walk_expression(linker, value),
+        Stmt::Return { value: None, .. } => Ok(()),
         Stmt::Block(block) => walk_block(linker, block),
         Stmt::Case {
             value,
@@ -206,7 +202,9 @@ fn walk_statement<'a>(linker: &mut Linker<'a>, statement: &'a Stmt<'a>) -> Resul
 fn walk_labels<'a>(linker: &mut Linker<'a>, labels: &[Label<'a>]) -> Result<(), NoMemory> {
     for label in labels {
         walk_expression(linker, label.first)?;
-        walk_optional(linker, label.last)?;
+        if let Some(last) = label.last {
+            walk_expression(linker, last)?;
+        }
     }
     Ok(())
 }
@@ -223,7 +221,10 @@ fn walk_case<'a>(
         walk_labels(linker, branch.labels)?;
         walk_statements(linker, branch.body)?;
     }
-    walk_otherwise(linker, otherwise)
+    match otherwise {
+        Some(statements) => walk_statements(linker, statements),
+        None => Ok(()),
+    }
 }
 
 #[cycle(statements)]
@@ -239,7 +240,9 @@ fn walk_for<'a>(linker: &mut Linker<'a>, statement: &'a Stmt<'a>) -> Result<(), 
         } => {
             walk_expression(linker, first)?;
             walk_expression(linker, last)?;
-            walk_optional(linker, *step)?;
+            if let Some(step) = step {
+                walk_expression(linker, step)?;
+            }
             walk_named(linker, Some(*name), EntityKind::For, body)
         }
         _ => Ok(()),
@@ -256,7 +259,10 @@ fn walk_if<'a>(
         walk_expression(linker, arm.condition)?;
         walk_statements(linker, arm.body)?;
     }
-    walk_otherwise(linker, otherwise)
+    match otherwise {
+        Some(statements) => walk_statements(linker, statements),
+        None => Ok(()),
+    }
 }
 
 #[cycle(statements)]
@@ -280,7 +286,10 @@ fn walk_try<'a>(linker: &mut Linker<'a>, statement: &'a Stmt<'a>) -> Result<(), 
             for handler in *handlers {
                 walk_handler(linker, handler)?;
             }
-            walk_otherwise(linker, *otherwise)
+            match otherwise {
+                Some(statements) => walk_statements(linker, statements),
+                None => Ok(()),
+            }
         }
         _ => Ok(()),
     }
@@ -297,7 +306,10 @@ fn walk_typecase<'a>(
     for branch in branches {
         walk_type_branch(linker, branch)?;
     }
-    walk_otherwise(linker, otherwise)
+    match otherwise {
+        Some(statements) => walk_statements(linker, statements),
+        None => Ok(()),
+    }
 }
 
 #[cycle(statements)]

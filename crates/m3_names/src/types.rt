@@ -1,4 +1,4 @@
-use crate::expressions::{walk_expression, walk_optional};
+use crate::expressions::walk_expression;
 use m3_base::NoMemory;
 use m3_scopes::{EntityId, Linker};
 use m3_syntax::{
@@ -95,7 +95,10 @@ pub fn walk_init<'a>(linker: &mut Linker<'a>, init: &Init<'a>) -> Result<(), NoM
     match init {
         Init::Typed(kind, value) => {
             walk_type(linker, kind)?;
-            walk_optional(linker, *value)
+            match value {
+                Some(value) => walk_expression(linker, value),
+                None => Ok(()),
+            }
         }
         Init::Untyped(value) => walk_expression(linker, value),
     }
@@ -110,9 +113,9 @@ fn walk_fields<'a>(linker: &mut Linker<'a>, fields: &[Field<'a>]) -> Result<(), 
 }
 
 #[cycle(phrases)]
-fn walk_brand<'a>(linker: &mut Linker<'a>, brand: &Option<Brand<'a>>) -> Result<(), NoMemory> {
-    match brand {
-        Some(brand) => walk_optional(linker, brand.text),
+fn walk_brand<'a>(linker: &mut Linker<'a>, brand: &Brand<'a>) -> Result<(), NoMemory> {
+    match brand.text {
+        Some(text) => walk_expression(linker, text),
         None => Ok(()),
     }
 }
@@ -120,11 +123,15 @@ fn walk_brand<'a>(linker: &mut Linker<'a>, brand: &Option<Brand<'a>>) -> Result<
 #[cycle(phrases)]
 fn walk_part<'a>(linker: &mut Linker<'a>, part: &ObjectPart<'a>) -> Result<(), NoMemory> {
     judge_part(linker, part)?;
-    walk_brand(linker, &part.brand)?;
+    if let Some(brand) = &part.brand {
+        walk_brand(linker, brand)?;
+    }
     walk_fields(linker, part.fields)?;
     for method in part.methods {
         walk_signature(linker, &method.signature)?;
-        walk_optional(linker, method.default)?;
+        if let Some(default) = method.default {
+            walk_expression(linker, default)?;
+        }
     }
     for other in part.overrides {
         walk_expression(linker, other.value)?;
@@ -189,7 +196,9 @@ pub fn walk_type<'a>(linker: &mut Linker<'a>, kind: &TypeExp<'a>) -> Result<(), 
             if *is_untraced {
                 linker.note(*pos, 29);
             }
-            walk_brand(linker, brand)?;
+            if let Some(brand) = brand {
+                walk_brand(linker, brand)?;
+            }
             walk_type(linker, target)
         }
         TypeExp::Set { base, .. } => walk_type(linker, base),
