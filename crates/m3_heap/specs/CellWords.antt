@@ -3,7 +3,7 @@ use Rattle.std.specs.Prelude.{◌≡◌, ◌≢◌, ℕ, zero, suc, ◌+◌, ◌
 use Rattle.std.specs.List.{AllByRecursion}
 use Rattle.std.proofs.Common.{cond, refl, sym, ap, ◌∙◌, arith, ⊎_elim, length-set, leb, ltb}
 use Rattle.std.proofs.lemmas.Bool.{cases_Bool, cases_eq, cond-true, cond-false, and_parts, leb-true, ltb-true, eq-eqb, ne_eqb, false≢true}
-use Rattle.m3_heap.specs.Cells.{Cell, covers, cell_from, cell_word_at, is_start, is_writable, with_word, IsInHeap}
+use Rattle.m3_heap.specs.Cells.{Cell, covers, cell_from, cell_word_at, is_start, is_writable, with_word, layout, IsInHeap}
 
 set-get-same : (ws : List ℕ) (i w : ℕ) → i < length ws → slice_get (slice_set ws i w) i ≡ Some w
 set-get-same [] i w h = absurd (omega arith)
@@ -117,3 +117,16 @@ writable_after cells new at w true can is x =
     (λ (same : x ≡ at). ap (λ y. is_some (cell_word_at (with_word cells at w) y)) same ∙ ap is_some (word_there cells at w there) ∙ sym (ap (λ y. is_some (cell_word_at cells y)) same ∙ there))
     (λ (other : x ≢ at). ap is_some (word_elsewhere cells at w x other))
     (cases_eq x at))
+
+-- the cells lie where they lay
+pub layout_stays : (cells : List Cell) (at w : ℕ) → layout (with_word cells at w) ≡ layout cells
+layout_stays [] at w = refl
+layout_stays (c ∷ cs) at w =
+    elim (covers c at) as (λ b. layout ((cond b (record { start = c.start; words = slice_set c.words (at - c.start) w }) c) ∷ with_word cs at w) ≡ layout (c ∷ cs)) [
+      | true ↦ ap (λ n. (c.start, n) ∷ layout (with_word cs at w)) (length-set c.words (at - c.start) w) ∙ ap (λ l. (c.start, length c.words) ∷ l) (layout_stays cs at w)
+      | false ↦ ap (λ l. (c.start, length c.words) ∷ l) (layout_stays cs at w)
+    ]
+
+pub layout_after : (cells new : List Cell) (at w : ℕ) (b : Bool) → new ≡ cond b (with_word cells at w) cells → layout new ≡ layout cells
+layout_after cells new at w true is = ap layout is ∙ layout_stays cells at w
+layout_after cells new at w false is = ap layout is
