@@ -1,4 +1,6 @@
 pub mod State
+pub mod Addresses
+pub mod Kept
 pub mod Progress
 pub mod Calls
 pub mod Texts
@@ -7,3 +9,4 @@ pub mod Acts
 pub mod Steps
 pub mod Points
 pub mod Runs
+pub mod OutsideLaws
