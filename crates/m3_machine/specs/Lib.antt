@@ -1,6 +1,6 @@
-pub mod State
 pub mod Addresses
 pub mod Kept
+pub mod State
 pub mod Progress
 pub mod Calls
 pub mod Texts
@@ -10,3 +10,4 @@ pub mod Steps
 pub mod Points
 pub mod Runs
 pub mod OutsideLaws
+pub mod MemoryLaws

@@ -1,5 +1,5 @@
 -- The state of a machine between two instructions, and what each address holds in it.
-use Rattle.std.specs.Prelude.{ℕ, ◌≡◌, ◌+◌, ◌*◌, ◌^◌, Bool, List, [], length, map, replicate, slice_set}
+use Rattle.std.specs.Prelude.{ℕ, ◌≡◌, ◌+◌, ◌*◌, ◌^◌, Bool, List, [], length, replicate, slice_set}
 use Rattle.m3_isa.specs.Memory.{Memory}
 use Rattle.m3_isa.specs.declared.registers.Regs.{Regs}
 use Rattle.m3_heap.specs.Heap.{Heap, HasOtherWords as KeepsHeap}
@@ -9,6 +9,7 @@ use Rattle.m3_threads.specs.Actions.{at_start}
 use Rattle.m3_threads.specs.Spaces.{held, replaceable}
 use Rattle.m3_image.specs.Parts.{Program}
 use Rattle.m3_machine.specs.Addresses.{outside_of, settable_of}
+use Rattle.m3_machine.specs.Kept.{KeepsStacks}
 
 -- the threads with their stacks and the counts of forks and waits; the words of the globals; the heap; the
 -- thread that went last; how many bytes of the input were taken, and which bytes were put; how many points
@@ -43,18 +44,9 @@ can_set s = replaceable s.all (settable s)
 
 -- ---- states that differ in what their addresses hold
 
--- how many words each stack has
-abbrev pub depths : List (List ℕ) → List ℕ
-depths stacks = map (λ words. length words) stacks
-
 -- a state that is this one but for its words
 pub record HasOtherWords (old new : State) : Type 0 where
-  pub threads : new.all.threads ≡ old.all.threads
-  pub depths : depths new.all.stacks ≡ depths old.all.stacks
-  pub forks : new.all.forks ≡ old.all.forks
-  pub waits : new.all.waits ≡ old.all.waits
-  pub allowed : new.all.allowed ≡ old.all.allowed
-  pub stack : new.all.stack ≡ old.all.stack
+  pub all : KeepsStacks old.all new.all
   pub globals : length new.globals ≡ length old.globals
   pub heap : KeepsHeap old.heap new.heap
   pub rest : new ≡ record old { all = new.all; globals = new.globals; heap = new.heap }

@@ -2,6 +2,8 @@
 //! instruction does to it, the point between two turns, and a run. Of its code the memory is here.
 #![tactic(auto)]
 
+mod memory;
 mod outside;
 
+pub use memory::Memory;
 pub use outside::Outside;
