@@ -5,11 +5,11 @@ use Rattle.std.specs.Prelude.{◌||◌, not, IfSome}
 use Rattle.std.specs.Option.{IfNone}
 use Rattle.std.proofs.lemmas.Bool.{cases_Bool, eq-eqb, ne_eqb, cond-true, cond-false, false≢true, and_parts, leb-true, or_parts, ltb-false}
 use Rattle.std.proofs.lemmas.List.{length-replicate}
-use Rattle.m3_heap.specs.Cells.{Cell, heap_base, header, header_of, words_in, covers, cell_from, cell_word_at, is_start, is_writable, words_from, with_word, total_words, IsHeaded}
-use Rattle.m3_heap.specs.Heap.{IsSoundHeap}
+use Rattle.m3_heap.specs.Cells.{Cell, heap_base, header, header_of, words_in, covers, cell_from, cell_word_at, is_start, is_writable, words_from, with_word, layout, total_words, IsHeaded}
+use Rattle.m3_heap.specs.Heap.{Heap, HasOtherWords, IsSoundHeap}
 use Rattle.m3_heap.specs.Moves.{Move, new_start, is_kept, forwarded, with_kept, kept_words}
 use Rattle.m3_heap.specs.CollectorSpace.{Space, AreLaid}
-use Rattle.m3_heap.specs.CollectorTracing.{moves_from, marked, words_kept, IsShort, Traces, old_cells, copies, moves, IsTracing, Keeps}
+use Rattle.m3_heap.specs.CollectorTracing.{moves_from, copies_of, origin, marked, words_kept, IsShort, Traces, old_cells, copies, moves, IsTracing, Keeps}
 use Rattle.m3_heap.specs.CollectorScanning.{ArePlain}
 use Rattle.m3_heap.specs.Semi.{Semi, first_base, second_base}
 use Rattle.m3_heap.specs.CollectorHalves.{semi_of, IsSemi, cells_seen, semi_heap, AreAtRest, AreMoving, IsAsOpen}
@@ -147,6 +147,36 @@ rest-replace here here' at v false h can base size cells =
       },
       total,
     )
+
+-- the forwarding list stays where cells lie where they lay
+moves-same : (left : List Cell) (a : ℕ) (cs ds : List Cell) → layout cs ≡ layout ds → moves_from a (copies_of left cs) ≡ moves_from a (copies_of left ds)
+moves-same left a [] [] e = refl
+moves-same left a [] (d ∷ ds) e = cc
+moves-same left a (c ∷ cs) [] e = cc
+moves-same left a (c ∷ cs) (d ∷ ds) e =
+    let one : ℕ × ℕ = (c.start, length c.words) in
+    let two : ℕ × ℕ = (d.start, length d.words) in
+    let first : one ≡ two = cc in
+    let start : c.start ≡ d.start = ap (λ (p : ℕ × ℕ). p.0) first in
+    let long : length c.words ≡ length d.words = ap (λ (p : ℕ × ℕ). p.1) first in
+    let rest : layout cs ≡ layout ds = cc in
+    ap (λ n. record { from = origin left n; to = a } ∷ moves_from (a + length c.words) (copies_of left cs)) start
+    ∙ ap (λ n. record { from = origin left d.start; to = a } ∷ moves_from (a + n) (copies_of left cs)) long
+    ∙ ap (λ ms. record { from = origin left d.start; to = a } ∷ ms) (moves-same left (a + length d.words) cs ds rest)
+
+-- nothing but the words of cells changes
+pub words-only : (here here' there : Space) (b : Bool) (asked fulls : ℕ) → b ≡ false → here'.base ≡ here.base → here'.size ≡ here.size → layout here'.cells ≡ layout here.cells → total_words here'.cells ≡ total_words here.cells → HasOtherWords (semi_heap b here there asked fulls) (semi_heap b here' there asked fulls)
+words-only here here' there true asked fulls closed base size lay total = cc
+words-only here here' there false asked fulls closed base size lay total =
+    let cells = here'.cells in
+    let list : moves there here' ≡ moves there here = ap (λ b. moves_from b (copies_of there.cells cells)) base ∙ moves-same there.cells here.base cells here.cells lay in
+    record {
+      same_layout = lay;
+      rest =
+          ap (λ (ms : List Move). record (semi_heap false here' there asked fulls) { moves = ms }) list
+          ∙ ap (λ (n : ℕ). record (semi_heap false here' there asked fulls) { moves = moves there here; size = n; free = n - total_words cells }) size
+          ∙ ap (λ (n : ℕ). record (semi_heap false here there asked fulls) { cells = cells; free = here.size - n }) total;
+    }
 
 -- ---- a collection begins
 

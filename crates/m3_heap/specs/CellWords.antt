@@ -3,19 +3,20 @@ use Rattle.std.specs.Prelude.{◌≡◌, ◌≢◌, ℕ, zero, suc, ◌+◌, ◌
 use Rattle.std.specs.List.{AllByRecursion}
 use Rattle.std.proofs.Common.{cond, refl, sym, ap, ◌∙◌, arith, ⊎_elim, length-set, leb, ltb}
 use Rattle.std.proofs.lemmas.Bool.{cases_Bool, cases_eq, cond-true, cond-false, and_parts, leb-true, ltb-true, eq-eqb, ne_eqb, false≢true}
-use Rattle.m3_heap.specs.Cells.{Cell, covers, cell_from, cell_word_at, is_start, is_writable, with_word, IsInHeap}
+use Rattle.m3_heap.specs.Cells.{Cell, covers, cell_from, cell_word_at, is_start, is_writable, with_word, layout, IsInHeap}
 
-set-get-same : (ws : List ℕ) (i w : ℕ) → i < length ws → slice_get (slice_set ws i w) i ≡ Some w
-set-get-same [] i w h = absurd (omega arith)
-set-get-same (x ∷ xs) zero w h = refl
-set-get-same (x ∷ xs) (suc i) w h = set-get-same xs i w (omega arith)
+-- a word that is set in a list is found there, and any other as it was
+pub set_get_same : (ws : List ℕ) (i w : ℕ) → i < length ws → slice_get (slice_set ws i w) i ≡ Some w
+set_get_same [] i w h = absurd (omega arith)
+set_get_same (x ∷ xs) zero w h = refl
+set_get_same (x ∷ xs) (suc i) w h = set_get_same xs i w (omega arith)
 
-set-get-other : (ws : List ℕ) (i j w : ℕ) → j ≢ i → slice_get (slice_set ws i w) j ≡ slice_get ws j
-set-get-other [] i j w n = refl
-set-get-other (x ∷ xs) zero zero w n = absurd (n refl)
-set-get-other (x ∷ xs) zero (suc j) w n = refl
-set-get-other (x ∷ xs) (suc i) zero w n = refl
-set-get-other (x ∷ xs) (suc i) (suc j) w n = set-get-other xs i j w (λ e. n (ap suc e))
+pub set_get_other : (ws : List ℕ) (i j w : ℕ) → j ≢ i → slice_get (slice_set ws i w) j ≡ slice_get ws j
+set_get_other [] i j w n = refl
+set_get_other (x ∷ xs) zero zero w n = absurd (n refl)
+set_get_other (x ∷ xs) zero (suc j) w n = refl
+set_get_other (x ∷ xs) (suc i) zero w n = refl
+set_get_other (x ∷ xs) (suc i) (suc j) w n = set_get_other xs i j w (λ e. n (ap suc e))
 
 -- a cell after a word of its own was set
 set_in : Cell → ℕ → ℕ → Cell
@@ -54,7 +55,7 @@ word_elsewhere (c ∷ cs) at w x n =
     let one = bounds c at hit in
     let two = bounds c x here in
     let apart : (x - c.start) ≢ (at - c.start) = λ e. n (omega (arith, one.0, two.0)) in
-    cond-true (covers c x) _ _ here ∙ set-get-other c.words (at - c.start) (x - c.start) w apart ∙ sym (cond-true (covers c x) _ _ here))
+    cond-true (covers c x) _ _ here ∙ set_get_other c.words (at - c.start) (x - c.start) w apart ∙ sym (cond-true (covers c x) _ _ here))
     (λ (past : covers c x ≡ false). cond-false (covers c x) _ _ past ∙ rest ∙ sym (cond-false (covers c x) _ _ past))
     (cases_Bool (covers c x)))
     (λ (miss : covers c at ≡ false). stepped c cs at w x false miss ∙ ap (λ o. cond (covers c x) (slice_get c.words (x - c.start)) o) rest)
@@ -68,7 +69,7 @@ word_there (c ∷ cs) at w h =
     (λ (hit : covers c at ≡ true).
     let one = bounds c at hit in
     stepped c cs at w at true hit ∙ cond-true (covers (set_in c at w) at) _ _ (set-covers c at w at ∙ hit)
-    ∙ set-get-same c.words (at - c.start) w (omega (arith, one.0, one.1)))
+    ∙ set_get_same c.words (at - c.start) w (omega (arith, one.0, one.1)))
     (λ (miss : covers c at ≡ false).
     stepped c cs at w at false miss ∙ cond-false (covers c at) _ _ miss
     ∙ word_there cs at w (sym (ap is_some (cond-false (covers c at) (slice_get c.words (at - c.start)) (cell_word_at cs at) miss)) ∙ h))
@@ -117,3 +118,16 @@ writable_after cells new at w true can is x =
     (λ (same : x ≡ at). ap (λ y. is_some (cell_word_at (with_word cells at w) y)) same ∙ ap is_some (word_there cells at w there) ∙ sym (ap (λ y. is_some (cell_word_at cells y)) same ∙ there))
     (λ (other : x ≢ at). ap is_some (word_elsewhere cells at w x other))
     (cases_eq x at))
+
+-- the cells lie where they lay
+pub layout_stays : (cells : List Cell) (at w : ℕ) → layout (with_word cells at w) ≡ layout cells
+layout_stays [] at w = refl
+layout_stays (c ∷ cs) at w =
+    elim (covers c at) as (λ b. layout ((cond b (record { start = c.start; words = slice_set c.words (at - c.start) w }) c) ∷ with_word cs at w) ≡ layout (c ∷ cs)) [
+      | true ↦ ap (λ n. (c.start, n) ∷ layout (with_word cs at w)) (length-set c.words (at - c.start) w) ∙ ap (λ l. (c.start, length c.words) ∷ l) (layout_stays cs at w)
+      | false ↦ ap (λ l. (c.start, length c.words) ∷ l) (layout_stays cs at w)
+    ]
+
+pub layout_after : (cells new : List Cell) (at w : ℕ) (b : Bool) → new ≡ cond b (with_word cells at w) cells → layout new ≡ layout cells
+layout_after cells new at w true is = ap layout is ∙ layout_stays cells at w
+layout_after cells new at w false is = ap layout is

@@ -1,5 +1,5 @@
 -- The cells of a heap, seen as a list of starts with their words.
-use Rattle.std.specs.Prelude.{◌≡◌, ℕ, ◌+◌, ◌-◌, ◌*◌, ◌/◌, ◌%◌, ◌^◌, ◌≤◌, Bool, true, false, ◌&&◌, not, nat_lt, nat_le, ◌==◌, if◌then◌else◌, List, [], ◌∷◌, ◌++◌, length, replicate, slice_get, slice_set, Option, Some, None, is_some}
+use Rattle.std.specs.Prelude.{◌≡◌, ℕ, ◌+◌, ◌-◌, ◌*◌, ◌/◌, ◌%◌, ◌^◌, ◌≤◌, Bool, true, false, ◌&&◌, not, nat_lt, nat_le, ◌==◌, if◌then◌else◌, List, [], ◌∷◌, ◌++◌, length, map, replicate, slice_get, slice_set, Option, Some, None, is_some}
 use Rattle.std.specs.List.{AllByRecursion}
 
 -- a cell: the address of its word 0, and its words. Word 0 is the header
@@ -58,6 +58,10 @@ with_word [] at word = []
 with_word (cell ∷ cells) at word =
     (if covers cell at then record { start = cell.start; words = slice_set cell.words (at - cell.start) word } else cell)
     ∷ with_word cells at word
+
+-- where cells lie, without their words
+abbrev pub layout : List Cell → List (ℕ × ℕ)
+layout cells = map (λ cell. (cell.start, length cell.words)) cells
 
 -- whether a program may set the word at an address: it is a cell's, and no header
 abbrev pub is_writable : List Cell → ℕ → Bool

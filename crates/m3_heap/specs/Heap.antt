@@ -1,6 +1,6 @@
 -- What the rest of the machine sees of a store, and what each call does to it.
 use Rattle.std.specs.Prelude.{◌≡◌, ℕ, ◌+◌, ◌^◌, ◌<◌, ◌≤◌, ◌⊎◌, ◌==◌, if◌then◌else◌, Bool, true, List, [], ◌++◌}
-use Rattle.m3_heap.specs.Cells.{Cell, AreSound, total_words}
+use Rattle.m3_heap.specs.Cells.{Cell, AreSound, layout, total_words}
 use Rattle.m3_heap.specs.Shapes.{Shape}
 use Rattle.m3_heap.specs.Moves.{Move, AreOneToOne, is_kept, kept_starts, moved_cells, kept_words, kept_pointers}
 use Rattle.m3_heap.specs.Reach.{IsReachable}
@@ -33,6 +33,12 @@ pub record KeepsCounts (old new : Heap) : Type 0 where
   pub size : new.size ≡ old.size
   pub minors : new.minors ≡ old.minors
   pub fulls : new.fulls ≡ old.fulls
+
+-- a word that is set changes the words of cells and nothing else, but for how many words the next collection
+-- looks at
+pub record HasOtherWords (old new : Heap) : Type 0 where
+  pub same_layout : layout new.cells ≡ layout old.cells
+  pub rest : new ≡ record old { cells = new.cells; watched = new.watched }
 
 -- a count that stops at the end of its type
 abbrev pub counted : ℕ → ℕ

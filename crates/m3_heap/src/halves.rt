@@ -74,7 +74,7 @@ impl Halves {
     ghost use Rattle.m3_heap.specs.Semi.{UsesOtherHalf, IsOfHalves};
     ghost use Rattle.m3_heap.specs.Moves.{forwarded, with_kept, kept_words, kept_starts};
     ghost use Rattle.m3_heap.specs.Reach.{IsBadPointer, HasBadPointer};
-    ghost use Rattle.m3_heap.specs.Heap.{IsSoundHeap, KeepsCounts, CountsOne, KeepsReached, MovesCells, MakesRoom, CostsTrace};
+    ghost use Rattle.m3_heap.specs.Heap.{IsSoundHeap, HasOtherWords, KeepsCounts, CountsOne, KeepsReached, MovesCells, MakesRoom, CostsTrace};
 
     /// As `allocate` of a store.
     pub fn allocate(&mut self, kind: u32, words: u64) -> Option<u64>
@@ -111,9 +111,7 @@ impl Halves {
         requires closed { self.old.heap.is_open ≡ false }
         ensures value { result ≡ is_writable self.old.heap.cells at }
         ensures cells { self.new.heap.cells ≡ (if result then with_word self.old.heap.cells at word else self.old.heap.cells) }
-        ensures asked { self.new.heap.asked ≡ self.old.heap.asked }
-        ensures free { self.new.heap.free ≡ self.old.heap.free }
-        ensures counts { KeepsCounts self.old.heap self.new.heap }
+        ensures rest { HasOtherWords self.old.heap self.new.heap }
         ensures sound { IsSoundHeap self.new.heap }
         ensures halves { IsOfHalves self.new }
     {

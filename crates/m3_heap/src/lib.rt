@@ -1,6 +1,7 @@
 //! The heap: cells that a collection moves, behind one trait, and Cheney's copying collector.
 #![tactic(auto)]
 
+mod closed;
 mod copying;
 mod half;
 mod halves;
@@ -10,6 +11,7 @@ mod semi_space;
 mod steps;
 mod store;
 
+pub use closed::Closed;
 pub use maps::Maps;
 pub use semi_space::SemiSpace;
 pub use steps::Steps;

@@ -5,7 +5,7 @@ ghost use Rattle.m3_heap.specs.Cells.{cell_word_at, is_writable, with_word, new_
 ghost use Rattle.m3_heap.specs.Shapes.{Shape};
 ghost use Rattle.m3_heap.specs.Moves.{staying, forwarded, with_kept, kept_words, kept_starts};
 ghost use Rattle.m3_heap.specs.Reach.{IsBadPointer, HasBadPointer};
-ghost use Rattle.m3_heap.specs.Heap.{Heap, IsSoundHeap, KeepsCounts, CountsOne, KeepsReached, MovesCells, MakesRoom, CostsTrace};
+ghost use Rattle.m3_heap.specs.Heap.{Heap, IsSoundHeap, HasOtherWords, KeepsCounts, CountsOne, KeepsReached, MovesCells, MakesRoom, CostsTrace};
 
 use crate::maps::Maps;
 use crate::steps::Steps;
@@ -43,9 +43,7 @@ pub trait Store {
         requires closed { (heap self.old).is_open ≡ false }
         ensures value { result ≡ is_writable (heap self.old).cells at }
         ensures cells { (heap self.new).cells ≡ (if result then with_word (heap self.old).cells at word else (heap self.old).cells) }
-        ensures asked { (heap self.new).asked ≡ (heap self.old).asked }
-        ensures free { (heap self.new).free ≡ (heap self.old).free }
-        ensures counts { KeepsCounts (heap self.old) (heap self.new) }
+        ensures rest { HasOtherWords (heap self.old) (heap self.new) }
         ensures fitting { (shapes : List Shape) → fits self.old shapes → fits self.new shapes };
 
     /// Opens a collection.

@@ -1,27 +1,24 @@
 -- What each instruction does that isn't plain and isn't of m3_threads: one line or relation for each.
-use Rattle.std.specs.Prelude.{ℕ, zero, suc, ℤ, ◌≡◌, ◌<◌, ◌≤◌, ◌⊎◌, ◌+◌, ◌-◌, ◌*◌, ◌/◌, ◌%◌, ◌^◌, ◌==◌, nat_lt, nat_le, if◌then◌else◌, Bool, true, false, List, [], ◌∷◌, ◌++◌, length, map, replicate, min, slice_get, slice_set, slice_index_or, Option, None, Some, is_some}
+use Rattle.std.specs.Prelude.{ℕ, ◌≡◌, ◌<◌, ◌≤◌, ◌+◌, ◌-◌, ◌*◌, ◌/◌, ◌%◌, ◌^◌, ◌==◌, nat_lt, nat_le, if◌then◌else◌, Bool, true, false, List, [], ◌∷◌, ◌++◌, length, replicate, min, slice_get, slice_index_or, Option, None, Some, is_some}
 use Rattle.std.specs.Int.{cast_unsigned, w32}
-use Rattle.std.specs.List.{range_with_len}
-use Rattle.std.specs.Fmt.{signed_decimal}
 use Rattle.m3_base.specs.Words.{add_words}
 use Rattle.m3_base.specs.declared.outcomes.FaultKind.{FaultKind}
 use Rattle.m3_base.specs.declared.outcomes.FaultKind.TheVariants.{Overflow, DivZero, Range, Index, Nil, Narrow, Shape, Subarray, Size, NoReturn, NoCase, NoTypecase, Raises, NestedProc, NotHeld, JoinTwice}
-use Rattle.m3_base.specs.declared.outcomes.Outcome.TheVariants.{Done, Fault, Uncaught, ThreadsFull}
-use Rattle.m3_isa.specs.Arithmetic.{flag, words_of_bytes}
-use Rattle.m3_isa.specs.Effects.{reg, signed, every, jumped}
+use Rattle.m3_base.specs.declared.outcomes.Outcome.TheVariants.{Fault, Uncaught, ThreadsFull}
+use Rattle.m3_isa.specs.Arithmetic.{flag}
+use Rattle.m3_isa.specs.Effects.{reg, every, jumped}
 use Rattle.m3_isa.specs.declared.instructions.Instr.{Instr}
-use Rattle.m3_heap.specs.Cells.{Cell, header_of, new_cell}
+use Rattle.m3_heap.specs.Cells.{header_of, new_cell}
 use Rattle.m3_threads.specs.declared.status.Thread.{Thread}
 use Rattle.m3_threads.specs.All.{Everyone, thread_named, updated, base_of}
 use Rattle.m3_threads.specs.Going.{status_at, with_status}
 use Rattle.m3_threads.specs.Actions.{Forks}
 use Rattle.m3_image.specs.declared.procs.ProcPart.{ProcPart}
 use Rattle.m3_image.specs.Parts.{Program, CellType}
-use Rattle.m3_image.specs.Programs.{containing}
-use Rattle.m3_machine.specs.State.{State, memory_of, with_all, executed}
-use Rattle.m3_machine.specs.Progress.{Progress, Goes, traps, ends, gives, goes_on, goes_with, loading}
-use Rattle.m3_machine.specs.Calls.{type_told, method_of, looks_up}
-use Rattle.m3_machine.specs.Texts.{text_words, text_byte, text_bytes, text_rest}
+use Rattle.m3_machine.specs.State.{State, memory_of, with_all}
+use Rattle.m3_machine.specs.Progress.{Progress, traps, ends, gives, goes_on, goes_with, loading}
+use Rattle.m3_machine.specs.Calls.{type_told, looks_up}
+use Rattle.m3_machine.specs.Texts.{text_words, text_bytes, text_rest}
 use Rattle.m3_machine.specs.Making.{Adds, Makes}
 
 -- ---- types
@@ -174,7 +171,7 @@ pub data Subs (collects : State → Option State → Type 0) (p : Program) (t : 
   no_length : memory_of p s (add_words (reg t.regs i.b) 1) ≡ None → Subs collects p t i s (traps 2 s)
   makes : (bytes : ℕ) (progress : Progress) → memory_of p s (add_words (reg t.regs i.b) 1) ≡ Some bytes
       → Makes collects (text_words (sub_count bytes (reg t.regs i.c) (reg t.regs (cast_unsigned w32 i.imm)))) s
-          (Gives_text (sub_count bytes (reg t.regs i.c) (reg t.regs (cast_unsigned w32 i.imm))) (sub_bytes p i (reg t.regs i.c) (sub_count bytes (reg t.regs i.c) (reg t.regs (cast_unsigned w32 i.imm)))) t i) progress
+      (Gives_text (sub_count bytes (reg t.regs i.c) (reg t.regs (cast_unsigned w32 i.imm))) (sub_bytes p i (reg t.regs i.c) (sub_count bytes (reg t.regs i.c) (reg t.regs (cast_unsigned w32 i.imm)))) t i) progress
       → Subs collects p t i s progress
 
 -- a thread stands at the instruction that it has come to

@@ -1,18 +1,15 @@
 -- Calls and returns: a callee's frame begins behind the words that its caller's body uses.
-use Rattle.std.specs.Prelude.{ℕ, zero, suc, ◌+◌, ◌-◌, ◌%◌, ◌^◌, ◌==◌, not, nat_lt, if◌then◌else◌, Bool, List, length, slice_get, Option, None, Some}
-use Rattle.std.specs.Int.{cast_unsigned, w32}
+use Rattle.std.specs.Prelude.{ℕ, zero, suc, ◌+◌, ◌%◌, ◌^◌, not, nat_lt, if◌then◌else◌, length, slice_get, Option, None, Some}
 use Rattle.m3_base.specs.Words.{add_words}
 use Rattle.m3_base.specs.declared.outcomes.Outcome.TheVariants.{StackFull}
-use Rattle.m3_isa.specs.declared.instructions.Instr.{Instr}
-use Rattle.m3_isa.specs.declared.registers.Regs.{Regs}
-use Rattle.m3_isa.specs.Effects.{reg}
 use Rattle.m3_threads.specs.declared.status.Thread.{Thread}
 use Rattle.m3_threads.specs.All.{base_of}
 use Rattle.m3_threads.specs.Spaces.{put_inside}
 use Rattle.m3_image.specs.declared.procs.ProcPart.{ProcPart}
 use Rattle.m3_image.specs.Parts.{Program, CellType}
 use Rattle.m3_image.specs.Programs.{containing}
-use Rattle.m3_machine.specs.State.{State, memory_of, is_from, with_all, with_regs, executed}
+use Rattle.m3_machine.specs.State.{State, memory_of, with_all, with_regs, executed}
+use Rattle.m3_machine.specs.Addresses.{is_from}
 use Rattle.m3_machine.specs.Progress.{Progress, Goes, traps, ends, goes_with, loading}
 
 -- the callee's frame is entered: it begins with the next instruction of the caller and the caller's frame

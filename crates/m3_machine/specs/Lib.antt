@@ -1,3 +1,5 @@
+pub mod Addresses
+pub mod Kept
 pub mod State
 pub mod Progress
 pub mod Calls
@@ -7,3 +9,5 @@ pub mod Acts
 pub mod Steps
 pub mod Points
 pub mod Runs
+pub mod OutsideLaws
+pub mod MemoryLaws

@@ -1,10 +1,8 @@
 -- New cells. A cell that doesn't fit has one collection first.
-use Rattle.std.specs.Prelude.{ℕ, zero, suc, ◌≡◌, ◌<◌, ◌≤◌, ◌+◌, ◌*◌, ◌-◌, ◌^◌, ◌==◌, nat_lt, nat_le, if◌then◌else◌, List, [], ◌∷◌, ◌++◌, length, replicate, map, min, Option, None, Some, slice_get}
-use Rattle.m3_base.specs.Words.{add_words}
+use Rattle.std.specs.Prelude.{ℕ, ◌≡◌, ◌<◌, ◌≤◌, ◌+◌, ◌-◌, ◌^◌, min, Option, None, Some}
 use Rattle.m3_base.specs.declared.outcomes.Outcome.TheVariants.{HeapFull, Trap}
-use Rattle.m3_heap.specs.Cells.{Cell, AddsCell, header_of}
+use Rattle.m3_heap.specs.Cells.{Cell, AddsCell}
 use Rattle.m3_heap.specs.Heap.{KeepsCounts}
-use Rattle.m3_threads.specs.declared.status.Thread.{Thread}
 use Rattle.m3_machine.specs.State.{State, executed}
 use Rattle.m3_machine.specs.Progress.{Progress, Ends}
 

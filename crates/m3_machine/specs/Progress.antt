@@ -1,5 +1,5 @@
 -- What becomes of one instruction.
-use Rattle.std.specs.Prelude.{ℕ, ◌≡◌, ◌%◌, ◌^◌, ◌+◌, if◌then◌else◌, Bool, slice_set, Option, None, Some}
+use Rattle.std.specs.Prelude.{ℕ, Option, None, Some}
 use Rattle.m3_base.specs.declared.outcomes.Outcome.{Outcome}
 use Rattle.m3_base.specs.declared.outcomes.Outcome.TheVariants.{Trap}
 use Rattle.m3_isa.specs.declared.registers.Regs.{Regs}

@@ -1,14 +1,15 @@
 -- The state of a machine between two instructions, and what each address holds in it.
-use Rattle.std.specs.Prelude.{ℕ, ◌≡◌, ◌+◌, ◌-◌, ◌*◌, ◌^◌, ◌&&◌, ◌==◌, not, nat_le, nat_lt, Bool, if◌then◌else◌, List, [], length, map, replicate, slice_set, Option, slice_get}
+use Rattle.std.specs.Prelude.{ℕ, ◌≡◌, ◌+◌, ◌*◌, ◌^◌, Bool, List, [], length, replicate, slice_set}
 use Rattle.m3_isa.specs.Memory.{Memory}
 use Rattle.m3_isa.specs.declared.registers.Regs.{Regs}
-use Rattle.m3_heap.specs.Cells.{Cell, cell_word_at, is_writable}
-use Rattle.m3_heap.specs.Heap.{Heap}
+use Rattle.m3_heap.specs.Heap.{Heap, HasOtherWords as KeepsHeap}
 use Rattle.m3_threads.specs.declared.status.Thread.{Thread}
 use Rattle.m3_threads.specs.All.{Everyone, updated}
 use Rattle.m3_threads.specs.Actions.{at_start}
 use Rattle.m3_threads.specs.Spaces.{held, replaceable}
 use Rattle.m3_image.specs.Parts.{Program}
+use Rattle.m3_machine.specs.Addresses.{outside_of, settable_of}
+use Rattle.m3_machine.specs.Kept.{KeepsStacks}
 
 -- the threads with their stacks and the counts of forks and waits; the words of the globals; the heap; the
 -- thread that went last; how many bytes of the input were taken, and which bytes were put; how many points
@@ -27,31 +28,9 @@ pub record State : Type 0 where
 
 -- ---- addresses
 
-abbrev pub globals_base : ℕ
-globals_base = 2 ^ 32
-
-abbrev pub constants_base : ℕ
-constants_base = 2 ^ 50
-
--- an address is that of one of so many words from another address on
-abbrev pub is_from : ℕ → ℕ → ℕ → Bool
-is_from base words at = nat_le base at && nat_lt at (base + words)
-
--- what each address outside the stacks holds: globals, constants and cells
-abbrev pub outside_of : List ℕ → List ℕ → List Cell → Memory
-outside_of globals constants cells at =
-    if is_from globals_base (length globals) at then slice_get globals (at - globals_base)
-    else if is_from constants_base (length constants) at then slice_get constants (at - constants_base)
-    else cell_word_at cells at
-
+-- what each address outside the stacks holds, and which of them can be set
 abbrev pub outside : Program → State → Memory
 outside p s = outside_of s.globals p.constants s.heap.cells
-
--- which of them can be set: no constant, no header, and not the first global, which is the header of the
--- main thread's cell
-abbrev pub settable_of : ℕ → List Cell → ℕ → Bool
-settable_of globals cells at =
-    if is_from globals_base globals at then not (at == globals_base) else is_writable cells at
 
 abbrev pub settable : State → ℕ → Bool
 settable s = settable_of (length s.globals) s.heap.cells
@@ -65,25 +44,11 @@ can_set s = replaceable s.all (settable s)
 
 -- ---- states that differ in what their addresses hold
 
--- the places of cells, without their words
-abbrev pub layout : List Cell → List (ℕ × ℕ)
-layout cells = map (λ c. (c.start, length c.words)) cells
-
--- how many words each stack has
-abbrev pub depths : List (List ℕ) → List ℕ
-depths stacks = map (λ words. length words) stacks
-
 -- a state that is this one but for its words
 pub record HasOtherWords (old new : State) : Type 0 where
-  pub threads : new.all.threads ≡ old.all.threads
-  pub depths : depths new.all.stacks ≡ depths old.all.stacks
-  pub forks : new.all.forks ≡ old.all.forks
-  pub waits : new.all.waits ≡ old.all.waits
-  pub allowed : new.all.allowed ≡ old.all.allowed
-  pub stack : new.all.stack ≡ old.all.stack
+  pub all : KeepsStacks old.all new.all
   pub globals : length new.globals ≡ length old.globals
-  pub layout : layout new.heap.cells ≡ layout old.heap.cells
-  pub heap : new.heap ≡ record old.heap { cells = new.heap.cells; watched = new.heap.watched }
+  pub heap : KeepsHeap old.heap new.heap
   pub rest : new ≡ record old { all = new.all; globals = new.globals; heap = new.heap }
 
 -- each address holds what a memory says, and everything else is as it was

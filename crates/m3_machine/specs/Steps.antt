@@ -1,5 +1,5 @@
 -- One instruction of the thread that runs, whatever it is.
-use Rattle.std.specs.Prelude.{ℕ, ◌≡◌, ◌+◌, ◌-◌, ◌%◌, ◌^◌, List, [], ◌∷◌, length, Option, None, Some, slice_get}
+use Rattle.std.specs.Prelude.{ℕ, ◌≡◌, ◌%◌, List, [], ◌∷◌, Option}
 use Rattle.std.specs.Int.{cast_unsigned, w32}
 use Rattle.std.specs.Fmt.{signed_decimal}
 use Rattle.m3_base.specs.declared.outcomes.Outcome.TheVariants.{Done, Trap}
@@ -12,7 +12,6 @@ use Rattle.m3_isa.specs.declared.instructions.Instr.{Instr}
 use Rattle.m3_threads.specs.declared.answers.Done.{Done as Answer}
 use Rattle.m3_threads.specs.declared.answers.Done.TheVariants as answer
 use Rattle.m3_threads.specs.declared.status.Thread.{Thread}
-use Rattle.m3_threads.specs.All.{Everyone}
 use Rattle.m3_threads.specs.Actions.{After, acquires, releases, waits, wakes, SleepsLongest, broadcasts, joins, ends as ends_thread, alerts, tests_alert, alert_waits, alert_joins}
 use Rattle.m3_image.specs.Parts.{Program}
 use Rattle.m3_image.specs.Programs.{containing}

@@ -1,6 +1,6 @@
 -- Texts: the header, the length, and the bytes eight to a word, the lowest first.
-use Rattle.std.specs.Prelude.{ℕ, ◌+◌, ◌-◌, ◌*◌, ◌/◌, ◌%◌, ◌^◌, ◌≡◌, List, [], ◌∷◌, ◌++◌, map, length, take, drop, Option, None, Some, unwrap_or}
-use Rattle.std.specs.List.{range_with_len, flat_map}
+use Rattle.std.specs.Prelude.{ℕ, ◌+◌, ◌*◌, ◌/◌, ◌%◌, List, [], ◌∷◌, map, length, take, drop, unwrap_or}
+use Rattle.std.specs.List.{range_with_len}
 use Rattle.std.specs.Int.{div_ceil}
 use Rattle.m3_base.specs.Words.{add_words}
 use Rattle.m3_isa.specs.Memory.{Memory}

@@ -1,3 +1,9 @@
-//! The machine that runs images. For now its definitions alone: the state of a machine, what each
-//! instruction does to it, the point between two turns, and a run (`specs/`).
+//! The machine that runs images. Its definitions (`specs/`) say what a machine is: its state, what each
+//! instruction does to it, the point between two turns, and a run. Of its code the memory is here.
 #![tactic(auto)]
+
+mod memory;
+mod outside;
+
+pub use memory::Memory;
+pub use outside::Outside;

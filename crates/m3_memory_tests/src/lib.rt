@@ -2,11 +2,9 @@
 //! of the heap, an instruction keeps.
 #![tactic(auto)]
 
-mod closed;
 mod parts;
 mod steps;
 
-pub use closed::Closed;
 pub use parts::Parts;
 pub use steps::{run_over, step_over};
 

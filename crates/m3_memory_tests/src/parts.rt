@@ -1,7 +1,6 @@
 ghost use Rattle.std.specs.Prelude.{◌≡◌};
 
-use crate::closed::Closed;
-use m3_heap::Store;
+use m3_heap::{Closed, Store};
 use m3_isa::Words;
 
 // Where the globals begin.
@@ -16,22 +15,23 @@ pub struct Parts<S: Store> {
 
 impl<S: Store> Words for Parts<S> {
     ghost use Rattle.std.specs.Prelude.{◌≡◌};
-    ghost use Rattle.m3_memory_tests.specs.Kept.{KeepsHeap, keeps_itself, keeps_on};
+    ghost use Rattle.m3_heap.specs.Heap.{HasOtherWords};
+    ghost use Rattle.m3_memory_tests.specs.Kept.{keeps_itself, keeps_on};
     ghost use Rattle.m3_memory_tests.specs.Held.{holds_in, can_set, readable_in, low_in};
 
-    ghost holds = { λ m. holds_in m.globals (S.heap m.heap.heap).cells };
+    ghost holds = { λ m. holds_in m.globals (S.heap m.heap.store).cells };
 
-    ghost writable = { λ m. can_set (S.heap m.heap.heap).cells };
+    ghost writable = { λ m. can_set (S.heap m.heap.store).cells };
 
-    ghost keeps = { λ old new. KeepsHeap (S.heap old.heap.heap) (S.heap new.heap.heap) };
+    ghost keeps = { λ old new. HasOtherWords (S.heap old.heap.store) (S.heap new.heap.store) };
 
-    ghost readable = { λ m x h. readable_in m.globals (S.heap m.heap.heap).cells x h };
+    ghost readable = { λ m x h. readable_in m.globals (S.heap m.heap.store).cells x h };
 
-    ghost low = { λ m x h. low_in m.globals (S.heap m.heap.heap).cells (S.sound m.heap.heap).cells.in_heap x h };
+    ghost low = { λ m x h. low_in m.globals (S.heap m.heap.store).cells (S.sound m.heap.store).cells.in_heap x h };
 
-    ghost keeps_itself = { λ m. keeps_itself (S.heap m.heap.heap) };
+    ghost keeps_itself = { λ m. keeps_itself (S.heap m.heap.store) };
 
-    ghost keeps_on = { λ s t u p q. keeps_on (S.heap s.heap.heap) (S.heap t.heap.heap) (S.heap u.heap.heap) p q };
+    ghost keeps_on = { λ s t u p q. keeps_on (S.heap s.heap.store) (S.heap t.heap.store) (S.heap u.heap.store) p q };
 
     #[inline]
     fn load(&self, at: u64) -> Option<u64> {
@@ -48,7 +48,7 @@ impl<S: Store> Words for Parts<S> {
             self.globals[(at - GLOBALS) as usize] = word;
             true
         } else {
-            self.heap.store(at, word)
+            self.heap.set(at, word)
         }
     }
 }

@@ -1,7 +1,7 @@
 ghost use Rattle.m3_isa.specs.Instructions.{IsInstruction};
 
-use super::{Closed, Parts, step_over};
-use m3_heap::{SemiSpace, Store};
+use super::{Parts, step_over};
+use m3_heap::{Closed, SemiSpace, Store};
 use m3_isa::{Instr, Op, Regs, Step, Words, decode, encode};
 use std::process::Abort;
 use std::test::Fail;
@@ -30,7 +30,7 @@ fn both_parts(rt: HostRuntime) -> Result<(), Fail> {
     let cell = heap.allocate(1, 4).expect(&rt, "64 words have room for 4");
     let mut memory = Parts {
         globals: [0; 16],
-        heap: Closed { heap },
+        heap: Closed { store: heap },
     };
     let mut regs = Regs {
         r: [0; 16],

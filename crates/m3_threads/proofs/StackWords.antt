@@ -79,7 +79,7 @@ abbrev pub slot_of : ℕ → ℕ
 slot_of at = (at / 1099511627776 + 18446744073709551615) % 18446744073709551616
 
 abbrev pub has_word : List (List ℕ) → ℕ → Bool
-has_word st at = nat_le (2 ^ 40) at && nat_lt (at % 2 ^ 40) (length (slice_index_or st (at / 2 ^ 40 - 1) []))
+has_word st at = nat_le (2 ^ 40) at && (nat_lt (at / 2 ^ 40 - 1) 64 && nat_lt (at % 2 ^ 40) (length (slice_index_or st (at / 2 ^ 40 - 1) [])))
 
 slot-same : (at n : ℕ) → at < 2 ^ 64 → n ≤ 64 → slot_of at < n → (2 ^ 40 ≤ at) × (slot_of at ≡ at / 2 ^ 40 - 1)
 slot-same at n fits few low = elim (cases_lt at (2 ^ 40)) [
@@ -92,11 +92,13 @@ word-here st at fits few low within =
     let s = slot-same at (length st) fits few low in
     let inside : at % 2 ^ 40 < length (slice_index_or st (at / 2 ^ 40 - 1) []) = subst (λ k. at % 2 ^ 40 < length (slice_index_or st k [])) s.1 within in
     let high = s.0 in
+    let slot : at / 2 ^ 40 - 1 < 64 = omega (arith, s.1) in
     (grind (arith, nat_tests), s.1)
 
-none-false : (b c : Bool) → c ≡ false → (b && c) ≡ false
-none-false true c e = e
-none-false false c e = refl
+none-either : (a b c : Bool) → c ≡ false → (a && (b && c)) ≡ false
+none-either true true c e = e
+none-either true false c e = refl
+none-either false b c e = refl
 
 pub word-past : (st : List (List ℕ)) (at : ℕ) → at < 2 ^ 64 → length st ≤ 64 → length st ≤ slot_of at → has_word st at ≡ false
 word-past st at fits few past = elim (cases_lt at (2 ^ 40)) [
@@ -104,14 +106,14 @@ word-past st at fits few past = elim (cases_lt at (2 ^ 40)) [
   | inr above ↦
       let slot : length st ≤ at / 2 ^ 40 - 1 = omega arith in
       let none : slice_index_or st (at / 2 ^ 40 - 1) [] ≡ [] = get_or_past st (at / 2 ^ 40 - 1) [] slot in
-      none-false (nat_le (2 ^ 40) at) (nat_lt (at % 2 ^ 40) (length (slice_index_or st (at / 2 ^ 40 - 1) []))) (ap (λ l. nat_lt (at % 2 ^ 40) (length l)) none ∙ le-ltb (at % 2 ^ 40) 0 (omega arith))
+      none-either (nat_le (2 ^ 40) at) (nat_lt (at / 2 ^ 40 - 1) 64) (nat_lt (at % 2 ^ 40) (length (slice_index_or st (at / 2 ^ 40 - 1) []))) (ap (λ l. nat_lt (at % 2 ^ 40) (length l)) none ∙ le-ltb (at % 2 ^ 40) 0 (omega arith))
 ]
 
 pub word-behind : (st : List (List ℕ)) (at : ℕ) → at < 2 ^ 64 → length st ≤ 64 → slot_of at < length st → length (slice_index_or st (slot_of at) []) ≤ at % 2 ^ 40 → has_word st at ≡ false
 word-behind st at fits few low past =
     let s = slot-same at (length st) fits few low in
     let behind : length (slice_index_or st (at / 2 ^ 40 - 1) []) ≤ at % 2 ^ 40 = subst (λ k. length (slice_index_or st k []) ≤ at % 2 ^ 40) s.1 past in
-    none-false (nat_le (2 ^ 40) at) (nat_lt (at % 2 ^ 40) (length (slice_index_or st (at / 2 ^ 40 - 1) []))) (le-ltb (at % 2 ^ 40) (length (slice_index_or st (at / 2 ^ 40 - 1) [])) behind)
+    none-either (nat_le (2 ^ 40) at) (nat_lt (at / 2 ^ 40 - 1) 64) (nat_lt (at % 2 ^ 40) (length (slice_index_or st (at / 2 ^ 40 - 1) []))) (le-ltb (at % 2 ^ 40) (length (slice_index_or st (at / 2 ^ 40 - 1) [])) behind)
 
 -- where an address has a word, its slot and its place are there
 pub word-within : (st : List (List ℕ)) (at : ℕ) → has_word st at ≡ true → (at / 2 ^ 40 - 1 < length st) × (at % 2 ^ 40 < length (slice_index_or st (at / 2 ^ 40 - 1) []))

@@ -10,9 +10,9 @@ slot_at at = at / 2 ^ 40 - 1
 abbrev pub place_at : ℕ → ℕ
 place_at at = at % 2 ^ 40
 
--- an address is in a stack: there is a word at its place
+-- an address is in a stack: it names one of 64 slots, and there is a word at its place
 abbrev pub is_in_stack : Everyone → ℕ → Bool
-is_in_stack all at = nat_le (2 ^ 40) at && nat_lt (place_at at) (length (stack_in all (slot_at at)))
+is_in_stack all at = nat_le (2 ^ 40) at && (nat_lt (slot_at at) 64 && nat_lt (place_at at) (length (stack_in all (slot_at at))))
 
 -- what an address holds, of a stack and of the memory outside
 abbrev pub held : Everyone → Memory → Memory

@@ -1,8 +1,10 @@
 use Rattle.std.proofs.Common.{◌≡◌, ◌-◌, Bool, sym, ap, subst, ◌∙◌, arith, inl, inr, ⊎_elim}
 use Rattle.m3_heap.specs.Cells.{total_words}
+use Rattle.m3_heap.specs.CellWords.{layout_after}
+use Rattle.m3_heap.specs.Heap.{HasOtherWords}
 use Rattle.m3_heap.specs.Semi.{Semi, first_base, second_base}
-use Rattle.m3_heap.specs.CollectorHalves.{AreAtRest, IsAsOpen, cells_seen}
-use Rattle.m3_heap.proofs.SemiLemmas.{is-closed, at-rest, semi-sound, rest-replace}
+use Rattle.m3_heap.specs.CollectorHalves.{semi_heap, AreAtRest, IsAsOpen, cells_seen}
+use Rattle.m3_heap.proofs.SemiLemmas.{words-only, is-closed, at-rest, semi-sound, rest-replace}
 use Rattle.m3_heap.proofs.FinishLemmas.{semi-halves}
 use Rattle.m3_heap.proofs.halves.Halves.store.Goals as goal
 
@@ -26,14 +28,13 @@ invariant_of-self c =
       as_open = subst P (sym (is-closed c.self.inside c.args.self.now c.self.view_is c.requires.closed)) (rest c).0;
     }
 
-pub returns-clause-free : goal.returns-clause-free
-returns-clause-free c =
-    let closed = is-closed c.self.inside c.args.self.now c.self.view_is c.requires.closed in
-    ap (λ b. c.replace.new.self.size - total_words (cells_seen b c.replace.new.self c.self.inside.there)) closed
-    ∙ ap (λ n. n - total_words c.replace.new.self.cells) c.replace.ensures.size
-    ∙ ap (λ n. c.self.inside.here.size - n) (rest c).1
-    ∙ ap (λ b. c.self.inside.here.size - total_words (cells_seen b c.self.inside.here c.self.inside.there)) (sym closed)
-    ∙ ap (λ (s : Semi). s.heap.free) c.self.view_is
+pub returns-clause-rest : goal.returns-clause-rest
+returns-clause-rest c =
+    let i = c.self.inside in
+    let new = c.replace.ensures in
+    let lay = layout_after i.here.cells c.replace.new.self.cells c.args.at c.args.word c.replace.result new.cells in
+    subst (λ (s : Semi). HasOtherWords s.heap (semi_heap i.is_open c.replace.new.self i.there i.asked i.fulls)) c.self.view_is
+    (words-only i.here c.replace.new.self i.there i.is_open i.asked i.fulls (is-closed i c.args.self.now c.self.view_is c.requires.closed) new.base new.size lay (rest c).1)
 
 pub returns-clause-sound : goal.returns-clause-sound
 returns-clause-sound c = semi-sound _ (invariant_of-self c)

@@ -12,10 +12,10 @@ returns-else-at-ge-GLOBALS-clause-stored g c = λ set x.
       | else-at-ge-GLOBALS-via-then-at-ge-GLOBALS+else-at w ↦ grind (arith, nat_tests)
       | else-at-ge-GLOBALS-via-else-at-ge-GLOBALS w ↦ grind (arith, nat_tests)
     ] in
-    stored_in c.args.self.now.globals (g.S.Store.heap c.args.self.now.heap.heap).cells (g.S.Store.heap c.store.new.self.heap).cells c.args.at c.args.word x out
-    (words_after (g.S.Store.heap c.args.self.now.heap.heap).cells (g.S.Store.heap c.store.new.self.heap).cells c.args.at c.args.word c.store.result c.store.ensures.value c.store.ensures.cells set)
+    stored_in c.args.self.now.globals (g.S.Store.heap c.args.self.now.heap.store).cells (g.S.Store.heap c.set.new.self.store).cells c.args.at c.args.word x out
+    (words_after (g.S.Store.heap c.args.self.now.heap.store).cells (g.S.Store.heap c.set.new.self.store).cells c.args.at c.args.word c.set.result c.set.ensures.value c.set.ensures.cells set)
 
 pub returns-else-at-ge-GLOBALS-clause-writable : goal.returns-else-at-ge-GLOBALS-clause-writable
 returns-else-at-ge-GLOBALS-clause-writable g c = λ x.
     ap (λ b. cond (is_global x) true b)
-    (writable_after (g.S.Store.heap c.args.self.now.heap.heap).cells (g.S.Store.heap c.store.new.self.heap).cells c.args.at c.args.word c.store.result c.store.ensures.value c.store.ensures.cells x)
+    (writable_after (g.S.Store.heap c.args.self.now.heap.store).cells (g.S.Store.heap c.set.new.self.store).cells c.args.at c.args.word c.set.result c.set.ensures.value c.set.ensures.cells x)
