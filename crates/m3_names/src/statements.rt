@@ -7,8 +7,7 @@ use crate::types::{walk_signature, walk_type};
 use m3_base::NoMemory;
 use m3_scopes::{EntityKind, Linker};
 use m3_syntax::{
-    Arm, Binding, Block, CaseBranch, Decl, Expr, Handler, Label, Name, ProcedureBody, Signature,
-    Stmt, TypeBranch,
+    Binding, Block, Decl, Handler, Label, Name, ProcedureBody, Signature, Stmt, TypeBranch,
 };
 
 /// The names in declarations, which are declared already.
@@ -34,7 +33,7 @@ pub fn walk_declarations<'a>(
                 walk_signature(linker, signature)?;
                 judge_place_of_body(linker, *name, body.is_some(), is_outermost);
                 if let Some(body) = body {
-                    walk_body(linker, declaration, *name, signature, body)?;
+                    walk_body(linker, body, declaration, *name, signature)?;
                 }
             }
         }
@@ -62,10 +61,10 @@ fn judge_place_of_body<'a>(
 #[cycle(statements)]
 fn walk_body<'a>(
     linker: &mut Linker<'a>,
+    body: &'a ProcedureBody<'a>,
     declaration: &'a Decl<'a>,
     name: Name<'a>,
     signature: &'a Signature<'a>,
-    body: &'a ProcedureBody<'a>,
 ) -> Result<(), NoMemory> {
     let around = linker.procedure;
     linker.procedure = linker.binds.at(linker.unit, name.pos);
@@ -151,18 +150,9 @@ fn walk_statement<'a>(linker: &mut Linker<'a>, statement: &'a Stmt<'a>) -> Resul
         } => walk_expression(linker, value),
         Stmt::Return { value: None, .. } => Ok(()),
         Stmt::Block(block) => walk_block(linker, block),
-        Stmt::Case {
-            value,
-            branches,
-            otherwise,
-            ..
-        } => walk_case(linker, value, branches, *otherwise),
+        Stmt::Case { .. } => walk_case(linker, statement),
         Stmt::For { .. } => walk_for(linker, statement),
-        Stmt::If {
-            arms,
-            otherwise,
-            ..
-        } => walk_if(linker, arms, *otherwise),
+        Stmt::If { .. } => walk_if(linker, statement),
         Stmt::Lock { mutex, body, .. } => {
             walk_expression(linker, mutex)?;
             walk_statements(linker, body)
@@ -181,12 +171,7 @@ fn walk_statement<'a>(linker: &mut Linker<'a>, statement: &'a Stmt<'a>) -> Resul
             walk_statements(linker, body)?;
             walk_statements(linker, last)
         }
-        Stmt::TypeCase {
-            value,
-            branches,
-            otherwise,
-            ..
-        } => walk_typecase(linker, value, branches, *otherwise),
+        Stmt::TypeCase { .. } => walk_typecase(linker, statement),
         Stmt::While {
             condition,
             body,
@@ -195,7 +180,7 @@ fn walk_statement<'a>(linker: &mut Linker<'a>, statement: &'a Stmt<'a>) -> Resul
             walk_expression(linker, condition)?;
             walk_statements(linker, body)
         }
-        Stmt::With { bindings, body, .. } => walk_with(linker, bindings, body),
+        Stmt::With { .. } => walk_with(linker, statement),
     }
 }
 
@@ -210,20 +195,25 @@ fn walk_labels<'a>(linker: &mut Linker<'a>, labels: &[Label<'a>]) -> Result<(), 
 }
 
 #[cycle(statements)]
-fn walk_case<'a>(
-    linker: &mut Linker<'a>,
-    value: &Expr<'a>,
-    branches: &'a [CaseBranch<'a>],
-    otherwise: Option<&'a [Stmt<'a>]>,
-) -> Result<(), NoMemory> {
-    walk_expression(linker, value)?;
-    for branch in branches {
-        walk_labels(linker, branch.labels)?;
-        walk_statements(linker, branch.body)?;
-    }
-    match otherwise {
-        Some(statements) => walk_statements(linker, statements),
-        None => Ok(()),
+fn walk_case<'a>(linker: &mut Linker<'a>, statement: &'a Stmt<'a>) -> Result<(), NoMemory> {
+    match statement {
+        Stmt::Case {
+            value,
+            branches,
+            otherwise,
+            ..
+        } => {
+            walk_expression(linker, value)?;
+            for branch in *branches {
+                walk_labels(linker, branch.labels)?;
+                walk_statements(linker, branch.body)?;
+            }
+            match otherwise {
+                Some(statements) => walk_statements(linker, statements),
+                None => Ok(()),
+            }
+        }
+        _ => Ok(()),
     }
 }
 
@@ -250,18 +240,23 @@ fn walk_for<'a>(linker: &mut Linker<'a>, statement: &'a Stmt<'a>) -> Result<(), 
 }
 
 #[cycle(statements)]
-fn walk_if<'a>(
-    linker: &mut Linker<'a>,
-    arms: &'a [Arm<'a>],
-    otherwise: Option<&'a [Stmt<'a>]>,
-) -> Result<(), NoMemory> {
-    for arm in arms {
-        walk_expression(linker, arm.condition)?;
-        walk_statements(linker, arm.body)?;
-    }
-    match otherwise {
-        Some(statements) => walk_statements(linker, statements),
-        None => Ok(()),
+fn walk_if<'a>(linker: &mut Linker<'a>, statement: &'a Stmt<'a>) -> Result<(), NoMemory> {
+    match statement {
+        Stmt::If {
+            arms,
+            otherwise,
+            ..
+        } => {
+            for arm in *arms {
+                walk_expression(linker, arm.condition)?;
+                walk_statements(linker, arm.body)?;
+            }
+            match otherwise {
+                Some(statements) => walk_statements(linker, statements),
+                None => Ok(()),
+            }
+        }
+        _ => Ok(()),
     }
 }
 
@@ -296,19 +291,24 @@ fn walk_try<'a>(linker: &mut Linker<'a>, statement: &'a Stmt<'a>) -> Result<(), 
 }
 
 #[cycle(statements)]
-fn walk_typecase<'a>(
-    linker: &mut Linker<'a>,
-    value: &Expr<'a>,
-    branches: &'a [TypeBranch<'a>],
-    otherwise: Option<&'a [Stmt<'a>]>,
-) -> Result<(), NoMemory> {
-    walk_expression(linker, value)?;
-    for branch in branches {
-        walk_type_branch(linker, branch)?;
-    }
-    match otherwise {
-        Some(statements) => walk_statements(linker, statements),
-        None => Ok(()),
+fn walk_typecase<'a>(linker: &mut Linker<'a>, statement: &'a Stmt<'a>) -> Result<(), NoMemory> {
+    match statement {
+        Stmt::TypeCase {
+            value,
+            branches,
+            otherwise,
+            ..
+        } => {
+            walk_expression(linker, value)?;
+            for branch in *branches {
+                walk_type_branch(linker, branch)?;
+            }
+            match otherwise {
+                Some(statements) => walk_statements(linker, statements),
+                None => Ok(()),
+            }
+        }
+        _ => Ok(()),
     }
 }
 
@@ -335,15 +335,16 @@ fn bind_with<'a>(linker: &mut Linker<'a>, bindings: &[Binding<'a>]) -> Result<()
 }
 
 #[cycle(statements)]
-fn walk_with<'a>(
-    linker: &mut Linker<'a>,
-    bindings: &'a [Binding<'a>],
-    body: &'a [Stmt<'a>],
-) -> Result<(), NoMemory> {
-    bind_with(linker, bindings)?;
-    walk_statements(linker, body)?;
-    for _ in bindings {
-        linker.scopes.leave();
+fn walk_with<'a>(linker: &mut Linker<'a>, statement: &'a Stmt<'a>) -> Result<(), NoMemory> {
+    match statement {
+        Stmt::With { bindings, body, .. } => {
+            bind_with(linker, bindings)?;
+            walk_statements(linker, body)?;
+            for _ in *bindings {
+                linker.scopes.leave();
+            }
+            Ok(())
+        }
+        _ => Ok(()),
     }
-    Ok(())
 }
