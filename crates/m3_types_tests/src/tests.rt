@@ -531,6 +531,17 @@ fn as_many_types_as_a_program_may_have(rt: HostRuntime) -> Result<(), Fail> {
     Ok(())
 }
 
+// A record constant of two fields.
+fn put_pair<'a>(
+    bump: &'a Bump,
+    types: &mut TypeGraph<'a>,
+    first: u32,
+    second: u32,
+) -> Result<(), Fail> {
+    let fields = bump.try_alloc_slice_copy(&[ConstId(first), ConstId(second)])?;
+    put(types, TypeNode::Constant(ConstValue::Fields(fields)))
+}
+
 // Constants are compared by value: 1 to 10 are 5, 5, 6, the texts ab, ab and ac, (5, ab) twice by other
 // places, (6, ab), and NIL.
 #[test]
@@ -539,20 +550,16 @@ fn constants(rt: HostRuntime) -> Result<(), Fail> {
     let bump = Bump::new(alloc);
     let mut types = TypeGraph::new(alloc);
     put(&mut types, TypeNode::Integer)?;
-    for value in [
-        ConstValue::Ordinal(5),
-        ConstValue::Ordinal(5),
-        ConstValue::Ordinal(6),
-        ConstValue::Text(b"ab"),
-        ConstValue::Text(b"ab"),
-        ConstValue::Text(b"ac"),
-        ConstValue::Fields(bump.try_alloc_slice_copy(&[ConstId(1), ConstId(4)])?),
-        ConstValue::Fields(bump.try_alloc_slice_copy(&[ConstId(2), ConstId(5)])?),
-        ConstValue::Fields(bump.try_alloc_slice_copy(&[ConstId(3), ConstId(4)])?),
-        ConstValue::Nil,
-    ] {
-        put(&mut types, TypeNode::Constant(value))?;
+    for number in [5i64, 5, 6] {
+        put(&mut types, TypeNode::Constant(ConstValue::Ordinal(number)))?;
     }
+    for text in [b"ab", b"ab", b"ac"] {
+        put(&mut types, TypeNode::Constant(ConstValue::Text(text)))?;
+    }
+    for (first, second) in [(1u32, 4u32), (2, 5), (3, 4)] {
+        put_pair(&bump, &mut types, first, second)?;
+    }
+    put(&mut types, TypeNode::Constant(ConstValue::Nil))?;
     // 11 to 20: a record whose field has each of them as its default
     for value in 1..11u32 {
         put(&mut types, record_with_default(&bump, b"a", value)?)?;
