@@ -143,7 +143,10 @@ fn is_revealed_with_a_type(nodes: &[TypeNode], reveal: &Reveal) -> bool {
 
 /// Whether an opaque type that the program reveals is revealed fully.
 fn is_behind(graph: &TypeGraph, place: usize) -> bool {
-    if !matches!(node_at(&graph.nodes, place), Some(TypeNode::Opaque(_, Secret::Revealed))) {
+    if !matches!(
+        node_at(&graph.nodes, place),
+        Some(TypeNode::Opaque(_, Secret::Revealed))
+    ) {
         return true;
     }
     match u32::try_from(place) {
