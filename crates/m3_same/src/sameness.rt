@@ -1,7 +1,6 @@
 ghost use Rattle.std.specs.Prelude.{◌≡◌, ◌↔◌, ℕ, IfOk, IsTrue};
 ghost use Rattle.m3_same.specs.Sameness.{Matched, Same};
 
-
 use crate::assumptions::Assumptions;
 use m3_base::NoMemory;
 use m3_types::{TypeGraph, TypeId, TypeNode, heads_match_at, parts_at};
@@ -40,12 +39,7 @@ pub fn same_lists(
 }
 
 /// Whether the definitions at two places are the same.
-pub fn same_types(
-    alloc: Global,
-    nodes: &[TypeNode],
-    a: usize,
-    b: usize,
-) -> Result<bool, NoMemory>
+pub fn same_types(alloc: Global, nodes: &[TypeNode], a: usize, b: usize) -> Result<bool, NoMemory>
     ensures { IfOk result (λ yes. IsTrue yes ↔ Same nodes.now a b) }
 {
     if a == b {

@@ -12,8 +12,8 @@ mod procedures;
 mod raises;
 mod reached;
 mod relations;
-mod upward;
 mod seen;
+mod upward;
 
 pub use assign::Assign;
 pub use relations::{assignable, subtype};

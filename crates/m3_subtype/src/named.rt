@@ -8,7 +8,12 @@ use m3_types::{TypeNode, types_at};
 use std::alloc::Global;
 
 /// Whether the types that two types name are the same.
-pub(crate) fn same_named(alloc: Global, nodes: &[TypeNode], a: usize, b: usize) -> Result<bool, NoMemory>
+pub(crate) fn same_named(
+    alloc: Global,
+    nodes: &[TypeNode],
+    a: usize,
+    b: usize,
+) -> Result<bool, NoMemory>
     ensures { IfOk result (λ yes. IsTrue yes ↔ Matched (Same nodes.now) (types_at nodes.now a) (types_at nodes.now b)) }
 {
     let xs = types_at(alloc, nodes, a)?;

@@ -77,7 +77,12 @@ fn signatures_fit_at(
 }
 
 /// Whether both are procedure types of which the first is below the second.
-pub(crate) fn procedure_below(alloc: Global, nodes: &[TypeNode], a: usize, b: usize) -> Result<bool, NoMemory>
+pub(crate) fn procedure_below(
+    alloc: Global,
+    nodes: &[TypeNode],
+    a: usize,
+    b: usize,
+) -> Result<bool, NoMemory>
     ensures { IfOk result (λ yes. IsTrue yes ↔ ProcedureBelow nodes.now a b) }
 {
     if !signatures_fit_at(alloc, nodes, a, b)? {
@@ -85,4 +90,3 @@ pub(crate) fn procedure_below(alloc: Global, nodes: &[TypeNode], a: usize, b: us
     }
     same_named(alloc, nodes, a, b)
 }
-

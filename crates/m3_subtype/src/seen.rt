@@ -73,12 +73,7 @@ fn least_among(
 /// What a unit sees behind an opaque type: the type that fully reveals it, where that applies in the
 /// unit; else the least of its partial reveals that apply, by the whole program; else its bound. Any
 /// other type is seen as it is. What is seen may be an opaque type again.
-pub fn visible(
-    alloc: Global,
-    graph: &TypeGraph,
-    view: u32,
-    t: TypeId,
-) -> Result<TypeId, NoMemory> {
+pub fn visible(alloc: Global, graph: &TypeGraph, view: u32, t: TypeId) -> Result<TypeId, NoMemory> {
     let Some(TypeNode::Opaque(bound, _)) = node_at(&graph.nodes, t.0 as usize) else {
         return Ok(t);
     };

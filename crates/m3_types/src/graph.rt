@@ -116,7 +116,8 @@ impl<'a> TypeGraph<'a> {
         ensures nodes { self.new.nodes.items ≡ self.old.nodes.items }
         ensures reveals { self.new.reveals.items ≡ self.old.reveals.items }
     {
-        self.about.note(reveal.view, reveal.opaque.0 as usize, place)
+        self.about
+            .note(reveal.view, reveal.opaque.0 as usize, place)
     }
 
     /// Notes a place under the view of a full reveal and the mark of the type that it gives.
@@ -207,11 +208,7 @@ fn set_item<T: Drop>(items: &mut Vec<T>, place: usize, item: T)
 }
 
 /// The reveals at those places of a list that are in it.
-fn reveals_at(
-    alloc: Global,
-    reveals: &[Reveal],
-    places: &[u32],
-) -> Result<Vec<Reveal>, NoMemory>
+fn reveals_at(alloc: Global, reveals: &[Reveal], places: &[u32]) -> Result<Vec<Reveal>, NoMemory>
     ensures there { IfOk result (λ found. All (λ r. Contains reveals.now r) found.items) }
     ensures all { IfOk result (λ found. (p : ℕ) (r : AReveal) → Contains places.now p → slice_get reveals.now p ≡ Some r → Contains found.items r) }
 {

@@ -12,8 +12,8 @@ mod places;
 pub use graph::TypeGraph;
 pub use heads::heads_match_at;
 pub use kinds::{
-    has_nil_at, is_below_refany_at, is_below_root_at, is_null_at, is_opaque_at, is_reference_at,
-    is_refany_at, is_root_at, named_above_at, node_at, size_at, span,
+    has_nil_at, is_below_refany_at, is_below_root_at, is_null_at, is_opaque_at, is_refany_at,
+    is_reference_at, is_root_at, named_above_at, node_at, size_at, span,
 };
 pub use nodes::{
     Brand, ConstId, ConstValue, Field, Formal, Initial, Method, Mode, Override, Raises, Reveal,

@@ -119,13 +119,7 @@ pub enum TypeNode<'a> {
     SetOf(TypeId),
     RefTo(Option<Brand<'a>>, TypeId),
     /// The brand, the parent (ROOT where none is written), and the part that is added to it.
-    Object(
-        Option<Brand<'a>>,
-        TypeId,
-        &'a [Field<'a>],
-        &'a [Method<'a>],
-        &'a [Override<'a>],
-    ),
+    Object(Option<Brand<'a>>, TypeId, &'a [Field<'a>], &'a [Method<'a>], &'a [Override<'a>]),
     Procedure(&'a [Formal<'a>], Option<TypeId>, Raises<'a>),
     /// The bound of an opaque type.
     Opaque(TypeId, Secret),

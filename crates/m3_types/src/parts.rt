@@ -155,11 +155,7 @@ fn add_constants_of(out: &mut Vec<usize>, node: TypeNode) -> Result<(), NoMemory
 }
 
 /// The types that the definition at a place names; none past the end of the list.
-pub fn types_at(
-    alloc: Global,
-    nodes: &[TypeNode],
-    place: usize,
-) -> Result<Vec<usize>, NoMemory>
+pub fn types_at(alloc: Global, nodes: &[TypeNode], place: usize) -> Result<Vec<usize>, NoMemory>
     ensures { IfOk result (λ types. types.items ≡ types_at nodes.now place) }
 {
     let mut types = Vec::new(alloc);
@@ -170,11 +166,7 @@ pub fn types_at(
 }
 
 /// The types and then the constants that the definition at a place names; none past the end of the list.
-pub fn parts_at(
-    alloc: Global,
-    nodes: &[TypeNode],
-    place: usize,
-) -> Result<Vec<usize>, NoMemory>
+pub fn parts_at(alloc: Global, nodes: &[TypeNode], place: usize) -> Result<Vec<usize>, NoMemory>
     ensures { IfOk result (λ parts. parts.items ≡ parts_at nodes.now place) }
 {
     let mut parts = Vec::new(alloc);

@@ -19,9 +19,7 @@ fn field<'a>(name: &'a [u8], kind: u32) -> Field<'a> {
 }
 
 fn record<'a>(bump: &'a Bump, name: &'a [u8], kind: u32) -> Result<TypeNode<'a>, Fail> {
-    Ok(TypeNode::Fields(
-        bump.try_alloc_slice_copy(&[field(name, kind)])?,
-    ))
+    Ok(TypeNode::Fields(bump.try_alloc_slice_copy(&[field(name, kind)])?))
 }
 
 fn record_with_default<'a>(
@@ -40,11 +38,7 @@ fn record_with_default<'a>(
     Ok(TypeNode::Fields(bump.try_alloc_slice_copy(&[field])?))
 }
 
-fn object<'a>(
-    bump: &'a Bump,
-    brand: Option<Brand<'a>>,
-    parent: u32,
-) -> Result<TypeNode<'a>, Fail> {
+fn object<'a>(bump: &'a Bump, brand: Option<Brand<'a>>, parent: u32) -> Result<TypeNode<'a>, Fail> {
     let fields = bump.try_alloc_slice_copy(&[field(b"f", 0)])?;
     Ok(TypeNode::Object(brand, TypeId(parent), fields, &[], &[]))
 }
@@ -58,9 +52,7 @@ fn enumeration<'a>(
     first: &'a [u8],
     second: &'a [u8],
 ) -> Result<TypeNode<'a>, Fail> {
-    Ok(TypeNode::Enumeration(
-        bump.try_alloc_slice_copy(&[first, second])?,
-    ))
+    Ok(TypeNode::Enumeration(bump.try_alloc_slice_copy(&[first, second])?))
 }
 
 fn text_brand<'a>() -> TypeNode<'a> {
@@ -178,10 +170,7 @@ fn put_objects<'a>(bump: &'a Bump, types: &mut TypeGraph<'a>) -> Result<(), Fail
     put(types, object(bump, None, 7)?)?;
     put(types, raising(&[]))?;
     put(types, raising(&[1]))?;
-    put(
-        types,
-        TypeNode::Procedure(&[], None, Raises::Any),
-    )?;
+    put(types, TypeNode::Procedure(&[], None, Raises::Any))?;
     put(types, taking(bump, b"x", Mode::Value)?)?;
     put(types, taking(bump, b"y", Mode::Value)?)?;
     put(types, taking(bump, b"x", Mode::Var)?)?;
@@ -490,12 +479,23 @@ fn long_opaque_types(rt: HostRuntime) -> Result<(), Fail> {
     for i in 0..60000u32 {
         let opaque = i.wrapping_mul(2).wrapping_add(1);
         let below = if i == 0 { 0 } else { opaque.wrapping_sub(2) };
-        put(&mut types, TypeNode::Opaque(TypeId(below), Secret::Revealed))?;
+        put(
+            &mut types,
+            TypeNode::Opaque(TypeId(below), Secret::Revealed),
+        )?;
         put(&mut types, bare_object(Some(Brand::Occurrence(i)), below))?;
         add(&mut types, reveal(1, opaque, opaque.wrapping_add(1), true))?;
         if i % 20000 == 0 {
             assert!(rt; subtype(alloc, &types, 1, TypeId(opaque), TypeId(1))?);
-            assert!(rt; subtype(alloc, &types, 1, TypeId(opaque.wrapping_add(1)), TypeId(opaque))?);
+            assert!(rt;
+                subtype(
+                    alloc,
+                    &types,
+                    1,
+                    TypeId(opaque.wrapping_add(1)),
+                    TypeId(opaque)
+                )?
+            );
         }
     }
     let last = 119999;
@@ -531,6 +531,17 @@ fn as_many_types_as_a_program_may_have(rt: HostRuntime) -> Result<(), Fail> {
     Ok(())
 }
 
+// A record constant of two fields.
+fn put_pair<'a>(
+    bump: &'a Bump,
+    types: &mut TypeGraph<'a>,
+    first: u32,
+    second: u32,
+) -> Result<(), Fail> {
+    let fields = bump.try_alloc_slice_copy(&[ConstId(first), ConstId(second)])?;
+    put(types, TypeNode::Constant(ConstValue::Fields(fields)))
+}
+
 // Constants are compared by value: 1 to 10 are 5, 5, 6, the texts ab, ab and ac, (5, ab) twice by other
 // places, (6, ab), and NIL.
 #[test]
@@ -539,20 +550,16 @@ fn constants(rt: HostRuntime) -> Result<(), Fail> {
     let bump = Bump::new(alloc);
     let mut types = TypeGraph::new(alloc);
     put(&mut types, TypeNode::Integer)?;
-    for value in [
-        ConstValue::Ordinal(5),
-        ConstValue::Ordinal(5),
-        ConstValue::Ordinal(6),
-        ConstValue::Text(b"ab"),
-        ConstValue::Text(b"ab"),
-        ConstValue::Text(b"ac"),
-        ConstValue::Fields(bump.try_alloc_slice_copy(&[ConstId(1), ConstId(4)])?),
-        ConstValue::Fields(bump.try_alloc_slice_copy(&[ConstId(2), ConstId(5)])?),
-        ConstValue::Fields(bump.try_alloc_slice_copy(&[ConstId(3), ConstId(4)])?),
-        ConstValue::Nil,
-    ] {
-        put(&mut types, TypeNode::Constant(value))?;
+    for number in [5i64, 5, 6] {
+        put(&mut types, TypeNode::Constant(ConstValue::Ordinal(number)))?;
     }
+    for text in [b"ab", b"ab", b"ac"] {
+        put(&mut types, TypeNode::Constant(ConstValue::Text(text)))?;
+    }
+    for (first, second) in [(1u32, 4u32), (2, 5), (3, 4)] {
+        put_pair(&bump, &mut types, first, second)?;
+    }
+    put(&mut types, TypeNode::Constant(ConstValue::Nil))?;
     // 11 to 20: a record whose field has each of them as its default
     for value in 1..11u32 {
         put(&mut types, record_with_default(&bump, b"a", value)?)?;

@@ -21,8 +21,8 @@ returns-clause-all c = λ r has v full e.
     let at : ℕ → ℕ → Type 0 = λ k p. IsNoted graph.hiding.links.items (newest_of graph.hiding.newest c.args.view k) p in
     found_noted reveals found places all r has (λ p g. ∥∥₁_elim (graph.hidden p r g full) ∥∥₁_prop (λ n.
     ∣ ⊎_elim
-      (λ z. c.in_ok-places.ensures.zero p (subst (λ k. IsNoted graph.hiding.links.items (newest_of graph.hiding.newest k 0) p) v z))
-      (λ m.
-      let now = subst (λ k. IsNoted graph.hiding.links.items (newest_of graph.hiding.newest k (mark_at nodes r.bound.0)) p) v m in
-      ⊎_elim (λ q. c.in_ok-places.ensures.zero p (subst (λ k. at k p) q now)) (λ q. c.in_ok-places.ensures.other p (subst (λ k. at k p) (q ∙ sym (c.mark_at-mark.ensures ∙ ap (λ ns. mark_at ns c.args.t) c.deref.ensures.value)) now)) e)
-      n ∣₁))
+    (λ z. c.in_ok-places.ensures.zero p (subst (λ k. IsNoted graph.hiding.links.items (newest_of graph.hiding.newest k 0) p) v z))
+    (λ m.
+    let now = subst (λ k. IsNoted graph.hiding.links.items (newest_of graph.hiding.newest k (mark_at nodes r.bound.0)) p) v m in
+    ⊎_elim (λ q. c.in_ok-places.ensures.zero p (subst (λ k. at k p) q now)) (λ q. c.in_ok-places.ensures.other p (subst (λ k. at k p) (q ∙ sym (c.mark_at-mark.ensures ∙ ap (λ ns. mark_at ns c.args.t) c.deref.ensures.value)) now)) e)
+    n ∣₁))
