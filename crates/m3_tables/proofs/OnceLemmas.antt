@@ -1,5 +1,5 @@
 -- The tidy places of a good row stand in its list once each.
-use Rattle.std.proofs.Common.{◌≡◌, ℕ, zero, suc, ◌<◌, ◌≤◌, Bool, true, false, ◌&&◌, ◌||◌, not, filter, List, [], ◌∷◌, ◌++◌, Option, Some, None, inl, inr, refl, sym, subst, ◌∙◌, arith}
+use Rattle.std.proofs.Common.{◌≡◌, ℕ, zero, suc, ◌<◌, ◌≤◌, Bool, true, false, ◌&&◌, ◌||◌, not, filter, List, [], ◌∷◌, ◌++◌, Option, Some, None, inl, inr, refl, ◌∙◌, arith}
 use Rattle.std.specs.Prelude.{◌==◌, nat_lt}
 use Rattle.std.specs.Option.{option_map_or}
 use Rattle.std.specs.List.{list_all}
@@ -8,7 +8,7 @@ use Rattle.std.proofs.lemmas.Bool.Decides.{nat_tests}
 use Rattle.m3_tables.specs.Numbers.{has, rises, is_once}
 use Rattle.m3_tables.specs.Rows.{Tidies, All_of, Changed, Unchanged}
 use Rattle.m3_tables.specs.Fields.{tidies_at}
-use Rattle.m3_tables.specs.Sections.{row_in, tidies_rise, tidies_fit, rest_fits, was_tidy, is_tidy, tidies_list, tidy_list, row_rises, row_fits, is_good}
+use Rattle.m3_tables.specs.Sections.{row_in, tidies_rise, tidies_fit, rest_fits, was_tidy, is_tidy, tidies_list, tidy_list, is_good}
 use Rattle.m3_tables.proofs.SectionLemmas.{good_rises, good_fits, has_append, has_filter, has_tidy_list}
 use Rattle.m3_tables.proofs.KeepingLemmas.{choice, and_parts, not_true, has_passes}
 
