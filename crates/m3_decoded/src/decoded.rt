@@ -47,8 +47,9 @@ pub struct Decoded<'a> {
 }
 
 impl<'a> Decoded<'a> {
-    ghost use Rattle.std.specs.Prelude.{◌≤◌, ◌<◌, ◌↔◌, IfOk, IfSome, IfNone, IsTrue};
+    ghost use Rattle.std.specs.Prelude.{◌≤◌, ◌<◌, ◌↔◌, true, IfOk, IfSome, IfNone, IsTrue};
     ghost use Rattle.std.specs.Option.{option_map, option_copied};
+    ghost use Rattle.m3_tables.specs.Numbers.{is_once};
     ghost use Rattle.m3_tables.specs.Sections.{instruction_in, tidy_list};
     ghost use Rattle.m3_tables.specs.Tables.{section_of_row, number_of_row};
     ghost use Rattle.m3_sections.specs.PartViews.{type_of};
@@ -158,6 +159,7 @@ impl<'a> Decoded<'a> {
     pub fn tidy_places(&self, row: usize) -> Option<&[u32]>
         ensures within { IfSome result (λ x. row < word_in (image_of self.now).program.tables) }
         ensures told { IfSome result (λ x. x.now ≡ tidy_list (image_of self.now).program.tables row) }
+        ensures once { IfSome result (λ x. is_once x.now ≡ true) }
         ensures none { IfNone result (word_in (image_of self.now).program.tables ≤ row) }
     {
         self.tidies.get(row)

@@ -56,7 +56,8 @@ fn push_row(
 }
 
 impl<'a> TidyLists<'a> {
-    ghost use Rattle.std.specs.Prelude.{◌<◌, IfSome, IfNone};
+    ghost use Rattle.std.specs.Prelude.{◌<◌, true, IfSome, IfNone};
+    ghost use Rattle.m3_tables.specs.Numbers.{is_once};
     ghost use Rattle.m3_decoded.specs.RowViews.{table_of};
 
     /// The tidy places of the rows of a table.
@@ -84,6 +85,7 @@ impl<'a> TidyLists<'a> {
     pub(crate) fn get(&self, row: usize) -> Option<&[u32]>
         ensures within { IfSome result (λ x. row < row_count (table_of self.now)) }
         ensures told { IfSome result (λ x. x.now ≡ tidy_list (section_of (table_of self.now)) row) }
+        ensures once { IfSome result (λ x. is_once x.now ≡ true) }
         ensures none { IfNone result (row_count (table_of self.now) ≤ row) }
     {
         if row >= self.spans.len() {

@@ -5,4 +5,4 @@ mod frame;
 mod walk;
 
 pub use frame::Frame;
-pub use walk::frame_at;
+pub use walk::{frame_at, older_frame};

@@ -1,6 +1,5 @@
 -- The directory of the tables has a row for each point instruction, and no other.
-use Rattle.std.proofs.Common.{◌≡◌, ℕ, zero, suc, ◌+◌, ◌<◌, Bool, true, false, List, [], ◌∷◌, Option, Some, None, ◌⊎◌, inl, inr, refl, sym, subst, ◌∙◌, arith}
-use Rattle.std.specs.Prelude.{nat_eq}
+use Rattle.std.proofs.Common.{◌≡◌, ℕ, zero, suc, ◌+◌, ◌<◌, true, List, [], ◌∷◌, Some, None, inl, inr, refl, sym, ◌∙◌, arith}
 use Rattle.std.specs.List.{slice_get}
 use Rattle.std.proofs.lemmas.Bool.{cases_lt, lt-ltb, le-ltb}
 use Rattle.std.proofs.lemmas.Slice.Eq.{bytes_eq-Decides}
@@ -12,7 +11,6 @@ use Rattle.m3_isa.specs.Instructions.{is_point}
 use Rattle.m3_sections.specs.Parts.{Program}
 use Rattle.m3_sections.specs.Ranges.{is_point_at, points_from}
 use Rattle.m3_image.specs.Programs.{lists_points}
-use Rattle.m3_sections.specs.Fields.{each}
 use Rattle.m3_image.proofs.RowLemmas.{listed, listed_get}
 
 -- a point has a place in the list of points

@@ -1,18 +1,17 @@
 -- What every program that was read keeps, from the tests that it passed.
-use Rattle.std.proofs.Common.{◌≡◌, ℕ, ℤ, pos, negsuc, ◌+◌, ◌<◌, ◌≤◌, ◌^◌, Bool, true, false, ◌&&◌, ◌||◌, not, List, length, Option, Some, None, ◌⊎◌, inl, inr, refl, sym, subst, ◌∙◌, arith}
-use Rattle.std.specs.Prelude.{◌==◌, nat_lt, nat_le, if◌then◌else◌}
+use Rattle.std.proofs.Common.{◌≡◌, ℕ, ℤ, pos, negsuc, ◌+◌, ◌<◌, ◌≤◌, ◌^◌, Bool, true, false, ◌&&◌, ◌||◌, not, length, Option, Some, None, inl, inr, refl, sym, subst, arith}
+use Rattle.std.specs.Prelude.{nat_lt, nat_le}
 use Rattle.std.specs.Option.{option_map, option_map_or}
 use Rattle.std.specs.List.{slice_get, list_all}
 use Rattle.std.proofs.lemmas.Option.{slice_get_within}
 use Rattle.std.proofs.lemmas.Bool.{ltb-true}
 use Rattle.std.proofs.lemmas.Bool.Decides.{nat_tests}
-use Rattle.m3_tables.specs.Numbers.{word_in, has}
-use Rattle.m3_tables.specs.Rows.{Entry, Contents}
+use Rattle.m3_tables.specs.Numbers.{word_in}
+use Rattle.m3_tables.specs.Rows.{Entry}
 use Rattle.m3_tables.specs.Sections.{directory_fault, end_fault, is_tidy, contents_in, is_good, tidy_all, is_between, entry_passes, derived_pass, is_within, are_free, spares_registers, instruction_in as row_instruction}
 use Rattle.m3_tables.proofs.KeepingLemmas.{choice, and_parts, or_implies, has_passes, place_passes, tidy_passes, free_passes, row_kept}
 use Rattle.m3_isa.specs.declared.instructions.Instr.{Instr}
 use Rattle.m3_sections.specs.declared.procs.ProcPart.{ProcPart}
-use Rattle.m3_sections.specs.declared.refusal.ImageRefusal.{ImageRefusal}
 use Rattle.m3_sections.specs.declared.refusal.ImageRefusal.TheVariants as refusal
 use Rattle.m3_image.specs.declared.targets.Target.{Target}
 use Rattle.m3_image.specs.declared.targets.Target.TheVariants.{Jump}

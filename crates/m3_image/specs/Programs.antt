@@ -1,5 +1,5 @@
 -- What a program whose sections have their form has to keep besides, in the order in which it is tested.
-use Rattle.std.specs.Prelude.{ℕ, zero, suc, ℤ, pos, negsuc, ◌+◌, ◌^◌, nat_lt, nat_le, nat_eq, ◌==◌, Bool, true, false, not, ◌&&◌, ◌||◌, if◌then◌else◌, List, [], ◌∷◌, length, drop, map, Option, Some, None}
+use Rattle.std.specs.Prelude.{ℕ, ℤ, pos, negsuc, ◌+◌, ◌^◌, nat_lt, nat_eq, ◌==◌, Bool, true, false, not, ◌&&◌, ◌||◌, if◌then◌else◌, length, drop, map, Option, Some}
 use Rattle.std.specs.Option.{option_map, option_map_or}
 use Rattle.std.specs.List.{slice_get, list_all}
 use Rattle.std.specs.Cmp.Lexicographic.{pointwise}
@@ -8,7 +8,6 @@ use Rattle.m3_tables.specs.Sections.{directory_fault, end_fault, is_good, is_wit
 use Rattle.m3_isa.specs.declared.instructions.Instr.{Instr}
 use Rattle.m3_isa.specs.declared.instructions.Op.{Op}
 use Rattle.m3_isa.specs.declared.instructions.Op.TheVariants as op
-use Rattle.m3_isa.specs.Instructions.{is_point}
 use Rattle.m3_sections.specs.declared.procs.ProcPart.{ProcPart}
 use Rattle.m3_sections.specs.declared.refusal.ImageRefusal.{ImageRefusal}
 use Rattle.m3_sections.specs.declared.refusal.ImageRefusal.TheVariants as refusal

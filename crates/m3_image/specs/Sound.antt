@@ -1,5 +1,5 @@
 -- What every program that was read keeps, in plain words.
-use Rattle.std.specs.Prelude.{◌≡◌, ℕ, ◌+◌, ◌≤◌, ◌<◌, pos, Bool, true, List, length, Some, None}
+use Rattle.std.specs.Prelude.{◌≡◌, ℕ, ◌+◌, ◌≤◌, ◌<◌, pos, true, length, Some, None}
 use Rattle.std.specs.List.{slice_get}
 use Rattle.m3_tables.specs.Numbers.{word_in, has}
 use Rattle.m3_tables.specs.Rows.{Entry}

@@ -20,7 +20,7 @@ pub and_parts : (a b : Bool) → (a && b) ≡ true → (a ≡ true) × (b ≡ tr
 and_parts true b e = (refl, e)
 and_parts false b e = absurd cc
 
-not_true : (b : Bool) → not b ≡ true → b ≡ false
+pub not_true : (b : Bool) → not b ≡ true → b ≡ false
 not_true true e = absurd cc
 not_true false e = refl
 

@@ -3,3 +3,4 @@ pub mod FieldLemmas
 pub mod SectionLemmas
 pub mod ViewLemmas
 pub mod KeepingLemmas
+pub mod OnceLemmas

@@ -307,12 +307,12 @@ unfolding tidy_list
 tidy_list_at section zero = refl
 tidy_list_at section (suc row) = refl
 
-has_append : (xs ys : List ℕ) (l : ℕ) → has (xs ++ ys) l ≡ (has xs l || has ys l)
+pub has_append : (xs ys : List ℕ) (l : ℕ) → has (xs ++ ys) l ≡ (has xs l || has ys l)
 has_append [] ys l = refl
 has_append (x ∷ xs) ys l =
     elim (x == l) as (λ b. (b || has (xs ++ ys) l) ≡ ((b || has xs l) || has ys l)) [ true ↦ refl | false ↦ has_append xs ys l ]
 
-has_filter : (p : ℕ → Bool) (xs : List ℕ) (l : ℕ) → has (filter p xs) l ≡ (has xs l && p l)
+pub has_filter : (p : ℕ → Bool) (xs : List ℕ) (l : ℕ) → has (filter p xs) l ≡ (has xs l && p l)
 has_filter p [] l = refl
 has_filter p (x ∷ xs) l =
     elim (choice (x == l)) [

@@ -1,5 +1,5 @@
 -- Numbers as bytes, the lowest byte first.
-use Rattle.std.specs.Prelude.{ℕ, zero, suc, Bool, true, false, ◌||◌, ◌&&◌, ◌==◌, nat_lt, List, [], ◌∷◌, drop}
+use Rattle.std.specs.Prelude.{ℕ, zero, suc, Bool, true, false, not, ◌||◌, ◌&&◌, ◌==◌, nat_lt, List, [], ◌∷◌, drop}
 use Rattle.byteorder.specs.Endian.{little_number}
 
 -- the number in the first four bytes
@@ -25,3 +25,8 @@ abbrev pub rises : List ℕ → Bool
 rises [] = true
 rises (x ∷ []) = true
 rises (x ∷ y ∷ xs) = nat_lt x y && rises (y ∷ xs)
+
+-- whether each number stands in a list once
+abbrev pub is_once : List ℕ → Bool
+is_once [] = true
+is_once (x ∷ xs) = not (has xs x) && is_once xs

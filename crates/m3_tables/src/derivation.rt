@@ -15,8 +15,11 @@ pub struct Derivation<'a> {
 }
 
 impl<'a> Derivation<'a> {
-    ghost use Rattle.m3_tables.specs.Fields.{path_of};
-    ghost use Rattle.m3_tables.specs.Views.{ways_of, entry_of};
+    ghost use Rattle.std.specs.List.{slice_get};
+    ghost use Rattle.std.specs.Option.{option_map};
+    ghost use Rattle.m3_tables.specs.Places.{location_of};
+    ghost use Rattle.m3_tables.specs.Rows.{base_in};
+    ghost use Rattle.m3_tables.specs.Views.{ways_of, entry_of, bases_of};
 
     /// The number of the word's place.
     pub fn place_number(&self) -> u32
@@ -45,15 +48,6 @@ impl<'a> Derivation<'a> {
             bytes: self.bytes,
         }
     }
-}
-
-impl<'a> Derivation<'a> {
-    ghost use Rattle.std.specs.Prelude.{Option};
-    ghost use Rattle.std.specs.Option.{option_map};
-    ghost use Rattle.m3_tables.specs.Places.{location_of};
-    ghost use Rattle.m3_tables.specs.Rows.{base_in};
-    ghost use Rattle.std.specs.List.{slice_get};
-    ghost use Rattle.m3_tables.specs.Views.{entry_of, bases_of};
 
     /// Where the derived word is.
     pub fn location(&self) -> Location

@@ -20,11 +20,10 @@ pub struct Row<'a> {
 }
 
 impl<'a> Row<'a> {
-    ghost use Rattle.std.specs.Prelude.{◌≡◌};
+    ghost use Rattle.std.specs.Prelude.{◌≡◌, true, IfOk};
     ghost use Rattle.std.specs.Option.{option_map};
     ghost use Rattle.std.specs.List.{slice_get};
-    ghost use Rattle.std.specs.Prelude.{IfOk};
-    ghost use Rattle.m3_tables.specs.Numbers.{has};
+    ghost use Rattle.m3_tables.specs.Numbers.{has, is_once};
     ghost use Rattle.m3_tables.specs.Sections.{contents_in, instruction_in, is_tidy, was_list};
     ghost use Rattle.m3_tables.specs.Keeping.{RowKept};
     ghost use Rattle.m3_tables.specs.Views.{contents_of, entry_of, numbers_of, entries_of};
@@ -86,12 +85,12 @@ impl<'a> Row<'a> {
         self.section.is_same(self.number)
     }
 
-    /// The numbers of the tidy places, each once, by those of the row before, of which the first row has none. It
-    /// goes over the row once.
+    /// The numbers of the tidy places, each once, by those of the row before; the first row has none before it.
     #[tactic(auto, using(crate::proofs::SectionLemmas::has_tidy_list))]
     pub fn tidy_places(&self, alloc: Global, before: &[u32]) -> Result<Vec<u32>, NoMemory>
         requires { before.now ≡ was_list (section_of_row self.now) (number_of_row self.now) }
         ensures list { IfOk result (λ v. v.items ≡ tidy_in self.now) }
+        ensures once { IfOk result (λ v. is_once v.items ≡ true) }
         ensures tidy { IfOk result (λ v. (l : ℕ) → has v.items l ≡ is_tidy (section_of_row self.now) (number_of_row self.now) l) }
     {
         self.section.tidy_places(alloc, self.number, before)

@@ -171,9 +171,7 @@ impl<'a> Section<'a> {
             Some(after) => self.body().len().saturating_sub(after.len()),
         }
     }
-}
 
-impl<'a> Section<'a> {
     /// The first bad row.
     pub(crate) fn first_bad(&self) -> Option<u32>
         ensures { result ≡ first_bad self.now.bytes.now (word_in self.now.bytes.now) }
