@@ -51,7 +51,8 @@ pub fn raises<'a>(reader: &mut Reader<'_, 'a>) -> Raises<'a>
     ensures { Follows reader.old reader.new }
 {
     if !reader.skip_word(Word::Raises) {
-        return Raises::Only(reader.no_items());
+        let none: &'a [Qualid<'a>] = reader.no_items();
+        return Raises::Only(none);
     }
     if reader.skip_word(Word::Any) {
         return Raises::Any;
