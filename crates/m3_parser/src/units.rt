@@ -4,7 +4,7 @@ ghost use Rattle.m3_cursor.specs.Readers.{Follows};
 use crate::closings::first_wrong_closing;
 use bumpalo::Bump;
 use m3_base::{NoMemory, Pos, Refusal, Refused};
-use m3_cursor::{Reader, name_list};
+use m3_cursor::{Reader, name_list, names_up_to};
 use m3_statements::{block, declarations};
 use m3_syntax::{Import, ImportItem, Kept, Lexed, Name, Sign, Unit, UnitKind, Word};
 use std::alloc::Global;
@@ -183,13 +183,7 @@ fn parenthesized_names<'a>(reader: &mut Reader<'_, 'a>) -> &'a [Name<'a>]
     ensures { Follows reader.old reader.new }
 {
     reader.take_sign(Sign::OpenParen);
-    let names = if reader.is_sign(Sign::CloseParen) {
-        reader.no_items()
-    } else {
-        name_list(reader)
-    };
-    reader.take_sign(Sign::CloseParen);
-    names
+    names_up_to(reader, Sign::CloseParen)
 }
 
 /// The imports of a unit.
