@@ -128,7 +128,7 @@ impl<'t, 'a> Reader<'t, 'a> {
     }
 
     /// Goes past the token here, if it is of this kind, and tells whether it is.
-    fn skip(&mut self, kind: TokenKind) -> bool
+    pub fn skip(&mut self, kind: TokenKind) -> bool
         ensures follows { Follows self.old self.new }
         ensures past { IsTrue result → length self.new.rest.now < length self.old.rest.now }
     {

@@ -121,9 +121,9 @@ fn infix(reader: &mut Reader<'_, '_>, level: Level) -> Option<Operator>
     ensures follows { Follows reader.old reader.new }
     ensures past { OnSome result (length reader.new.rest.now < length reader.old.rest.now) }
 {
-    let operator = operator_of(reader.kind()?)?;
-    if level_of(operator) == level {
-        reader.step();
+    let kind = reader.kind()?;
+    let operator = operator_of(kind)?;
+    if level_of(operator) == level && reader.skip(kind) {
         Some(operator)
     } else {
         None
@@ -153,8 +153,11 @@ fn negation<'a>(reader: &mut Reader<'_, 'a>, setting: Setting) -> Found<'a>
 {
     let pos = reader.pos();
     let mut words = Vec::new(reader.alloc());
-    'words: while reader.is_word(Word::Not) {
-        let word = reader.take_word(Word::Not);
+    'words: loop {
+        let word = reader.pos();
+        if !reader.skip_word(Word::Not) {
+            break;
+        }
         reader.put(&mut words, word);
     }
     let words = reader.row(words);

@@ -236,7 +236,15 @@ fn object_parts<'a>(
     let mut parts = Vec::new(reader.alloc());
     let mut brand_of_next = brand_of_first;
     'parts: loop {
-        let part = object_part(reader, room, brand_of_next);
+        let pos = match brand_of_next {
+            Some(brand) => brand.pos,
+            None => reader.pos(),
+        };
+        if !reader.skip_word(Word::Object) {
+            reader.unexpected();
+            break;
+        }
+        let part = members_of(reader, room, pos, brand_of_next);
         reader.put(&mut parts, part);
         if !begins_object(reader) {
             break;
@@ -246,20 +254,16 @@ fn object_parts<'a>(
     reader.row(parts)
 }
 
-/// OBJECT up to its END.
+/// What stands behind OBJECT, up to its END.
 #[cycle(expressions)]
-fn object_part<'a>(
+fn members_of<'a>(
     reader: &mut Reader<'_, 'a>,
     room: u32,
+    pos: Pos,
     brand: Option<Brand<'a>>,
 ) -> ObjectPart<'a>
     ensures { Follows reader.old reader.new }
 {
-    let object = reader.take_word(Word::Object);
-    let pos = match &brand {
-        Some(brand) => brand.pos,
-        None => object,
-    };
     let fields = fields(reader, room);
     let methods = methods(reader, room);
     let overrides = overrides(reader, room);

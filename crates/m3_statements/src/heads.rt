@@ -99,7 +99,7 @@ fn with_last<'a>(
     ensures { Follows reader.old reader.new }
 {
     let mut operations = Vec::new(reader.alloc());
-    for operation in before {
+    'operations: for operation in before {
         reader.put(&mut operations, *operation);
     }
     reader.put(&mut operations, last);
