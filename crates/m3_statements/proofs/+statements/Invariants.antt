@@ -19,8 +19,8 @@ decreases-branches::typecase_statement l = 16 * l.room + 3
 abbrev pub decreases-declarations::declaration : goal.decreases-declarations::declaration
 decreases-declarations::declaration l = 16 * l.room + 2
 
-abbrev pub decreases-declarations::declarations : goal.decreases-declarations::declarations
-decreases-declarations::declarations l = 16 * l.room + 3
+abbrev pub decreases-declarations::declaration_list : goal.decreases-declarations::declaration_list
+decreases-declarations::declaration_list l = 16 * l.room + 3
 
 abbrev pub decreases-declarations::procedure : goal.decreases-declarations::procedure
 decreases-declarations::procedure l = 16 * l.room + 1
@@ -91,8 +91,8 @@ invariant-handlers::handlers-handlers l = length l.reader.rest.now ≤ length l.
 abbrev pub decreases-handlers::handlers-handlers : goal.decreases-handlers::handlers-handlers
 decreases-handlers::handlers-handlers l = length l.reader.rest.now
 
-abbrev pub invariant-declarations::declarations-declarations : goal.invariant-declarations::declarations-declarations
-invariant-declarations::declarations-declarations l = length l.reader.rest.now ≤ length l.initial.reader.rest.now
+abbrev pub invariant-declarations::declaration_list-declarations : goal.invariant-declarations::declaration_list-declarations
+invariant-declarations::declaration_list-declarations l = length l.reader.rest.now ≤ length l.initial.reader.rest.now
 
-abbrev pub decreases-declarations::declarations-declarations : goal.decreases-declarations::declarations-declarations
-decreases-declarations::declarations-declarations l = length l.reader.rest.now
+abbrev pub decreases-declarations::declaration_list-declarations : goal.decreases-declarations::declaration_list-declarations
+decreases-declarations::declaration_list-declarations l = length l.reader.rest.now
