@@ -18,6 +18,18 @@ pub fn name_list<'a>(reader: &mut Reader<'_, 'a>) -> &'a [Name<'a>]
     reader.row(names)
 }
 
+/// Names with commas between them, maybe none, up to and with the sign that closes them.
+pub fn names_up_to<'a>(reader: &mut Reader<'_, 'a>, close: Sign) -> &'a [Name<'a>]
+    ensures { Follows reader.old reader.new }
+{
+    if reader.skip_sign(close) {
+        return reader.no_items();
+    }
+    let names = name_list(reader);
+    reader.take_sign(close);
+    names
+}
+
 /// A name, or an interface's name, a dot and a name of it.
 pub fn qualid<'a>(reader: &mut Reader<'_, 'a>) -> Qualid<'a>
     ensures { Follows reader.old reader.new }
@@ -50,18 +62,26 @@ pub fn qualid_list<'a>(reader: &mut Reader<'_, 'a>) -> &'a [Qualid<'a>]
 pub fn raises<'a>(reader: &mut Reader<'_, 'a>) -> Raises<'a>
     ensures { Follows reader.old reader.new }
 {
-    if !reader.skip_word(Word::Raises) {
-        return Raises::Only(reader.no_items());
+    let is_given = reader.skip_word(Word::Raises);
+    if is_given && reader.skip_word(Word::Any) {
+        Raises::Any
+    } else {
+        Raises::Only(raised(reader, is_given))
     }
-    if reader.skip_word(Word::Any) {
-        return Raises::Any;
+}
+
+/// The qualified names in braces behind RAISES, where it is given.
+fn raised<'a>(reader: &mut Reader<'_, 'a>, is_given: bool) -> &'a [Qualid<'a>]
+    ensures { Follows reader.old reader.new }
+{
+    if !is_given {
+        return reader.no_items();
     }
     reader.take_sign(Sign::OpenBrace);
-    let names = if reader.is_sign(Sign::CloseBrace) {
-        reader.no_items()
-    } else {
-        qualid_list(reader)
-    };
+    if reader.skip_sign(Sign::CloseBrace) {
+        return reader.no_items();
+    }
+    let names = qualid_list(reader);
     reader.take_sign(Sign::CloseBrace);
-    Raises::Only(names)
+    names
 }

@@ -1,22 +1,37 @@
-ghost use Rattle.std.specs.Prelude.{◌≡◌, ◌+◌, ◌<◌, ◌≤◌, IsTrue, IfSome, length};
-ghost use Rattle.m3_cursor.specs.Readers.{Follows};
+ghost use Rattle.std.specs.Prelude.{◌≡◌, ◌+◌, ◌<◌, ◌≤◌, IsTrue, IfSome, IfNone, IsSome, length};
+ghost use Rattle.m3_cursor.specs.Readers.{Follows, IsWrittenAt};
 
 use bumpalo::Bump;
-use m3_base::{Pos, Refusal, Refused};
+use m3_base::{NoMemory, Pos};
 use m3_syntax::{Expr, Lexed, Name, Sign, Token, TokenKind, TypeExp, Word};
 use std::alloc::Global;
 
+/// Why the reading of a file stopped.
+#[derive(Clone, Copy, Debug, PartialEq, Eq)]
+pub enum Why {
+    /// The token there may not stand there, or the file ends too early.
+    Unexpected,
+    /// The token there lies inside too many constructs.
+    TooDeep,
+    NoMemory,
+}
+
+/// The first error in a file, and how many tokens were left there.
+#[derive(Clone, Copy, Debug)]
+pub struct Stop {
+    pub why: Why,
+    pub left: usize,
+}
+
 /// Reads the tokens of a file from the first to the last. It keeps the first error, and stands at the end
 /// of the tokens from then on, where nothing more is taken; so whoever reads goes on as if nothing had
-/// happened, and asks at the end by `whole`.
+/// happened, and asks at the end by `stop`.
 pub struct Reader<'t, 'a> {
     alloc: Global,
     arena: &'a Bump,
     rest: &'t [Token<'a>],
     end: Pos,
-    error: Option<Refused>,
-    /// How many tokens were left where the first error was found.
-    unread: usize,
+    stop: Option<Stop>,
     no_expr: &'a Expr<'a>,
     no_type: &'a TypeExp<'a>,
 }
@@ -28,8 +43,7 @@ impl Drop for Reader<'_, '_> {
             arena: _,
             rest: _,
             end: _,
-            error: _,
-            unread: _,
+            stop: _,
             no_expr: _,
             no_type: _,
         } = self;
@@ -42,7 +56,7 @@ impl<'t, 'a> Reader<'t, 'a> {
         alloc: Global,
         arena: &'a Bump,
         lexed: &'t Lexed<'a>,
-    ) -> Result<Reader<'t, 'a>, Refused> {
+    ) -> Result<Reader<'t, 'a>, NoMemory> {
         let end = lexed.end;
         let no_expr = &*arena.try_alloc(Expr::Missing { pos: end })?;
         let no_type = &*arena.try_alloc(TypeExp::Missing { pos: end })?;
@@ -51,27 +65,15 @@ impl<'t, 'a> Reader<'t, 'a> {
             arena,
             rest: lexed.tokens.as_slice(),
             end,
-            error: None,
-            unread: 0,
+            stop: None,
             no_expr,
             no_type,
         })
     }
 
-    /// What was read, or the first error.
-    pub fn whole<T: Copy>(&self, tree: T) -> Result<T, Refused> {
-        match self.error {
-            None => Ok(tree),
-            Some(error) => Err(error),
-        }
-    }
-
-    /// How many tokens are left here, or were left at the first error.
-    pub fn unread(&self) -> usize {
-        match self.error {
-            None => self.rest.len(),
-            Some(_) => self.unread,
-        }
+    /// The first error, if there was one.
+    pub fn stop(&self) -> Option<Stop> {
+        self.stop
     }
 
     pub fn alloc(&self) -> Global {
@@ -128,7 +130,7 @@ impl<'t, 'a> Reader<'t, 'a> {
     }
 
     /// Goes past the token here, if it is of this kind, and tells whether it is.
-    fn skip(&mut self, kind: TokenKind) -> bool
+    pub fn skip(&mut self, kind: TokenKind) -> bool
         ensures follows { Follows self.old self.new }
         ensures past { IsTrue result → length self.new.rest.now < length self.old.rest.now }
     {
@@ -181,7 +183,8 @@ impl<'t, 'a> Reader<'t, 'a> {
 
     /// Goes past the token here, which has to be an identifier, and gives it.
     pub fn take_name(&mut self) -> Name<'a>
-        ensures { Follows self.old self.new }
+        ensures follows { Follows self.old self.new }
+        ensures own { IfNone self.new.stop (IsWrittenAt result.text.now self.old.rest.now) }
     {
         let pos = self.pos();
         let text = self.take_text(TokenKind::Ident);
@@ -190,7 +193,8 @@ impl<'t, 'a> Reader<'t, 'a> {
 
     /// Goes past the token here, which has to be of this kind, and gives it as it is written.
     pub fn take_text(&mut self, kind: TokenKind) -> &'a [u8]
-        ensures { Follows self.old self.new }
+        ensures follows { Follows self.old self.new }
+        ensures own { IfNone self.new.stop (IsWrittenAt result.now self.old.rest.now) }
     {
         match self.rest {
             [token, rest @ ..] if token.kind == kind => {
@@ -205,44 +209,33 @@ impl<'t, 'a> Reader<'t, 'a> {
     }
 
     /// Keeps an error, if it is the first, and goes to the end.
-    fn fail(&mut self, error: Refused)
-        ensures { Follows self.old self.new }
+    fn fail(&mut self, why: Why)
+        ensures follows { Follows self.old self.new }
+        ensures stopped { IsSome self.new.stop }
     {
-        if self.error.is_none() {
-            self.error = Some(error);
-            self.unread = self.rest.len();
+        if self.stop.is_none() {
+            self.stop = Some(Stop {
+                why,
+                left: self.rest.len(),
+            });
         }
         self.rest = &[];
     }
 
     /// Refuses the token here, which may not stand here, or the end of the file, which comes too early.
     pub fn unexpected(&mut self)
-        ensures { Follows self.old self.new }
+        ensures follows { Follows self.old self.new }
+        ensures stopped { IsSome self.new.stop }
     {
-        if self.rest.is_empty() {
-            self.refuse(11);
-        } else {
-            self.refuse(10);
-        }
+        self.fail(Why::Unexpected);
     }
 
     /// Refuses the token here, which lies inside too many constructs.
     pub fn too_deep(&mut self)
-        ensures { Follows self.old self.new }
+        ensures follows { Follows self.old self.new }
+        ensures stopped { IsSome self.new.stop }
     {
-        self.refuse(13);
-    }
-
-    fn refuse(&mut self, rule: u16)
-        ensures { Follows self.old self.new }
-    {
-        let refusal = Refusal {
-            phase: 2,
-            unit: self.end.file,
-            pos: self.pos(),
-            rule,
-        };
-        self.fail(Refused::Rule(refusal));
+        self.fail(Why::TooDeep);
     }
 
     /// The room inside a construct that the token here opens, given the room around it: how many constructs
@@ -264,7 +257,7 @@ impl<'t, 'a> Reader<'t, 'a> {
         ensures { Follows self.old self.new }
     {
         if items.push(item).is_err() {
-            self.fail(Refused::NoMemory);
+            self.fail(Why::NoMemory);
         }
     }
 
@@ -283,7 +276,7 @@ impl<'t, 'a> Reader<'t, 'a> {
         match self.arena.try_alloc_slice_copy(items.as_slice()) {
             Ok(row) => &*row,
             Err(_) => {
-                self.fail(Refused::NoMemory);
+                self.fail(Why::NoMemory);
                 &[]
             }
         }
@@ -296,7 +289,7 @@ impl<'t, 'a> Reader<'t, 'a> {
         let spare = self.no_expr;
         let kept = kept_expr(self.arena, expr);
         if kept.is_err() {
-            self.fail(Refused::NoMemory);
+            self.fail(Why::NoMemory);
         }
         kept.unwrap_or(spare)
     }
@@ -308,18 +301,18 @@ impl<'t, 'a> Reader<'t, 'a> {
         let spare = self.no_type;
         let kept = kept_type(self.arena, kind);
         if kept.is_err() {
-            self.fail(Refused::NoMemory);
+            self.fail(Why::NoMemory);
         }
         kept.unwrap_or(spare)
     }
 }
 
-fn kept_expr<'a>(arena: &'a Bump, expr: Expr<'a>) -> Result<&'a Expr<'a>, Refused> {
+fn kept_expr<'a>(arena: &'a Bump, expr: Expr<'a>) -> Result<&'a Expr<'a>, NoMemory> {
     let kept = arena.try_alloc(expr)?;
     Ok(&*kept)
 }
 
-fn kept_type<'a>(arena: &'a Bump, kind: TypeExp<'a>) -> Result<&'a TypeExp<'a>, Refused> {
+fn kept_type<'a>(arena: &'a Bump, kind: TypeExp<'a>) -> Result<&'a TypeExp<'a>, NoMemory> {
     let kept = arena.try_alloc(kind)?;
     Ok(&*kept)
 }

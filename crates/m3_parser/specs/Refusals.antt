@@ -1,11 +1,24 @@
 -- What a file is refused for whose tokens make no unit.
-use Rattle.std.specs.Prelude.{ℕ, ◌≡◌, ◌≤◌, ◌<◌, List, length, drop}
+use Rattle.std.specs.Prelude.{ℕ, ◌≡◌, ◌≤◌, ◌<◌, ◌⊎◌, List, [], ◌∷◌, length, drop}
 use Rattle.m3_base.specs.declared.places.Pos.{Pos}
 use Rattle.m3_base.specs.declared.refusals.Refusal.{Refusal}
 use Rattle.m3_base.specs.declared.refusals.Refused.{Refused}
 use Rattle.m3_base.specs.declared.refusals.Refused.TheVariants.{Rule, NoMemory}
-use Rattle.m3_cursor.specs.Cursors.{place_at}
 use Rattle.m3_syntax.specs.declared.tokens.Token.{Token}
+
+-- the place of the first token, or the end of the file
+abbrev pub place_at : Pos → List Token → Pos
+place_at end [] = end
+place_at end (token ∷ rest) = token.pos
+
+-- the first token breaks a rule of the grammar, in the file of this end
+abbrev pub broken : ℕ → Pos → List Token → Refusal
+broken rule end tokens = record { phase = 2; unit = end.file; pos = place_at end tokens; rule = rule }
+
+-- the first token may not stand there, or the file ends too early
+abbrev pub unexpected : Pos → List Token → Refusal
+unexpected end [] = broken 11 end []
+unexpected end (token ∷ rest) = broken 10 end (token ∷ rest)
 
 -- a rule of the grammar, broken in a file of these tokens and this end
 pub record IsBroken (end : Pos) (tokens : List Token) (refusal : Refusal) : Type 0 where

@@ -1,4 +1,4 @@
-ghost use Rattle.std.specs.Prelude.{◌<◌, ◌≤◌, OnSome, length};
+ghost use Rattle.std.specs.Prelude.{◌≡◌, ◌+◌, ◌<◌, ◌≤◌, OnSome, IfSome, length};
 ghost use Rattle.m3_cursor.specs.Readers.{Follows};
 
 use crate::operands::operand;
@@ -54,7 +54,8 @@ pub fn statement_head<'a>(reader: &mut Reader<'_, 'a>, room: u32) -> Expr<'a>
 
 /// The room inside an expression that the token here opens.
 fn inside_expression(reader: &mut Reader<'_, '_>, room: u32) -> Option<u32>
-    ensures { Follows reader.old reader.new }
+    ensures follows { Follows reader.old reader.new }
+    ensures less { IfSome result (λ inside. inside + 1 ≡ room) }
 {
     match reader.kind() {
         Some(kind) if begins_expression(kind) => reader.inside(room),
@@ -81,6 +82,7 @@ pub fn value_of<'a>(reader: &mut Reader<'_, 'a>, found: Found<'a>) -> Expr<'a>
 /// Operands with operators of one level between them, or a type where an operand could begin.
 #[cycle(expressions)]
 pub fn operations<'a>(reader: &mut Reader<'_, 'a>, setting: Setting, level: Level) -> Found<'a>
+    requires { setting.room ≤ setting.calls }
     ensures { Follows reader.old reader.new }
 {
     let first = match tighter(reader, setting, level) {
@@ -119,9 +121,9 @@ fn infix(reader: &mut Reader<'_, '_>, level: Level) -> Option<Operator>
     ensures follows { Follows reader.old reader.new }
     ensures past { OnSome result (length reader.new.rest.now < length reader.old.rest.now) }
 {
-    let operator = operator_of(reader.kind()?)?;
-    if level_of(operator) == level {
-        reader.step();
+    let kind = reader.kind()?;
+    let operator = operator_of(kind)?;
+    if level_of(operator) == level && reader.skip(kind) {
         Some(operator)
     } else {
         None
@@ -131,6 +133,7 @@ fn infix(reader: &mut Reader<'_, '_>, level: Level) -> Option<Operator>
 /// What stands between the operators of a level.
 #[cycle(expressions)]
 fn tighter<'a>(reader: &mut Reader<'_, 'a>, setting: Setting, level: Level) -> Found<'a>
+    requires { setting.room ≤ setting.calls }
     ensures { Follows reader.old reader.new }
 {
     match level {
@@ -145,12 +148,16 @@ fn tighter<'a>(reader: &mut Reader<'_, 'a>, setting: Setting, level: Level) -> F
 /// A relation with the NOTs before it.
 #[cycle(expressions)]
 fn negation<'a>(reader: &mut Reader<'_, 'a>, setting: Setting) -> Found<'a>
+    requires { setting.room ≤ setting.calls }
     ensures { Follows reader.old reader.new }
 {
     let pos = reader.pos();
     let mut words = Vec::new(reader.alloc());
-    'words: while reader.is_word(Word::Not) {
-        let word = reader.take_word(Word::Not);
+    'words: loop {
+        let word = reader.pos();
+        if !reader.skip_word(Word::Not) {
+            break;
+        }
         reader.put(&mut words, word);
     }
     let words = reader.row(words);
@@ -169,6 +176,7 @@ fn negation<'a>(reader: &mut Reader<'_, 'a>, setting: Setting) -> Found<'a>
 /// An operand with the signs before it.
 #[cycle(expressions)]
 fn signed<'a>(reader: &mut Reader<'_, 'a>, setting: Setting) -> Found<'a>
+    requires { setting.room ≤ setting.calls }
     ensures { Follows reader.old reader.new }
 {
     let pos = reader.pos();

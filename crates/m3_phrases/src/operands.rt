@@ -1,4 +1,4 @@
-ghost use Rattle.std.specs.Prelude.{◌<◌, ◌≤◌, OnSome, length};
+ghost use Rattle.std.specs.Prelude.{◌≡◌, ◌+◌, ◌<◌, ◌≤◌, OnSome, IfSome, length};
 ghost use Rattle.m3_cursor.specs.Readers.{Follows};
 
 use crate::expressions::{expression, phrase};
@@ -11,6 +11,7 @@ use m3_syntax::{Actual, Element, Expr, Name, Selector, Sign, TokenKind, TypeExp,
 /// One operand with its selectors, or a type that no brace follows.
 #[cycle(expressions)]
 pub fn operand<'a>(reader: &mut Reader<'_, 'a>, setting: Setting) -> Found<'a>
+    requires { setting.room ≤ setting.calls }
     ensures { Follows reader.old reader.new }
 {
     let found = without_brace(reader, setting);
@@ -25,6 +26,7 @@ pub fn operand<'a>(reader: &mut Reader<'_, 'a>, setting: Setting) -> Found<'a>
 /// that is the parent.
 #[cycle(expressions)]
 fn without_brace<'a>(reader: &mut Reader<'_, 'a>, setting: Setting) -> Found<'a>
+    requires { setting.room ≤ setting.calls }
     ensures { Follows reader.old reader.new }
 {
     let expr = match primary(reader, setting) {
@@ -52,7 +54,8 @@ fn goes_on_as_object(reader: &Reader<'_, '_>, want: Want) -> bool {
 
 /// The room inside a type that begins with an expression. An actual may be the type itself.
 fn inside_type(reader: &mut Reader<'_, '_>, setting: Setting) -> Option<u32>
-    ensures { Follows reader.old reader.new }
+    ensures follows { Follows reader.old reader.new }
+    ensures within { IfSome result (λ room. room ≤ setting.room) }
 {
     match reader.kind() {
         Some(kind) if begins_type(kind) => match setting.want {
@@ -69,6 +72,7 @@ fn inside_type(reader: &mut Reader<'_, '_>, setting: Setting) -> Option<u32>
 /// The beginning of an operand: a name, a literal, a parenthesis, or a type that is no name.
 #[cycle(expressions)]
 fn primary<'a>(reader: &mut Reader<'_, 'a>, setting: Setting) -> Found<'a>
+    requires { setting.room ≤ setting.calls }
     ensures { Follows reader.old reader.new }
 {
     let pos = reader.pos();
@@ -97,6 +101,7 @@ fn primary<'a>(reader: &mut Reader<'_, 'a>, setting: Setting) -> Found<'a>
 /// A phrase in parentheses.
 #[cycle(expressions)]
 fn parenthesis<'a>(reader: &mut Reader<'_, 'a>, setting: Setting) -> Found<'a>
+    requires { setting.room ≤ setting.calls }
     ensures { Follows reader.old reader.new }
 {
     let pos = reader.take_sign(Sign::OpenParen);
@@ -121,6 +126,7 @@ fn parenthesis<'a>(reader: &mut Reader<'_, 'a>, setting: Setting) -> Found<'a>
 /// An operand with the selectors that follow it.
 #[cycle(expressions)]
 fn selected<'a>(reader: &mut Reader<'_, 'a>, setting: Setting, operand: Expr<'a>) -> Expr<'a>
+    requires { setting.room ≤ setting.calls }
     ensures { Follows reader.old reader.new }
 {
     let mut selectors = Vec::new(reader.alloc());
@@ -141,6 +147,7 @@ fn selected<'a>(reader: &mut Reader<'_, 'a>, setting: Setting, operand: Expr<'a>
 /// The selector that is here, if one is.
 #[cycle(expressions)]
 fn selector<'a>(reader: &mut Reader<'_, 'a>, setting: Setting) -> Option<Selector<'a>>
+    requires { setting.room ≤ setting.calls }
     ensures follows { Follows reader.old reader.new }
     ensures past { OnSome result (length reader.new.rest.now < length reader.old.rest.now) }
 {
@@ -242,6 +249,7 @@ fn lone_name<'a>(reader: &mut Reader<'_, 'a>, room: u32) -> Option<Name<'a>>
 /// The constructor of a type whose opening brace is here.
 #[cycle(expressions)]
 fn constructor<'a>(reader: &mut Reader<'_, 'a>, setting: Setting, head: Found<'a>) -> Expr<'a>
+    requires { setting.room ≤ setting.calls }
     ensures { Follows reader.old reader.new }
 {
     let kind = match head {

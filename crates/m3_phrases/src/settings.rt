@@ -1,3 +1,5 @@
+ghost use Rattle.std.specs.Prelude.{◌≡◌};
+
 use m3_syntax::{Expr, Operator, TypeExp};
 
 /// What may be an expression or a type: what is both is an expression.
@@ -31,7 +33,10 @@ pub struct Setting {
 
 impl Setting {
     /// The setting of an operand behind an operator or a sign, with which no actual begins.
-    pub fn behind_operator(self) -> Setting {
+    pub fn behind_operator(self) -> Setting
+        ensures room { result.room ≡ self.room }
+        ensures calls { result.calls ≡ self.calls }
+    {
         match self.want {
             Want::Actual => Setting {
                 want: Want::Value,

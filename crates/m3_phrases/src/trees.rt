@@ -11,13 +11,27 @@ pub fn qualid_of<'a>(expr: &Expr<'a>) -> Option<Qualid<'a>> {
             second: None,
         }),
         Expr::Selected {
-            operand: Expr::Name(first),
-            selectors: [Selector::Member(second)],
+            operand,
+            selectors,
             ..
-        } => Some(Qualid {
-            first: *first,
-            second: Some(*second),
-        }),
+        } => match *operand {
+            Expr::Name(first) => member_of(*first, selectors),
+            _ => None,
+        },
+        _ => None,
+    }
+}
+
+/// A name with one selector, where that is a name too.
+fn member_of<'a>(first: Name<'a>, selectors: &[Selector<'a>]) -> Option<Qualid<'a>> {
+    match selectors {
+        [selector] => match selector {
+            Selector::Member(second) => Some(Qualid {
+                first,
+                second: Some(*second),
+            }),
+            _ => None,
+        },
         _ => None,
     }
 }

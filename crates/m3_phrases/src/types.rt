@@ -4,7 +4,7 @@ use crate::expressions::{expression, phrase, value_of};
 use crate::members::{fields, methods, overrides, signature};
 use crate::settings::Want;
 use m3_base::Pos;
-use m3_cursor::{Reader, begins_type, name_list, qualid};
+use m3_cursor::{Reader, begins_type, names_up_to, qualid};
 use m3_syntax::{Brand, ObjectPart, Sign, TokenKind, TypeExp, TypeName, Word};
 
 /// A type (the report, section 2.2). `room` is that of what surrounds it: the type itself opens one
@@ -39,7 +39,7 @@ pub fn opened_type<'a>(reader: &mut Reader<'_, 'a>, room: u32) -> TypeExp<'a>
             let name = TypeName::Named(qualid(reader));
             named_type(reader, room, name)
         }
-        Some(TokenKind::Symbol(Sign::OpenParen)) => parenthesis(reader, room),
+        Some(TokenKind::Symbol(Sign::OpenParen)) => parenthesized_type(reader, room),
         Some(TokenKind::Symbol(Sign::OpenBracket)) => subrange(reader, room),
         Some(TokenKind::Symbol(_)) => enumeration(reader),
         Some(TokenKind::Keyword(word)) => match word {
@@ -67,7 +67,7 @@ pub fn opened_type<'a>(reader: &mut Reader<'_, 'a>, room: u32) -> TypeExp<'a>
 }
 
 #[cycle(expressions)]
-fn parenthesis<'a>(reader: &mut Reader<'_, 'a>, room: u32) -> TypeExp<'a>
+fn parenthesized_type<'a>(reader: &mut Reader<'_, 'a>, room: u32) -> TypeExp<'a>
     ensures { Follows reader.old reader.new }
 {
     let pos = reader.take_sign(Sign::OpenParen);
@@ -93,12 +93,7 @@ fn enumeration<'a>(reader: &mut Reader<'_, 'a>) -> TypeExp<'a>
     ensures { Follows reader.old reader.new }
 {
     let pos = reader.take_sign(Sign::OpenBrace);
-    let members = if reader.is_sign(Sign::CloseBrace) {
-        reader.no_items()
-    } else {
-        name_list(reader)
-    };
-    reader.take_sign(Sign::CloseBrace);
+    let members = names_up_to(reader, Sign::CloseBrace);
     TypeExp::Enumeration { pos, members }
 }
 
@@ -241,7 +236,15 @@ fn object_parts<'a>(
     let mut parts = Vec::new(reader.alloc());
     let mut brand_of_next = brand_of_first;
     'parts: loop {
-        let part = object_part(reader, room, brand_of_next);
+        let pos = match brand_of_next {
+            Some(brand) => brand.pos,
+            None => reader.pos(),
+        };
+        if !reader.skip_word(Word::Object) {
+            reader.unexpected();
+            break;
+        }
+        let part = members_of(reader, room, pos, brand_of_next);
         reader.put(&mut parts, part);
         if !begins_object(reader) {
             break;
@@ -251,20 +254,16 @@ fn object_parts<'a>(
     reader.row(parts)
 }
 
-/// OBJECT up to its END.
+/// What stands behind OBJECT, up to its END.
 #[cycle(expressions)]
-fn object_part<'a>(
+fn members_of<'a>(
     reader: &mut Reader<'_, 'a>,
     room: u32,
+    pos: Pos,
     brand: Option<Brand<'a>>,
 ) -> ObjectPart<'a>
     ensures { Follows reader.old reader.new }
 {
-    let object = reader.take_word(Word::Object);
-    let pos = match &brand {
-        Some(brand) => brand.pos,
-        None => object,
-    };
     let fields = fields(reader, room);
     let methods = methods(reader, room);
     let overrides = overrides(reader, room);

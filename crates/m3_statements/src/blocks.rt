@@ -1,6 +1,7 @@
+ghost use Rattle.std.specs.Prelude.{◌≡◌, ◌+◌, IfSome};
 ghost use Rattle.m3_cursor.specs.Readers.{Follows};
 
-use crate::declarations::{begins_declaration, declarations};
+use crate::declarations::{begins_declaration, declaration_list};
 use crate::statements::statements;
 use m3_cursor::Reader;
 use m3_syntax::{Block, TokenKind, Word};
@@ -25,7 +26,7 @@ pub fn block<'a>(reader: &mut Reader<'_, 'a>, room: u32) -> Block<'a>
             end: pos,
         };
     };
-    let declarations = declarations(reader, room);
+    let declarations = declaration_list(reader, room);
     reader.take_word(Word::Begin);
     let body = statements(reader, room);
     let end = reader.take_word(Word::End);
@@ -39,7 +40,8 @@ pub fn block<'a>(reader: &mut Reader<'_, 'a>, room: u32) -> Block<'a>
 
 /// The room inside a block that the token here opens.
 fn inside_block(reader: &mut Reader<'_, '_>, room: u32) -> Option<u32>
-    ensures { Follows reader.old reader.new }
+    ensures follows { Follows reader.old reader.new }
+    ensures less { IfSome result (λ inside. inside + 1 ≡ room) }
 {
     match reader.kind() {
         Some(TokenKind::Keyword(word)) if begins_block(word) => reader.inside(room),

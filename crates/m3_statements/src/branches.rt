@@ -59,15 +59,19 @@ pub fn case_statement<'a>(reader: &mut Reader<'_, 'a>, room: u32) -> Stmt<'a>
     let value = expression(reader, room);
     reader.take_word(Word::Of);
     let mut branches = Vec::new(reader.alloc());
-    let mut is_branch = match reader.kind() {
+    let is_branch = match reader.kind() {
         Some(kind) if begins_expression(kind) => true,
         _ => reader.skip_sign(Sign::Bar),
     };
-    'branches: while is_branch {
-        let labels = labels(reader, room);
-        let body = statements(reader, room);
-        reader.put(&mut branches, CaseBranch { labels, body });
-        is_branch = reader.skip_sign(Sign::Bar);
+    if is_branch {
+        'branches: loop {
+            let labels = labels(reader, room);
+            let body = statements(reader, room);
+            reader.put(&mut branches, CaseBranch { labels, body });
+            if !reader.skip_sign(Sign::Bar) {
+                break;
+            }
+        }
     }
     let branches = reader.row(branches);
     let otherwise = otherwise(reader, room);
@@ -108,17 +112,21 @@ pub fn typecase_statement<'a>(reader: &mut Reader<'_, 'a>, room: u32) -> Stmt<'a
     let value = expression(reader, room);
     reader.take_word(Word::Of);
     let mut branches = Vec::new(reader.alloc());
-    let mut is_branch = match reader.kind() {
+    let is_branch = match reader.kind() {
         Some(kind) if begins_type(kind) => true,
         _ => reader.skip_sign(Sign::Bar),
     };
-    'branches: while is_branch {
-        let kinds = kinds(reader, room);
-        let name = parenthesized_name(reader);
-        reader.take_sign(Sign::Arrow);
-        let body = statements(reader, room);
-        reader.put(&mut branches, TypeBranch { kinds, name, body });
-        is_branch = reader.skip_sign(Sign::Bar);
+    if is_branch {
+        'branches: loop {
+            let kinds = kinds(reader, room);
+            let name = parenthesized_name(reader);
+            reader.take_sign(Sign::Arrow);
+            let body = statements(reader, room);
+            reader.put(&mut branches, TypeBranch { kinds, name, body });
+            if !reader.skip_sign(Sign::Bar) {
+                break;
+            }
+        }
     }
     let branches = reader.row(branches);
     let otherwise = otherwise(reader, room);

@@ -19,7 +19,7 @@ pub fn begins_declaration(word: Word) -> bool {
 
 /// The declarations that are here. `room` is that inside the block or unit to which they belong.
 #[cycle(statements)]
-pub fn declarations<'a>(reader: &mut Reader<'_, 'a>, room: u32) -> &'a [Decl<'a>]
+pub fn declaration_list<'a>(reader: &mut Reader<'_, 'a>, room: u32) -> &'a [Decl<'a>]
     ensures { Follows reader.old reader.new }
 {
     let mut declarations = Vec::new(reader.alloc());
@@ -72,8 +72,11 @@ fn constants<'a>(reader: &mut Reader<'_, 'a>, room: u32) -> &'a [ConstDecl<'a>]
         };
         reader.take_sign(Sign::Equal);
         let value = expression(reader, room);
-        reader.take_sign(Sign::Semicolon);
         reader.put(&mut constants, ConstDecl { name, kind, value });
+        if !reader.skip_sign(Sign::Semicolon) {
+            reader.unexpected();
+            break;
+        }
     }
     reader.row(constants)
 }
@@ -87,13 +90,16 @@ fn types<'a>(reader: &mut Reader<'_, 'a>, room: u32) -> &'a [TypeDecl<'a>]
         let name = reader.take_name();
         let is_opaque = takes_bound(reader);
         let kind = type_expression(reader, room);
-        reader.take_sign(Sign::Semicolon);
         let declaration = TypeDecl {
             name,
             is_opaque,
             kind,
         };
         reader.put(&mut types, declaration);
+        if !reader.skip_sign(Sign::Semicolon) {
+            reader.unexpected();
+            break;
+        }
     }
     reader.row(types)
 }
@@ -123,8 +129,11 @@ fn exceptions<'a>(reader: &mut Reader<'_, 'a>, room: u32) -> &'a [ExceptionDecl<
         } else {
             None
         };
-        reader.take_sign(Sign::Semicolon);
         reader.put(&mut exceptions, ExceptionDecl { name, argument });
+        if !reader.skip_sign(Sign::Semicolon) {
+            reader.unexpected();
+            break;
+        }
     }
     reader.row(exceptions)
 }
@@ -137,8 +146,11 @@ fn variables<'a>(reader: &mut Reader<'_, 'a>, room: u32) -> &'a [VarDecl<'a>]
     'variables: while reader.is_name() {
         let names = name_list(reader);
         let init = initial(reader, room);
-        reader.take_sign(Sign::Semicolon);
         reader.put(&mut variables, VarDecl { names, init });
+        if !reader.skip_sign(Sign::Semicolon) {
+            reader.unexpected();
+            break;
+        }
     }
     reader.row(variables)
 }
@@ -152,13 +164,16 @@ fn reveals<'a>(reader: &mut Reader<'_, 'a>, room: u32) -> &'a [Revelation<'a>]
         let name = qualid(reader);
         let is_partial = takes_bound(reader);
         let kind = type_expression(reader, room);
-        reader.take_sign(Sign::Semicolon);
         let revelation = Revelation {
             name,
             is_partial,
             kind,
         };
         reader.put(&mut reveals, revelation);
+        if !reader.skip_sign(Sign::Semicolon) {
+            reader.unexpected();
+            break;
+        }
     }
     reader.row(reveals)
 }

@@ -33,19 +33,22 @@ fn handlers<'a>(reader: &mut Reader<'_, 'a>, room: u32) -> &'a [Handler<'a>]
     ensures { Follows reader.old reader.new }
 {
     let mut handlers = Vec::new(reader.alloc());
-    let mut is_handler = reader.is_name() || reader.skip_sign(Sign::Bar);
-    'handlers: while is_handler {
-        let exceptions = qualid_list(reader);
-        let argument = parenthesized_name(reader);
-        reader.take_sign(Sign::Arrow);
-        let body = statements(reader, room);
-        let handler = Handler {
-            exceptions,
-            argument,
-            body,
-        };
-        reader.put(&mut handlers, handler);
-        is_handler = reader.skip_sign(Sign::Bar);
+    if reader.is_name() || reader.skip_sign(Sign::Bar) {
+        'handlers: loop {
+            let exceptions = qualid_list(reader);
+            let argument = parenthesized_name(reader);
+            reader.take_sign(Sign::Arrow);
+            let body = statements(reader, room);
+            let handler = Handler {
+                exceptions,
+                argument,
+                body,
+            };
+            reader.put(&mut handlers, handler);
+            if !reader.skip_sign(Sign::Bar) {
+                break;
+            }
+        }
     }
     reader.row(handlers)
 }

@@ -24,9 +24,7 @@ pub fn call_of<'a>(reader: &mut Reader<'_, 'a>, expr: &Expr<'a>) -> Option<Call<
             selectors,
         } => call_of_selected(pos, operand, selectors),
         Expr::Operations { pos, first, rest } => {
-            let [before @ .., last] = rest else {
-                return None;
-            };
+            let (last, before) = rest.split_last()?;
             let call = call_of(reader, last.right)?;
             let right = reader.expr(call.callee);
             let rest = with_last(reader, before, Operation { right, ..*last });
@@ -71,8 +69,12 @@ fn call_of_selected<'a>(
     operand: &'a Expr<'a>,
     selectors: &'a [Selector<'a>],
 ) -> Option<Call<'a>> {
-    let [before @ .., Selector::Call(parenthesis, actuals)] = selectors else {
+    let [before @ .., last] = selectors else {
         return None;
+    };
+    let (parenthesis, actuals) = match last {
+        Selector::Call(parenthesis, actuals) => (*parenthesis, *actuals),
+        _ => return None,
     };
     let callee = if before.is_empty() {
         *operand
@@ -85,7 +87,7 @@ fn call_of_selected<'a>(
     };
     Some(Call {
         callee,
-        parenthesis: *parenthesis,
+        parenthesis,
         actuals,
     })
 }
@@ -99,7 +101,7 @@ fn with_last<'a>(
     ensures { Follows reader.old reader.new }
 {
     let mut operations = Vec::new(reader.alloc());
-    for operation in before {
+    'operations: for operation in before {
         reader.put(&mut operations, *operation);
     }
     reader.put(&mut operations, last);

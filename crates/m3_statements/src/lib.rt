@@ -11,4 +11,4 @@ mod loops;
 mod statements;
 
 pub use blocks::block;
-pub use declarations::declarations;
+pub use declarations::declaration_list;

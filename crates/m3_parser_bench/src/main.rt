@@ -1,0 +1,67 @@
+//! Lexes and parses a text of a given number of MiB, in files of one MiB each, and prints how many tokens
+//! they have. An argument gives the number; without one it is 8.
+#![tactic(auto)]
+
+use bumpalo::Bump;
+use m3_base::Refused;
+use m3_lexer::lex;
+use m3_parser::parse;
+use std::alloc::{AllocError, Global};
+use std::rt::Env;
+use std::{env, io};
+
+/// The bytes of a file.
+const FILE: usize = 1_048_576;
+
+/// A procedure as programs have them.
+const PROCEDURE: &str = "PROCEDURE P(VAR a: ARRAY OF INTEGER; n: INTEGER): INTEGER =
+  VAR sum: INTEGER := 0; found := FALSE;
+  BEGIN
+    FOR i := 0 TO n - 1 DO
+      IF a[i] > 10 AND NOT found THEN sum := sum + a[i] * 2 ELSE INC(sum, Weight(a, i)) END
+    END;
+    WHILE sum > 1000 DO sum := sum DIV 2; found := sum IN Small END;
+    RETURN sum
+  END P;
+";
+
+/// A module of about one MiB.
+fn module(alloc: Global) -> Result<String, AllocError> {
+    let mut text = String::from_str(alloc, "MODULE M;\n")?;
+    for _ in 0..FILE / PROCEDURE.len() {
+        text.push_str(PROCEDURE)?;
+    }
+    text.push_str("BEGIN END M.\n")?;
+    Ok(text)
+}
+
+/// How many tokens a text has, where it is a unit, or the rule that it breaks.
+fn tokens_of(alloc: Global, arena: &Bump, file: u32, text: &[u8]) -> Result<u32, Refused> {
+    if text.len() >= 4_000_000_000 {
+        return Ok(0);
+    }
+    let lexed = lex(alloc, file, text)?;
+    let unit = parse(alloc, arena, &lexed)?;
+    Ok(unit.tokens)
+}
+
+fn run(rt: &(impl Print + Env + AllocGlobal)) -> io::Result<()> {
+    let mut files = 8u32;
+    for word in env::args(rt)?.skip(1) {
+        files = word.as_str().parse::<u32>().unwrap_or(files);
+    }
+    let text = module(rt.alloc())?;
+    let arena = Bump::new(rt.alloc());
+    let mut tokens = 0u64;
+    for file in 0..files {
+        match tokens_of(rt.alloc(), &arena, file, text.as_bytes()) {
+            Ok(count) => tokens = tokens.saturating_add(u64::from(count)),
+            Err(_) => println!(rt; "file {file} is refused")?,
+        }
+    }
+    println!(rt; "{files} files, {tokens} tokens")
+}
+
+fn main(rt: HostRuntime) -> io::Result<()> {
+    run(&rt)
+}

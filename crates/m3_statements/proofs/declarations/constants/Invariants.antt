@@ -1,0 +1,8 @@
+use Rattle.std.proofs.Common.{◌≤◌, length}
+use Rattle.m3_statements.proofs.declarations.constants.Given as goal
+
+abbrev pub invariant-constants : goal.invariant-constants
+invariant-constants l = length l.reader.rest.now ≤ length l.initial.reader.rest.now
+
+abbrev pub decreases-constants : goal.decreases-constants
+decreases-constants l = length l.reader.rest.now

@@ -1,0 +1,8 @@
+use Rattle.std.proofs.Common.{◌≤◌, length}
+use Rattle.m3_statements.proofs.declarations.variables.Given as goal
+
+abbrev pub invariant-variables : goal.invariant-variables
+invariant-variables l = length l.reader.rest.now ≤ length l.initial.reader.rest.now
+
+abbrev pub decreases-variables : goal.decreases-variables
+decreases-variables l = length l.reader.rest.now
