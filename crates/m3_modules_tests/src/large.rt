@@ -16,6 +16,7 @@ pub fn try_large(rt: &(impl Print + AllocGlobal)) -> io::Result<Tally> {
         cases: 0,
         differing: 0,
     };
+    try_tokens(rt, &mut tally)?;
     for (title, got) in &answers {
         tally.cases = tally.cases.saturating_add(1);
         if got.as_str() != "ok" {
@@ -81,6 +82,70 @@ fn long_chain(alloc: Global) -> Result<String, AllocError> {
     for text in &texts {
         sources.push(Source {
             name: b"a file",
+            text: text.as_bytes(),
+        })?;
+    }
+    answer_of_sources(alloc, sources.as_slice(), "ok")
+}
+
+/// A program whose files have so many operands each, 2 tokens an operand and 9 beside them, and what it
+/// is to give.
+const TOKENS: [(&[u32], &str); 6] = [
+    (&[200_000, 200_000, 200_000, 200_000, 199_900], "ok"),
+    (
+        &[200_000, 200_000, 200_000, 200_000, 200_000],
+        "File5:1:1: rule 18",
+    ),
+    (&[249_000, 249_000, 249_000, 249_000, 10], "ok"),
+    (
+        &[249_000, 249_000, 249_000, 249_000, 5_000],
+        "File5:1:1: rule 18",
+    ),
+    (
+        &[249_000, 249_000, 249_000, 249_000, 3_000, 3_000],
+        "File6:1:1: rule 18",
+    ),
+    (
+        &[10, 249_000, 249_000, 249_000, 249_000, 249_000],
+        "File6:1:1: rule 18",
+    ),
+];
+
+/// Tries programs about as long as a program may be in all.
+fn try_tokens(rt: &(impl Print + AllocGlobal), tally: &mut Tally) -> io::Result<()> {
+    for (files, wanted) in TOKENS {
+        let got = with_operands(rt.alloc(), files)?;
+        tally.cases = tally.cases.saturating_add(1);
+        if got.as_str() != wanted {
+            tally.differing = tally.differing.saturating_add(1);
+            println!(rt; "files of {files:?} operands: got {got}, wanted {wanted}")?;
+        }
+    }
+    Ok(())
+}
+
+/// `INTERFACE In; CONST c = 1 + 1 + .. ; END In.` for each file, and a main module behind them.
+fn with_operands(alloc: Global, files: &[u32]) -> Result<String, AllocError> {
+    let mut names = Vec::new(alloc);
+    let mut texts = Vec::new(alloc);
+    let mut number = 0u32;
+    for operands in files {
+        number = number.saturating_add(1);
+        names.push(format!(in alloc; "File{number}")?)?;
+        let mut text = format!(in alloc; "INTERFACE I{number};CONST c=1")?;
+        for _ in 1..*operands {
+            text.push_str("+1")?;
+        }
+        let end = format!(in alloc; ";END I{number}.")?;
+        text.push_str(end.as_str())?;
+        texts.push(text)?;
+    }
+    names.push(String::from_str(alloc, "Main.m3")?)?;
+    texts.push(String::from_str(alloc, "MODULE Main;BEGIN END Main.")?)?;
+    let mut sources = Vec::new(alloc);
+    for (name, text) in names.iter().zip(&texts) {
+        sources.push(Source {
+            name: name.as_bytes(),
             text: text.as_bytes(),
         })?;
     }

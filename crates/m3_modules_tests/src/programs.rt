@@ -1,5 +1,5 @@
 use bumpalo::Bump;
-use m3_base::{Refused, Source};
+use m3_base::{Pos, Refused, Source};
 use m3_checker::read_program;
 use m3_scopes::Program;
 use std::alloc::{AllocError, Global};
@@ -54,7 +54,10 @@ pub fn answer_of_sources(
         checked.push(*source)?;
     }
     match read_program(alloc, &arena, checked.as_slice()) {
-        Ok(program) => told(alloc, &program, wanted),
+        Ok(program) => match place_of(sources, wanted) {
+            Some(place) => declaration(alloc, sources, &program, wanted, place),
+            None => told(alloc, &program, wanted),
+        },
         Err(Refused::NoMemory) => String::from_str(alloc, "out of memory"),
         Err(Refused::Rule(refusal)) => {
             let line = refusal.pos.line;
@@ -74,6 +77,53 @@ pub fn answer_of_sources(
             Ok(answer)
         }
     }
+}
+
+/// The place behind `at`, as `FILE:LINE:COLUMN`, where a case asks for the declaration of a name.
+fn place_of(sources: &[Source<'_>], wanted: &str) -> Option<Pos> {
+    let (place, _) = wanted.strip_prefix("at ")?.split_once(" ")?;
+    let (name, rest) = place.split_once(":")?;
+    let (line, col) = rest.split_once(":")?;
+    let name = name.as_bytes();
+    let file = sources.iter().position(|source| source.name == name)?;
+    Some(Pos {
+        file: u32::try_from(file).ok()?,
+        line: line.parse::<u32>().ok()?,
+        col: col.parse::<u32>().ok()?,
+    })
+}
+
+/// The question with the place of the declaration behind it, or `none`.
+fn declaration(
+    alloc: Global,
+    sources: &[Source<'_>],
+    program: &Program<'_>,
+    wanted: &str,
+    place: Pos,
+) -> Result<String, AllocError> {
+    let mut answer = String::from_str(alloc, "at ")?;
+    if let Some((asked, _)) = wanted
+        .strip_prefix("at ")
+        .and_then(|rest| rest.split_once(" "))
+    {
+        answer.push_str(asked)?;
+    }
+    match program.binds.declaration(place, place.file) {
+        Some((unit, pos)) => {
+            answer.push(' ')?;
+            if let Some(source) = sources.get(unit as usize) {
+                for byte in source.name {
+                    answer.push(char::from(*byte))?;
+                }
+            }
+            let line = pos.line;
+            let col = pos.col;
+            let found = format!(in alloc; ":{line}:{col}")?;
+            answer.push_str(found.as_str())?;
+        }
+        None => answer.push_str(" none")?,
+    }
+    Ok(answer)
 }
 
 /// What a case wants to know of a program that is accepted.
