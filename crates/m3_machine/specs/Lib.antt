@@ -7,6 +7,7 @@ pub mod Texts
 pub mod Making
 pub mod Acts
 pub mod Steps
+pub mod Plain
 pub mod Points
 pub mod Runs
 pub mod OutsideLaws

@@ -1,11 +1,11 @@
 -- One instruction of the thread that runs, whatever it is.
-use Rattle.std.specs.Prelude.{ℕ, ◌≡◌, ◌%◌, List, [], ◌∷◌, Option}
+use Rattle.std.specs.Prelude.{ℕ, ◌≡◌, ◌%◌, false, List, [], ◌∷◌, Option}
 use Rattle.std.specs.Int.{cast_unsigned, w32}
 use Rattle.std.specs.Fmt.{signed_decimal}
 use Rattle.m3_base.specs.declared.outcomes.Outcome.TheVariants.{Done, Trap}
 use Rattle.m3_isa.specs.Memory.{Memory}
 use Rattle.m3_isa.specs.Effects as isa
-use Rattle.m3_isa.specs.Effects.{Effect, reg, signed, effect}
+use Rattle.m3_isa.specs.Effects.{Effect, reg, signed, effect, may_write}
 use Rattle.m3_isa.specs.declared.instructions.Op.{Op}
 use Rattle.m3_isa.specs.declared.instructions.Op.TheVariants as op
 use Rattle.m3_isa.specs.declared.instructions.Instr.{Instr}
@@ -16,15 +16,20 @@ use Rattle.m3_threads.specs.Actions.{After, acquires, releases, waits, wakes, Sl
 use Rattle.m3_image.specs.Parts.{Program}
 use Rattle.m3_image.specs.Programs.{containing}
 use Rattle.m3_machine.specs.State.{State, outside, settable, memory_of, can_set, Becomes, HasOtherWords, with_regs, with_all, executed}
-use Rattle.m3_machine.specs.Progress.{Progress, Goes, Rests, Ends, traps, ends, goes_on}
+use Rattle.m3_machine.specs.Progress.{Progress, Goes, Rests, Ends, ends, goes_on}
 use Rattle.m3_machine.specs.Calls.{calls, calls_behind, calls_method, returns}
 use Rattle.m3_machine.specs.Acts.{Tests_type, tells_method, faults_at, is_uncaught, puts, puts_text, gets, tells_end, tells_self, Makes_fixed, Makes_open, Cats, Makes_char, Subs, Forks_thread}
 
 -- ---- plain instructions, by the instruction table
 
-pub data Plainly (p : Program) (t : Thread) (s : State) : Effect → Progress → Type 0 where
-  goes : (regs : _) (memory : Memory) (u : State) → Becomes p (with_regs (executed s) t.number regs) memory u → Plainly p t s (isa.Goes regs memory) (Goes u)
-  trap : (n : ℕ) → Plainly p t s (isa.Traps n) (traps n s)
+-- an instruction that traps may have put words at addresses that it may write
+pub record Breaks_off (p : Program) (t : Thread) (i : Instr) (s u : State) : Type 0 where
+  pub others : HasOtherWords (executed s) u
+  pub words : (at : ℕ) → may_write i t.regs at ≡ false → memory_of p u at ≡ memory_of p s at
+
+pub data Plainly (p : Program) (t : Thread) (i : Instr) (s : State) : Effect → Progress → Type 0 where
+  goes : (regs : _) (memory : Memory) (u : State) → Becomes p (with_regs (executed s) t.number regs) memory u → Plainly p t i s (isa.Goes regs memory) (Goes u)
+  trap : (n : ℕ) (u : State) → Breaks_off p t i s u → Plainly p t i s (isa.Traps n) (Ends u (Trap n))
 
 -- ---- threads, mutexes, conditions and alerts: what m3_threads says, over the memory outside the stacks
 
@@ -92,7 +97,7 @@ Acts collects p input t i s progress op.Await = By_threads p s (alert_waits t i 
 Acts collects p input t i s progress op.Ajoin = By_threads p s (alert_joins t i s.all (outside p s) (settable s)) progress
 Acts collects p input t i s progress op.Getc = progress ≡ gets input t i s
 Acts collects p input t i s progress op.Eof = progress ≡ tells_end input t i s
-Acts collects p input t i s progress _ = Plainly p t s (effect i t.regs (memory_of p s) (can_set s)) progress
+Acts collects p input t i s progress _ = Plainly p t i s (effect i t.regs (memory_of p s) (can_set s)) progress
 
 -- one instruction of a thread that stands at it
 abbrev pub Does : (State → Option State → Type 0) → Program → List ℕ → Thread → Instr → State → Progress → Type 0

@@ -4,6 +4,8 @@
 
 mod memory;
 mod outside;
+mod plain;
 
 pub use memory::Memory;
 pub use outside::Outside;
+pub use plain::{Halt, run_plain};
