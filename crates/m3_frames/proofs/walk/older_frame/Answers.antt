@@ -1,4 +1,4 @@
-use Rattle.std.proofs.Common.{◌≡◌, ◌+◌, ◌-◌, ◌<◌, ◌≤◌, length, get_or, true, arith}
+use Rattle.std.proofs.Common.{◌≡◌, ◌+◌, ◌-◌, ◌<◌, length, get_or, true, arith}
 use Rattle.std.proofs.lemmas.Option.{slice_get-get_or}
 use Rattle.m3_image.specs.Views.{image_view}
 use Rattle.m3_frames.specs.Frames.{is_call_at}

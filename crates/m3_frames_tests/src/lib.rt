@@ -1,0 +1,5 @@
+//! The tests of frames.
+#![tactic(auto)]
+
+#[cfg(test)]
+mod tests;
