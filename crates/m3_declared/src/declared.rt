@@ -41,6 +41,7 @@ pub struct Declared<'a> {
     constants_at: IndexMap<(u32, Pos), Constant>,
     texts_at: IndexMap<(u32, Pos), u32>,
     procedures: IndexMap<EntityId, u32>,
+    exceptions: IndexMap<EntityId, u32>,
 }
 
 impl<'a> Declared<'a> {
@@ -58,6 +59,7 @@ impl<'a> Declared<'a> {
             constants_at: IndexMap::new(alloc),
             texts_at: IndexMap::new(alloc),
             procedures: IndexMap::new(alloc),
+            exceptions: IndexMap::new(alloc),
         }
     }
 
@@ -134,6 +136,16 @@ impl<'a> Declared<'a> {
 
     pub fn number_procedure(&mut self, entity: EntityId, number: u32) -> Result<(), NoMemory> {
         self.procedures.insert(entity, number)?;
+        Ok(())
+    }
+
+    /// The place of an exception in the program's list.
+    pub fn exception_number(&self, entity: EntityId) -> Option<u32> {
+        self.exceptions.get(&entity).copied()
+    }
+
+    pub fn number_exception(&mut self, entity: EntityId, number: u32) -> Result<(), NoMemory> {
+        self.exceptions.insert(entity, number)?;
         Ok(())
     }
 }
