@@ -327,9 +327,26 @@ fn show_exported<'a>(
     Ok(())
 }
 
+/// The built-in interface Main, by its place in the units.
+fn main_interface(linker: &Linker<'_>) -> Option<u32> {
+    for (place, unit) in linker.units.iter().enumerate() {
+        if is_built_in(linker, place) && unit.name.text == b"Main".as_slice() {
+            return u32::try_from(place).ok();
+        }
+    }
+    None
+}
+
+fn is_built_in(linker: &Linker<'_>, place: usize) -> bool {
+    match linker.infos.get(place) {
+        Some(info) => info.is_built_in,
+        None => false,
+    }
+}
+
 /// The module that exports Main: refuses a second one (rule 27), and a program without one (rule 26).
 pub fn main_module(linker: &mut Linker<'_>) -> Option<u32> {
-    let main = linker.interfaces.get(&b"Main".as_slice()).copied()?;
+    let main = main_interface(linker)?;
     let mut found = None;
     for place in 0..linker.units.len() {
         if exports_unit(linker, place, main) {

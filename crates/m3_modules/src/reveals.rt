@@ -122,7 +122,10 @@ fn reveal_fully(linker: &mut Linker<'_>, opaque: EntityId, place: usize, pos: Po
         linker.note(pos, 31);
         return;
     }
-    if let (Some(entity), Ok(place)) = (linker.binds.entity_mut(opaque), u32::try_from(place)) {
+    let Ok(place) = u32::try_from(place) else {
+        return;
+    };
+    if let Some(entity) = linker.binds.entity_mut(opaque) {
         entity.revealed = Some(place);
     }
 }
