@@ -36,7 +36,12 @@ fn module(alloc: Global) -> Result<String, AllocError> {
 }
 
 /// How many tokens a text has, where it is a unit, or the rule that it breaks.
-fn tokens_of(alloc: Global, arena: &Bump, file: u32, text: &[u8]) -> Result<u32, Refused> {
+fn tokens_of<'a>(
+    alloc: Global,
+    arena: &'a Bump,
+    file: u32,
+    text: &'a [u8],
+) -> Result<u32, Refused> {
     if text.len() >= 4_000_000_000 {
         return Ok(0);
     }
@@ -51,10 +56,13 @@ fn run(rt: &(impl Print + Env + AllocGlobal)) -> io::Result<()> {
         files = word.as_str().parse::<u32>().unwrap_or(files);
     }
     let text = module(rt.alloc())?;
-    let arena = Bump::new(rt.alloc());
+    // The text stands in the arena of the trees that borrow it.
+    let owner = Bump::new(rt.alloc());
+    let arena = &owner;
+    let text = &*arena.try_alloc_slice_copy(text.as_bytes())?;
     let mut tokens = 0u64;
     for file in 0..files {
-        match tokens_of(rt.alloc(), &arena, file, text.as_bytes()) {
+        match tokens_of(rt.alloc(), arena, file, text) {
             Ok(count) => tokens = tokens.saturating_add(u64::from(count)),
             Err(_) => println!(rt; "file {file} is refused")?,
         }

@@ -13,12 +13,15 @@ pub fn answer_to(alloc: Global, text: &[u8], has_places: bool) -> io::Result<Vec
     if text.len() >= 4_000_000_000 {
         return Ok(Vec::from_slice(alloc, b"too long")?);
     }
+    // Tokens and trees borrow the same arena, so the text stands in it too.
+    let owner = Bump::new(alloc);
+    let arena = &owner;
+    let text = &*arena.try_alloc_slice_copy(text)?;
     let lexed = match lex(alloc, FILE, text) {
         Ok(lexed) => lexed,
         Err(refused) => return text_of_refused(alloc, refused, 1),
     };
-    let arena = Bump::new(alloc);
-    match parse(alloc, &arena, &lexed) {
+    match parse(alloc, arena, &lexed) {
         Ok(unit) => text_of_unit(alloc, &unit, lexed.tokens.len(), has_places),
         Err(refused) => text_of_refused(alloc, refused, 2),
     }
