@@ -1,0 +1,139 @@
+use indexmap::IndexMap;
+use m3_base::{NoMemory, Pos};
+use m3_core::{Value, ValueId};
+use m3_scopes::EntityId;
+use m3_types::{TypeGraph, TypeId};
+use std::alloc::Global;
+
+/// The types that every program has.
+#[derive(Clone, Copy, Debug)]
+pub struct Basic {
+    pub integer: TypeId,
+    pub boolean: TypeId,
+    pub character: TypeId,
+    pub cardinal: TypeId,
+    pub text: TypeId,
+    pub null: TypeId,
+    pub refany: TypeId,
+    pub root: TypeId,
+    pub mutex: TypeId,
+}
+
+/// A constant: its type and its value.
+#[derive(Clone, Copy, Debug)]
+pub struct Constant {
+    pub kind: TypeId,
+    pub value: ValueId,
+}
+
+/// What declarations declare. What was refused stands for nothing.
+#[derive(Drop)]
+pub struct Declared<'a> {
+    pub types: TypeGraph<'a>,
+    pub basic: Basic,
+    pub values: Vec<Value<'a>>,
+    /// The bytes of each text literal and constant text: each is one cell.
+    pub texts: Vec<&'a [u8]>,
+    named: IndexMap<EntityId, TypeId>,
+    kinds: IndexMap<EntityId, TypeId>,
+    constants: IndexMap<EntityId, Constant>,
+    types_at: IndexMap<(u32, Pos), TypeId>,
+    constants_at: IndexMap<(u32, Pos), Constant>,
+    texts_at: IndexMap<(u32, Pos), u32>,
+    procedures: IndexMap<EntityId, u32>,
+}
+
+impl<'a> Declared<'a> {
+    /// Nothing declared yet.
+    pub fn new(alloc: Global, types: TypeGraph<'a>, basic: Basic) -> Declared<'a> {
+        Declared {
+            types,
+            basic,
+            values: Vec::new(alloc),
+            texts: Vec::new(alloc),
+            named: IndexMap::new(alloc),
+            kinds: IndexMap::new(alloc),
+            constants: IndexMap::new(alloc),
+            types_at: IndexMap::new(alloc),
+            constants_at: IndexMap::new(alloc),
+            texts_at: IndexMap::new(alloc),
+            procedures: IndexMap::new(alloc),
+        }
+    }
+
+    /// The type that a type's name stands for.
+    pub fn type_named(&self, entity: EntityId) -> Option<TypeId> {
+        self.named.get(&entity).copied()
+    }
+
+    pub fn name_type(&mut self, entity: EntityId, kind: TypeId) -> Result<(), NoMemory> {
+        self.named.insert(entity, kind)?;
+        Ok(())
+    }
+
+    /// The type of a variable or a formal, the procedure type of a procedure, and the type of an
+    /// exception's argument.
+    pub fn kind_of(&self, entity: EntityId) -> Option<TypeId> {
+        self.kinds.get(&entity).copied()
+    }
+
+    pub fn give_kind(&mut self, entity: EntityId, kind: TypeId) -> Result<(), NoMemory> {
+        self.kinds.insert(entity, kind)?;
+        Ok(())
+    }
+
+    /// The constant that a name stands for.
+    pub fn constant(&self, entity: EntityId) -> Option<Constant> {
+        self.constants.get(&entity).copied()
+    }
+
+    pub fn give_constant(&mut self, entity: EntityId, constant: Constant) -> Result<(), NoMemory> {
+        self.constants.insert(entity, constant)?;
+        Ok(())
+    }
+
+    /// The type of the type expression whose first token stands at a place of a unit's text.
+    pub fn type_at(&self, unit: u32, at: Pos) -> Option<TypeId> {
+        self.types_at.get(&(unit, at)).copied()
+    }
+
+    pub fn place_type(&mut self, unit: u32, at: Pos, kind: TypeId) -> Result<(), NoMemory> {
+        self.types_at.insert((unit, at), kind)?;
+        Ok(())
+    }
+
+    /// The value of the constant expression whose first token stands at a place of a unit's text.
+    pub fn constant_at(&self, unit: u32, at: Pos) -> Option<Constant> {
+        self.constants_at.get(&(unit, at)).copied()
+    }
+
+    pub fn place_constant(
+        &mut self,
+        unit: u32,
+        at: Pos,
+        constant: Constant,
+    ) -> Result<(), NoMemory> {
+        self.constants_at.insert((unit, at), constant)?;
+        Ok(())
+    }
+
+    /// The cell of the text literal at a place of a unit's text.
+    pub fn text_at(&self, unit: u32, at: Pos) -> Option<u32> {
+        self.texts_at.get(&(unit, at)).copied()
+    }
+
+    pub fn place_text(&mut self, unit: u32, at: Pos, cell: u32) -> Result<(), NoMemory> {
+        self.texts_at.insert((unit, at), cell)?;
+        Ok(())
+    }
+
+    /// The number of a procedure that has a body; of a head in an interface that of its body.
+    pub fn procedure_number(&self, entity: EntityId) -> Option<u32> {
+        self.procedures.get(&entity).copied()
+    }
+
+    pub fn number_procedure(&mut self, entity: EntityId, number: u32) -> Result<(), NoMemory> {
+        self.procedures.insert(entity, number)?;
+        Ok(())
+    }
+}
