@@ -1,5 +1,0 @@
-//! The tests of the layouts.
-#![tactic(auto)]
-
-#[cfg(test)]
-mod tests;
