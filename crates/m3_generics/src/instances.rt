@@ -63,24 +63,24 @@ struct Expansion<'u, 'a> {
     passed: Option<Pos>,
 }
 
+/// What the head of an instance names.
+#[derive(Clone, Copy)]
+struct Head<'a> {
+    generic: Name<'a>,
+    actuals: &'a [Name<'a>],
+    /// The place of the generic unit in the list of units.
+    found: Option<usize>,
+}
+
 impl<'a> Expansion<'_, 'a> {
     /// Adds the next unit as the program has it; nothing for a generic unit.
     fn unit(&mut self, arena: &'a Bump, unit: &Unit<'a>) -> Result<(), NoMemory> {
         match unit.kind {
             UnitKind::GenericInterface { .. } | UnitKind::GenericModule { .. } => {}
-            UnitKind::InterfaceInstance { generic, actuals } => {
-                let found = self.tables.generic_interface(generic.text);
-                self.instance(arena, unit, generic, actuals, found)?;
-            }
-            UnitKind::ModuleInstance {
-                exports: _,
-                generic,
-                actuals,
-            } => {
-                let found = self.tables.generic_module(generic.text);
-                self.instance(arena, unit, generic, actuals, found)?;
-            }
             UnitKind::Interface { .. } | UnitKind::Module { .. } => self.expanded.push(*unit)?,
+            UnitKind::InterfaceInstance { .. } | UnitKind::ModuleInstance { .. } => {
+                self.instance(arena, unit)?;
+            }
         }
         self.count(unit.pos, unit.tokens);
         Ok(())
@@ -94,28 +94,66 @@ impl<'a> Expansion<'_, 'a> {
         }
     }
 
-    /// Adds the unit of an instance, unless its generic is unknown.
-    fn instance(
+    /// Judges the head of an instance, and adds the unit unless its generic is unknown.
+    fn instance(&mut self, arena: &'a Bump, unit: &Unit<'a>) -> Result<(), NoMemory> {
+        let Some(head) = self.head(unit.kind) else {
+            return Ok(());
+        };
+        self.judge_actuals(unit.pos.file, head.actuals);
+        match self.text(head.found) {
+            None => {
+                self.note(unit.pos.file, head.generic.pos, 15);
+                Ok(())
+            }
+            Some(text) => self.write_out(arena, unit, &head, &text),
+        }
+    }
+
+    /// The head of an instance; none of any other unit.
+    fn head(&self, kind: UnitKind<'a>) -> Option<Head<'a>> {
+        match kind {
+            UnitKind::InterfaceInstance { generic, actuals } => Some(Head {
+                generic,
+                actuals,
+                found: self.tables.generic_interface(generic.text),
+            }),
+            UnitKind::ModuleInstance {
+                generic, actuals, ..
+            } => Some(Head {
+                generic,
+                actuals,
+                found: self.tables.generic_module(generic.text),
+            }),
+            _ => None,
+        }
+    }
+
+    /// The unit at a place that was found.
+    fn text(&self, found: Option<usize>) -> Option<Unit<'a>> {
+        match found {
+            Some(place) => self.units.get(place).copied(),
+            None => None,
+        }
+    }
+
+    /// Adds the unit of an instance of this text.
+    fn write_out(
         &mut self,
         arena: &'a Bump,
         unit: &Unit<'a>,
-        generic: Name<'a>,
-        actuals: &'a [Name<'a>],
-        found: Option<usize>,
+        head: &Head<'a>,
+        text: &Unit<'a>,
     ) -> Result<(), NoMemory> {
-        self.judge_actuals(unit.pos.file, actuals);
-        let Some(text) = found.and_then(|place| self.units.get(place)) else {
-            self.note(unit.pos.file, generic.pos, 15);
-            return Ok(());
-        };
         let formals = formals_of(text.kind);
-        if formals.len() != actuals.len() {
-            self.note(unit.pos.file, generic.pos, 16);
+        if formals.len() != head.actuals.len() {
+            self.note(unit.pos.file, head.generic.pos, 16);
         }
         self.count(unit.pos, text.tokens);
-        let imports = imports_of(arena, actuals, formals, text.imports())?;
-        let kind = written_out(unit.kind, text.kind, imports);
-        self.expanded.push(Unit { kind, ..*unit })?;
+        let imports = imports_of(arena, head.actuals, formals, text.imports())?;
+        self.expanded.push(Unit {
+            kind: written_out(unit.kind, text.kind, imports),
+            ..*unit
+        })?;
         Ok(())
     }
 

@@ -1,5 +1,5 @@
 use crate::{bodies, cycles, order, outermost, reveals};
-use m3_base::Refused;
+use m3_base::{NoMemory, Refused};
 use m3_scopes::{Linker, Program};
 use m3_syntax::Unit;
 use std::alloc::Global;
@@ -14,22 +14,8 @@ pub fn link<'a>(
     given: &[Unit<'a>],
     built_in: &[Unit<'a>],
 ) -> Result<Program<'a>, Refused> {
-    let given_units = units.len();
     let mut linker = Linker::new(alloc, units);
-    outermost::judge_units(&mut linker, alloc, given)?;
-    for unit in built_in {
-        linker.units.push(*unit)?;
-    }
-    outermost::add_infos(&mut linker, alloc, given_units)?;
-    linker.declare_predeclared()?;
-    outermost::declare_units(&mut linker)?;
-    outermost::walk_units(&mut linker)?;
-    cycles::judge_imports(&mut linker, alloc)?;
-    let main = outermost::main_module(&mut linker);
-    reveals::judge_reveals(&mut linker);
-    bodies::judge_bodies(&mut linker);
-    linker.least.check()?;
-    let order = order::body_order(alloc, linker.infos.as_slice(), main)?;
+    let order = linked(&mut linker, alloc, given, built_in)?;
     Ok(Program {
         units: linker.units,
         infos: linker.infos,
@@ -37,4 +23,43 @@ pub fn link<'a>(
         binds: linker.binds,
         reveals: linker.reveals,
     })
+}
+
+/// Finds out and judges all that linking does, and gives the order of the modules' bodies.
+fn linked<'a>(
+    linker: &mut Linker<'a>,
+    alloc: Global,
+    given: &[Unit<'a>],
+    built_in: &[Unit<'a>],
+) -> Result<Vec<u32>, Refused> {
+    add_units(linker, alloc, given, built_in)?;
+    read_units(linker)?;
+    cycles::judge_imports(linker, alloc)?;
+    let main = outermost::main_module(linker);
+    reveals::judge_reveals(linker);
+    bodies::judge_bodies(linker);
+    linker.least.check()?;
+    Ok(order::body_order(alloc, linker.infos.as_slice(), main)?)
+}
+
+/// Judges the names of the units, and adds the built-in ones with what each is.
+fn add_units<'a>(
+    linker: &mut Linker<'a>,
+    alloc: Global,
+    given: &[Unit<'a>],
+    built_in: &[Unit<'a>],
+) -> Result<(), NoMemory> {
+    let given_units = linker.units.len();
+    outermost::judge_units(linker, alloc, given)?;
+    for unit in built_in {
+        linker.units.push(*unit)?;
+    }
+    outermost::add_infos(linker, alloc, given_units)
+}
+
+/// Makes the entities of all units, and finds what each name stands for.
+fn read_units(linker: &mut Linker<'_>) -> Result<(), NoMemory> {
+    linker.declare_predeclared()?;
+    outermost::declare_units(linker)?;
+    outermost::walk_units(linker)
 }

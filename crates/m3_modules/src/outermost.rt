@@ -346,30 +346,48 @@ fn is_built_in(linker: &Linker<'_>, place: usize) -> bool {
 
 /// The module that exports Main: refuses a second one (rule 27), and a program without one (rule 26).
 pub fn main_module(linker: &mut Linker<'_>) -> Option<u32> {
-    let main = main_interface(linker)?;
+    match main_interface(linker) {
+        Some(main) => exporter(linker, main),
+        None => None,
+    }
+}
+
+/// The first module that exports Main.
+fn exporter(linker: &mut Linker<'_>, main: u32) -> Option<u32> {
     let mut found = None;
     for place in 0..linker.units.len() {
         if exports_unit(linker, place, main) {
-            if found.is_some() {
-                note_second_main(linker, place);
-            } else {
-                found = u32::try_from(place).ok();
-            }
+            found = first_main(linker, found, place);
         }
     }
     if found.is_none() {
-        linker.least.note(Refusal {
-            phase: 4,
-            unit: 0,
-            pos: Pos {
-                file: 0,
-                line: 1,
-                col: 1,
-            },
-            rule: 26,
-        });
+        note_no_main(linker);
     }
     found
+}
+
+/// The module that exports Main, where one more does.
+fn first_main(linker: &mut Linker<'_>, found: Option<u32>, place: usize) -> Option<u32> {
+    match found {
+        Some(_) => {
+            note_second_main(linker, place);
+            found
+        }
+        None => u32::try_from(place).ok(),
+    }
+}
+
+fn note_no_main(linker: &mut Linker<'_>) {
+    linker.least.note(Refusal {
+        phase: 4,
+        unit: 0,
+        pos: Pos {
+            file: 0,
+            line: 1,
+            col: 1,
+        },
+        rule: 26,
+    });
 }
 
 fn exports_unit(linker: &Linker<'_>, place: usize, interface: u32) -> bool {
