@@ -1,276 +1,243 @@
-use crate::checker::Checker;
-use crate::things::{Thing, Valued};
+use bumpalo::Bump;
 use bumpalo::collections::into_bump_slice;
 use m3_base::{NoMemory, Pos};
-use m3_core::{Compared, CoreExpr, Operation, Operator, Prefix, PrefixOperator, Relation};
-use m3_syntax::{Expr, PrefixSign};
+use m3_core::{Compared, CoreExpr, Operation, Operator, Relation};
+use m3_operands::{Checker, Thing, Valued};
 use m3_types::{TypeId, TypeNode};
 
-impl<'a> Checker<'_, 'a> {
-    /// NOT, once or more.
-    #[cycle(expressions)]
-    pub fn nots(
-        &mut self,
+/// A row of operands in the making: the first, the operators with their right operands, and the type of
+/// what they give so far, which is none where something was refused.
+#[derive(Drop)]
+pub struct Row<'a> {
+    first: Option<Valued<'a>>,
+    rest: Vec<Operation<'a>, &'a Bump>,
+    kind: Option<TypeId>,
+}
+
+impl<'a> Row<'a> {
+    pub fn new(
+        checker: &mut Checker<'_, 'a>,
         pos: Pos,
-        words: &[Pos],
-        operand: &Expr<'a>,
-    ) -> Result<Thing<'a>, NoMemory> {
-        let Some(value) = self.expression(operand)? else {
-            return Ok(Thing::Bad);
-        };
-        let innermost = words.last().copied().unwrap_or(pos);
-        if !self.is_boolean(value.kind) {
-            return Ok(self.bad(innermost, 50));
-        }
-        let mut operators = Vec::new(self.arena);
-        for word in words {
-            operators.push(Prefix {
-                operator: PrefixOperator::Not,
-                pos: *word,
-            })?;
-        }
-        let kind = self.declared.basic.boolean;
-        self.prefixed(pos, kind, into_bump_slice(operators), value)
+        thing: &Thing<'a>,
+    ) -> Result<Row<'a>, NoMemory> {
+        let first = checker.value_of(pos, thing)?;
+        Ok(Row {
+            first,
+            rest: Vec::new(checker.arena),
+            kind: match first {
+                Some(value) => Some(value.kind),
+                None => None,
+            },
+        })
     }
 
-    /// Signs, once or more; a plus leaves nothing behind.
-    #[cycle(expressions)]
-    pub fn signed(
+    /// Adds an operator with its right operand, whose first token stands at `right_pos` (rule 50).
+    pub fn add(
         &mut self,
+        checker: &mut Checker<'_, 'a>,
+        operator: m3_syntax::Operator,
         pos: Pos,
-        signs: &[PrefixSign],
-        operand: &Expr<'a>,
-    ) -> Result<Thing<'a>, NoMemory> {
-        let Some(value) = self.expression(operand)? else {
-            return Ok(Thing::Bad);
+        right_pos: Pos,
+        thing: &Thing<'a>,
+    ) -> Result<(), NoMemory> {
+        let right = checker.value_of(right_pos, thing)?;
+        let (Some(left), Some(right)) = (self.kind, right) else {
+            self.kind = None;
+            return Ok(());
         };
-        if !self.is_integer(value.kind) {
-            let innermost = match signs.last() {
-                Some(sign) => sign.pos,
-                None => pos,
-            };
-            return Ok(self.bad(innermost, 50));
-        }
-        let mut operators = Vec::new(self.arena);
-        for sign in signs {
-            if sign.is_minus {
-                operators.push(Prefix {
-                    operator: PrefixOperator::Minus,
-                    pos: sign.pos,
+        match operation(checker, operator, left, right.kind)? {
+            Some((operator, kind)) => {
+                self.kind = Some(kind);
+                self.rest.push(Operation {
+                    operator,
+                    pos,
+                    right: right.expr,
+                    kind,
                 })?;
             }
+            None => {
+                self.kind = None;
+                checker.note(pos, 50);
+            }
         }
-        let kind = self.declared.basic.integer;
-        self.prefixed(pos, kind, into_bump_slice(operators), value)
+        Ok(())
     }
 
-    /// A value with operators before it, if there are any.
-    pub fn prefixed(
-        &mut self,
-        pos: Pos,
-        kind: TypeId,
-        operators: &'a [Prefix],
-        value: Valued<'a>,
-    ) -> Result<Thing<'a>, NoMemory> {
-        let expr = if operators.is_empty() {
-            value.expr
-        } else {
-            CoreExpr::Prefixed {
-                pos,
-                kind,
-                operators,
-                operand: self.keep(value.expr)?,
-            }
+    /// The whole, whose first token stands at a place.
+    pub fn finish(self, checker: &Checker<'_, 'a>, pos: Pos) -> Result<Thing<'a>, NoMemory> {
+        let (Some(first), Some(kind)) = (self.first, self.kind) else {
+            return Ok(Thing::Bad);
         };
-        Ok(Thing::Value(Valued {
-            expr,
-            kind,
-            may_be_inner: false,
-        }))
-    }
-
-    /// Operands with operators of one level, which group to the left.
-    #[cycle(expressions)]
-    pub fn operations(
-        &mut self,
-        pos: Pos,
-        first: &Expr<'a>,
-        rest: &[m3_syntax::Operation<'a>],
-    ) -> Result<Thing<'a>, NoMemory> {
-        let first = self.expression(first)?;
-        let mut kind = first.map(|value| value.kind);
-        let mut operations = Vec::new(self.arena);
-        for operation in rest {
-            let right = self.expression(operation.right)?;
-            kind = match (kind, right) {
-                (Some(left), Some(right)) => {
-                    match self.operator(operation.operator, left, right.kind)? {
-                        Some((operator, kind)) => {
-                            operations.push(Operation {
-                                operator,
-                                pos: operation.pos,
-                                right: self.keep(right.expr)?,
-                                kind,
-                            })?;
-                            Some(kind)
-                        }
-                        None => {
-                            self.note(operation.pos, 50);
-                            None
-                        }
-                    }
-                }
-                _ => None,
-            };
-        }
-        match (first, kind) {
-            (Some(first), Some(kind)) => Ok(Thing::Value(Valued {
-                expr: CoreExpr::Operations {
-                    pos,
-                    first: self.keep(first.expr)?,
-                    rest: into_bump_slice(operations),
-                },
-                kind,
-                may_be_inner: false,
-            })),
-            _ => Ok(Thing::Bad),
-        }
-    }
-
-    /// What an operator does with operands of these types, and the type of what it gives; none where
-    /// they don't fit.
-    fn operator(
-        &self,
-        operator: m3_syntax::Operator,
-        left: TypeId,
-        right: TypeId,
-    ) -> Result<Option<(Operator, TypeId)>, NoMemory> {
-        let boolean = self.declared.basic.boolean;
-        let found = match operator {
-            m3_syntax::Operator::Or if self.are_boolean(left, right) => Operator::Or,
-            m3_syntax::Operator::And if self.are_boolean(left, right) => Operator::And,
-            m3_syntax::Operator::In if self.may_be_in(left, right)? => Operator::In,
-            m3_syntax::Operator::Or | m3_syntax::Operator::And | m3_syntax::Operator::In => {
-                return Ok(None);
-            }
-            m3_syntax::Operator::Equal => return self.equality(Relation::Equal, left, right),
-            m3_syntax::Operator::NotEqual => return self.equality(Relation::NotEqual, left, right),
-            m3_syntax::Operator::Less => return self.order(Relation::Less, left, right),
-            m3_syntax::Operator::LessEqual => return self.order(Relation::LessEqual, left, right),
-            m3_syntax::Operator::Greater => return self.order(Relation::Greater, left, right),
-            m3_syntax::Operator::GreaterEqual => {
-                return self.order(Relation::GreaterEqual, left, right);
-            }
-            m3_syntax::Operator::Concatenate => return self.concatenation(left, right),
-            other => return self.arithmetic(other, left, right),
+        let expr = CoreExpr::Operations {
+            pos,
+            first: first.expr,
+            rest: into_bump_slice(self.rest),
         };
-        Ok(Some((found, boolean)))
+        checker.value(expr, kind)
     }
+}
 
-    fn are_boolean(&self, left: TypeId, right: TypeId) -> bool {
-        self.is_boolean(left) && self.is_boolean(right)
+/// What an operator does with operands of these types, and the type of what it gives; none where
+/// they don't fit.
+fn operation(
+    checker: &Checker<'_, '_>,
+    operator: m3_syntax::Operator,
+    left: TypeId,
+    right: TypeId,
+) -> Result<Option<(Operator, TypeId)>, NoMemory> {
+    match operator {
+        m3_syntax::Operator::Or => Ok(logical(checker, Operator::Or, left, right)),
+        m3_syntax::Operator::And => Ok(logical(checker, Operator::And, left, right)),
+        m3_syntax::Operator::In => membership(checker, left, right),
+        m3_syntax::Operator::Equal => equality(checker, Relation::Equal, left, right),
+        m3_syntax::Operator::NotEqual => equality(checker, Relation::NotEqual, left, right),
+        m3_syntax::Operator::Less => order(checker, Relation::Less, left, right),
+        m3_syntax::Operator::LessEqual => order(checker, Relation::LessEqual, left, right),
+        m3_syntax::Operator::Greater => order(checker, Relation::Greater, left, right),
+        m3_syntax::Operator::GreaterEqual => order(checker, Relation::GreaterEqual, left, right),
+        m3_syntax::Operator::Concatenate => concatenation(checker, left, right),
+        m3_syntax::Operator::Plus
+        | m3_syntax::Operator::Minus
+        | m3_syntax::Operator::Times
+        | m3_syntax::Operator::Slash
+        | m3_syntax::Operator::Div
+        | m3_syntax::Operator::Mod => arithmetic(checker, operator, left, right),
     }
+}
 
-    fn may_be_in(&self, left: TypeId, right: TypeId) -> Result<bool, NoMemory> {
-        match self.node(right) {
-            TypeNode::SetOf(base) if self.is_ordinal(left) => {
-                self.same(self.base_of(left), self.base_of(base))
-            }
-            _ => Ok(false),
-        }
+fn logical(
+    checker: &Checker<'_, '_>,
+    operator: Operator,
+    left: TypeId,
+    right: TypeId,
+) -> Option<(Operator, TypeId)> {
+    if checker.is_boolean(left) && checker.is_boolean(right) {
+        Some((operator, checker.declared.basic.boolean))
+    } else {
+        None
     }
+}
 
-    fn concatenation(
-        &self,
-        left: TypeId,
-        right: TypeId,
-    ) -> Result<Option<(Operator, TypeId)>, NoMemory> {
-        let text = self.declared.basic.text;
-        if self.is_subtype(left, text)? && self.is_subtype(right, text)? {
-            Ok(Some((Operator::Concatenate, text)))
-        } else {
-            Ok(None)
-        }
+fn membership(
+    checker: &Checker<'_, '_>,
+    left: TypeId,
+    right: TypeId,
+) -> Result<Option<(Operator, TypeId)>, NoMemory> {
+    let TypeNode::SetOf(base) = checker.node(right) else {
+        return Ok(None);
+    };
+    if checker.share_base(left, base)? {
+        Ok(Some((Operator::In, checker.declared.basic.boolean)))
+    } else {
+        Ok(None)
     }
+}
 
-    fn are_sets(&self, left: TypeId, right: TypeId) -> Result<bool, NoMemory> {
-        match (self.node(left), self.node(right)) {
-            (TypeNode::SetOf(_), TypeNode::SetOf(_)) => self.same(left, right),
-            _ => Ok(false),
-        }
+fn concatenation(
+    checker: &Checker<'_, '_>,
+    left: TypeId,
+    right: TypeId,
+) -> Result<Option<(Operator, TypeId)>, NoMemory> {
+    let text = checker.declared.basic.text;
+    if checker.is_subtype(left, text)? && checker.is_subtype(right, text)? {
+        Ok(Some((Operator::Concatenate, text)))
+    } else {
+        Ok(None)
     }
+}
 
-    fn arithmetic(
-        &self,
-        operator: m3_syntax::Operator,
-        left: TypeId,
-        right: TypeId,
-    ) -> Result<Option<(Operator, TypeId)>, NoMemory> {
-        if self.is_integer(left) && self.is_integer(right) {
-            let found = match operator {
-                m3_syntax::Operator::Plus => Operator::Plus,
-                m3_syntax::Operator::Minus => Operator::Minus,
-                m3_syntax::Operator::Times => Operator::Times,
-                m3_syntax::Operator::Div => Operator::Div,
-                m3_syntax::Operator::Mod => Operator::Mod,
-                _ => return Ok(None),
-            };
-            return Ok(Some((found, self.declared.basic.integer)));
-        }
-        if !self.are_sets(left, right)? {
-            return Ok(None);
-        }
-        let found = match operator {
-            m3_syntax::Operator::Plus => Operator::Union,
-            m3_syntax::Operator::Minus => Operator::Difference,
-            m3_syntax::Operator::Times => Operator::Intersection,
-            m3_syntax::Operator::Slash => Operator::SymmetricDifference,
-            _ => return Ok(None),
-        };
-        Ok(Some((found, left)))
+fn are_sets(checker: &Checker<'_, '_>, left: TypeId, right: TypeId) -> Result<bool, NoMemory> {
+    let left_is_set = matches!(checker.node(left), TypeNode::SetOf(_));
+    let right_is_set = matches!(checker.node(right), TypeNode::SetOf(_));
+    if left_is_set && right_is_set {
+        checker.same(left, right)
+    } else {
+        Ok(false)
     }
+}
 
-    fn equality(
-        &self,
-        relation: Relation,
-        left: TypeId,
-        right: TypeId,
-    ) -> Result<Option<(Operator, TypeId)>, NoMemory> {
-        if !self.fits(left, right)? && !self.fits(right, left)? {
-            return Ok(None);
-        }
-        let compared = if self.is_ordinal(left) {
-            Compared::Ordinals
-        } else if let TypeNode::SetOf(_) = self.node(left) {
-            Compared::Sets
-        } else if self.is_array(left) || matches!(self.node(left), TypeNode::Fields(_)) {
+fn arithmetic(
+    checker: &Checker<'_, '_>,
+    operator: m3_syntax::Operator,
+    left: TypeId,
+    right: TypeId,
+) -> Result<Option<(Operator, TypeId)>, NoMemory> {
+    let (found, kind) = if checker.is_integer(left) && checker.is_integer(right) {
+        (on_integers(operator), checker.declared.basic.integer)
+    } else if are_sets(checker, left, right)? {
+        (on_sets(operator), left)
+    } else {
+        (None, left)
+    };
+    match found {
+        Some(found) => Ok(Some((found, kind))),
+        None => Ok(None),
+    }
+}
+
+fn on_integers(operator: m3_syntax::Operator) -> Option<Operator> {
+    match operator {
+        m3_syntax::Operator::Plus => Some(Operator::Plus),
+        m3_syntax::Operator::Minus => Some(Operator::Minus),
+        m3_syntax::Operator::Times => Some(Operator::Times),
+        m3_syntax::Operator::Div => Some(Operator::Div),
+        m3_syntax::Operator::Mod => Some(Operator::Mod),
+        _ => None,
+    }
+}
+
+fn on_sets(operator: m3_syntax::Operator) -> Option<Operator> {
+    match operator {
+        m3_syntax::Operator::Plus => Some(Operator::Union),
+        m3_syntax::Operator::Minus => Some(Operator::Difference),
+        m3_syntax::Operator::Times => Some(Operator::Intersection),
+        m3_syntax::Operator::Slash => Some(Operator::SymmetricDifference),
+        _ => None,
+    }
+}
+
+/// `=` and `#`, where one operand is assignable to the other.
+fn equality(
+    checker: &Checker<'_, '_>,
+    relation: Relation,
+    left: TypeId,
+    right: TypeId,
+) -> Result<Option<(Operator, TypeId)>, NoMemory> {
+    if !checker.fits(left, right)? && !checker.fits(right, left)? {
+        return Ok(None);
+    }
+    let operator = Operator::Compare(relation, compared(checker, left, right));
+    Ok(Some((operator, checker.declared.basic.boolean)))
+}
+
+/// How values of two types are compared, where one is assignable to the other.
+fn compared(checker: &Checker<'_, '_>, left: TypeId, right: TypeId) -> Compared {
+    match checker.node(left) {
+        TypeNode::SetOf(_) => Compared::Sets,
+        TypeNode::FixedArray(_, _) | TypeNode::OpenArray(_) | TypeNode::Fields(_) => {
             Compared::Structures
-        } else if self.is_procedure(left) || self.is_procedure(right) {
-            Compared::Procedures
-        } else {
-            Compared::References
-        };
-        let operator = Operator::Compare(relation, compared);
-        Ok(Some((operator, self.declared.basic.boolean)))
+        }
+        TypeNode::Procedure(_, _, _) => Compared::Procedures,
+        _ if checker.is_ordinal(left) => Compared::Ordinals,
+        _ if checker.is_procedure(right) => Compared::Procedures,
+        _ => Compared::References,
     }
+}
 
-    fn order(
-        &self,
-        relation: Relation,
-        left: TypeId,
-        right: TypeId,
-    ) -> Result<Option<(Operator, TypeId)>, NoMemory> {
-        let compared = if self.is_ordinal(left)
-            && self.is_ordinal(right)
-            && self.same(self.base_of(left), self.base_of(right))?
-        {
-            Compared::Ordinals
-        } else if self.are_sets(left, right)? {
-            Compared::Sets
-        } else {
-            return Ok(None);
-        };
-        let operator = Operator::Compare(relation, compared);
-        Ok(Some((operator, self.declared.basic.boolean)))
-    }
+/// The orders, on ordinals of one base and on sets of one type.
+fn order(
+    checker: &Checker<'_, '_>,
+    relation: Relation,
+    left: TypeId,
+    right: TypeId,
+) -> Result<Option<(Operator, TypeId)>, NoMemory> {
+    let compared = if checker.share_base(left, right)? {
+        Compared::Ordinals
+    } else if are_sets(checker, left, right)? {
+        Compared::Sets
+    } else {
+        return Ok(None);
+    };
+    let operator = Operator::Compare(relation, compared);
+    Ok(Some((operator, checker.declared.basic.boolean)))
 }

@@ -1,6 +1,6 @@
 use bumpalo::Bump;
 use m3_base::{Pos, Refused, Source};
-use m3_checker::read_program;
+use m3_program::read_program;
 use m3_scopes::Program;
 use std::alloc::{AllocError, Global};
 use std::rt::Files;

@@ -1,18 +1,22 @@
-use crate::bodies::{Body, Procedures};
+use crate::bodies::{Body, NewVariable};
 use crate::statements::statements;
 use bumpalo::collections::into_bump_slice;
 use m3_base::{NoMemory, Pos};
-use m3_core::{CoreStmt, Handler as CoreHandler, Role, VarKind};
-use m3_exprs::Checker;
+use m3_core::{CoreExpr, CoreStmt, Handler as CoreHandler, Role, VarKind};
+use m3_exprs::expression;
+use m3_operands::Checker;
 use m3_scopes::{EntityId, EntityKind};
-use m3_syntax::{Expr, Handler, Qualid, Stmt};
+use m3_syntax::{Expr, Handler, Name, Qualid, Stmt};
 use m3_types::TypeId;
 
 /// The exception that a name stands for (rule 78).
 fn exception<'a>(checker: &mut Checker<'_, 'a>, name: &Qualid<'a>) -> Option<EntityId> {
     let id = checker.qualid(name);
     let kind = match id {
-        Some(id) => checker.program.binds.entity(id).map(|entity| entity.kind),
+        Some(id) => match checker.program.binds.entity(id) {
+            Some(entity) => Some(entity.kind),
+            None => None,
+        },
         None => None,
     };
     match kind {
@@ -34,40 +38,53 @@ pub fn raise<'a>(
 ) -> Result<Option<CoreStmt<'a>>, NoMemory> {
     let Some(id) = exception(checker, name) else {
         if let Some(argument) = argument {
-            checker.expression(argument)?;
+            expression(checker, argument)?;
         }
         return Ok(None);
     };
-    let number = checker.declared.exception_number(id);
+    let Some(argument) = argument_of(checker, pos, id, argument)? else {
+        return Ok(None);
+    };
+    match checker.declared.exception_number(id) {
+        Some(exception) => Ok(Some(CoreStmt::Raise {
+            pos,
+            exception,
+            argument,
+        })),
+        None => Ok(None),
+    }
+}
+
+/// The argument of a RAISE: none where it was refused, and none in it where none is written.
+fn argument_of<'a>(
+    checker: &mut Checker<'_, 'a>,
+    pos: Pos,
+    id: EntityId,
+    argument: Option<&Expr<'a>>,
+) -> Result<Option<Option<&'a CoreExpr<'a>>>, NoMemory> {
     let kind = checker.declared.kind_of(id);
-    let argument = match (argument, kind) {
-        (None, None) => None,
-        (None, Some(_)) => {
+    let Some(argument) = argument else {
+        if kind.is_some() {
             checker.note(pos, 79);
             return Ok(None);
         }
-        (Some(argument), None) => {
-            checker.note(argument.pos(), 79);
-            checker.expression(argument)?;
-            return Ok(None);
-        }
-        (Some(argument), Some(kind)) => {
-            let Some(value) = checker.expression(argument)? else {
-                return Ok(None);
-            };
-            if !checker.fits(value.kind, kind)? {
-                checker.note(argument.pos(), 79);
-                return Ok(None);
-            }
-            let value = checker.converted(value, kind)?;
-            Some(checker.keep(value.expr)?)
-        }
+        return Ok(Some(None));
     };
-    Ok(number.map(|exception| CoreStmt::Raise {
-        pos,
-        exception,
-        argument,
-    }))
+    let Some(value) = expression(checker, argument)? else {
+        if kind.is_none() {
+            checker.note(argument.pos(), 79);
+        }
+        return Ok(None);
+    };
+    match kind {
+        Some(kind) if checker.fits(value.kind, kind)? => {
+            Ok(Some(Some(checker.converted(&value, kind)?.expr)))
+        }
+        _ => {
+            checker.note(argument.pos(), 79);
+            Ok(None)
+        }
+    }
 }
 
 /// The type of a handler's variable: that of the arguments of all its exceptions (rule 80).
@@ -76,61 +93,108 @@ fn argument_kind<'a>(
     pos: Pos,
     exceptions: &[Option<EntityId>],
 ) -> Result<Option<TypeId>, NoMemory> {
-    let mut kind = None;
+    let mut kind: Option<TypeId> = None;
+    let mut is_good = true;
     for id in exceptions {
         let Some(id) = id else {
             return Ok(None);
         };
         match (kind, checker.declared.kind_of(*id)) {
             (None, Some(found)) => kind = Some(found),
-            (Some(first), Some(found)) if checker.same(first, found)? => {}
-            _ => {
-                checker.note(pos, 80);
-                return Ok(None);
+            (Some(first), Some(found)) => {
+                is_good = is_good && are_one(checker, first, found)?;
             }
+            (_, None) => is_good = false,
         }
     }
+    if !is_good {
+        checker.note(pos, 80);
+        return Ok(None);
+    }
     Ok(kind)
+}
+
+/// Whether two types are the same; one that was refused is the same as all.
+fn are_one(checker: &Checker<'_, '_>, a: TypeId, b: TypeId) -> Result<bool, NoMemory> {
+    if checker.is_refused(a) || checker.is_refused(b) {
+        return Ok(true);
+    }
+    checker.same(a, b)
+}
+
+/// What a handler handles: the exceptions, and the variable that gets the argument.
+#[derive(Clone, Copy)]
+struct Head<'a> {
+    exceptions: &'a [u32],
+    variable: Option<u32>,
+}
+
+fn head<'a>(
+    checker: &mut Checker<'_, 'a>,
+    body: &mut Body<'a>,
+    names: &[Qualid<'a>],
+    argument: Option<Name<'a>>,
+) -> Result<Head<'a>, NoMemory> {
+    let mut found = Vec::new(checker.arena);
+    let mut numbers = Vec::new(checker.arena);
+    for name in names {
+        let id = exception(checker, name);
+        found.push(id)?;
+        if let Some(number) = number_of(checker, id) {
+            numbers.push(number)?;
+        }
+    }
+    let exceptions = into_bump_slice(numbers);
+    let found = into_bump_slice(found);
+    let variable = match (argument, names.first()) {
+        (Some(name), Some(first)) => {
+            let kind = argument_kind(checker, first.first.pos, found)?;
+            handler_variable(checker, body, name, kind)?
+        }
+        _ => None,
+    };
+    Ok(Head {
+        exceptions,
+        variable,
+    })
+}
+
+fn number_of(checker: &Checker<'_, '_>, id: Option<EntityId>) -> Option<u32> {
+    checker.declared.exception_number(id?)
+}
+
+fn handler_variable<'a>(
+    checker: &mut Checker<'_, 'a>,
+    body: &mut Body<'a>,
+    name: Name<'a>,
+    kind: Option<TypeId>,
+) -> Result<Option<u32>, NoMemory> {
+    let Some(kind) = kind else {
+        return Ok(None);
+    };
+    let place = body.add(
+        checker,
+        NewVariable {
+            name,
+            role: Role::Handler,
+            kind: VarKind::Variable(kind),
+            is_read_only: false,
+        },
+    )?;
+    Ok(Some(place))
 }
 
 #[cycle(statements)]
 fn handler<'a>(
     checker: &mut Checker<'_, 'a>,
-    procedures: &mut Procedures<'a>,
     body: &mut Body<'a>,
     handler: &Handler<'a>,
 ) -> Result<CoreHandler<'a>, NoMemory> {
-    let mut found = Vec::new(checker.alloc);
-    let mut numbers = Vec::new(checker.arena);
-    for name in handler.exceptions {
-        let id = exception(checker, name);
-        found.push(id)?;
-        if let Some(id) = id {
-            if let Some(number) = checker.declared.exception_number(id) {
-                numbers.push(number)?;
-            }
-        }
-    }
-    let variable = match handler.argument {
-        Some(name) => {
-            let pos = match handler.exceptions.first() {
-                Some(first) => first.first.pos,
-                None => name.pos,
-            };
-            match argument_kind(checker, pos, found.as_slice())? {
-                Some(kind) => {
-                    let kind = VarKind::Variable(kind);
-                    Some(body.variable(checker, name, Role::Handler, kind, false)?)
-                }
-                None => None,
-            }
-        }
-        None => None,
-    };
-    let row = statements(checker, procedures, body, handler.body)?;
+    let head = head(checker, body, handler.exceptions, handler.argument)?;
+    let row = statements(checker, body, handler.body)?;
     Ok(CoreHandler {
-        exceptions: into_bump_slice(numbers),
-        variable,
+        exceptions: head.exceptions,
+        variable: head.variable,
         body: row,
     })
 }
@@ -139,7 +203,6 @@ fn handler<'a>(
 #[cycle(statements)]
 pub fn attempt<'a>(
     checker: &mut Checker<'_, 'a>,
-    procedures: &mut Procedures<'a>,
     body: &mut Body<'a>,
     statement: &Stmt<'a>,
 ) -> Result<Option<CoreStmt<'a>>, NoMemory> {
@@ -149,36 +212,49 @@ pub fn attempt<'a>(
             body: row,
             last,
         } => {
-            let row = statements(checker, procedures, body, row)?;
-            let last = statements(checker, procedures, body, last)?;
+            let row = statements(checker, body, row)?;
+            let last = statements(checker, body, last)?;
             Ok(Some(CoreStmt::TryFinally {
                 pos: *pos,
                 body: row,
                 last,
             }))
         }
-        Stmt::TryExcept {
-            pos,
-            body: row,
-            handlers,
-            otherwise,
-        } => {
-            let row = statements(checker, procedures, body, row)?;
-            let mut checked = Vec::new(checker.arena);
-            for one in *handlers {
-                checked.push(handler(checker, procedures, body, one)?)?;
-            }
-            let otherwise = match otherwise {
-                Some(row) => Some(statements(checker, procedures, body, row)?),
-                None => None,
-            };
-            Ok(Some(CoreStmt::TryExcept {
-                pos: *pos,
-                body: row,
-                handlers: into_bump_slice(checked),
-                otherwise,
-            }))
-        }
+        Stmt::TryExcept { .. } => handled(checker, body, statement),
         _ => Ok(None),
     }
+}
+
+/// TRY EXCEPT.
+#[cycle(statements)]
+fn handled<'a>(
+    checker: &mut Checker<'_, 'a>,
+    body: &mut Body<'a>,
+    statement: &Stmt<'a>,
+) -> Result<Option<CoreStmt<'a>>, NoMemory> {
+    let Stmt::TryExcept {
+        pos,
+        body: row,
+        handlers,
+        otherwise,
+    } = statement
+    else {
+        return Ok(None);
+    };
+    let row = statements(checker, body, row)?;
+    let mut checked = Vec::new(checker.arena);
+    for one in *handlers {
+        let one = handler(checker, body, one)?;
+        checked.push(one)?;
+    }
+    let otherwise = match otherwise {
+        Some(row) => Some(statements(checker, body, row)?),
+        None => None,
+    };
+    Ok(Some(CoreStmt::TryExcept {
+        pos: *pos,
+        body: row,
+        handlers: into_bump_slice(checked),
+        otherwise,
+    }))
 }

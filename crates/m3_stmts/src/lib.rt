@@ -6,7 +6,15 @@ mod assignments;
 mod bodies;
 mod branches;
 mod exceptions;
+mod labels;
+mod locks;
 mod loops;
+mod procedures;
 mod statements;
+mod variables;
+mod withs;
 
-pub use bodies::{Body, Procedures, check_procedure};
+pub use assignments::{initial_value, initial_values};
+pub use bodies::Body;
+pub use procedures::check_procedure;
+pub use statements::statements;
