@@ -168,7 +168,7 @@ fn changed<'a>(
     target: &'a Chain<'a>,
     amount: Option<Valued<'a>>,
 ) -> Result<Thing<'a>, NoMemory> {
-    let statement = &*checker.arena.try_alloc(CoreStmt::Change {
+    let statement = CoreStmt::Change {
         pos,
         is_decrement,
         target,
@@ -176,6 +176,6 @@ fn changed<'a>(
             Some(value) => Some(value.expr),
             None => None,
         },
-    })?;
-    Ok(Thing::Change(pos, statement))
+    };
+    Ok(Thing::Change(pos, checker.box_up(statement)?))
 }

@@ -143,7 +143,7 @@ fn part_of<'a>(
         is_writable: draft.state.is_writable(),
         is_designator: draft.state.is_designator(),
     };
-    Ok(Thing::Chain(checker.draft(pos, base, kind, state)))
+    Ok(Thing::Chain(checker.draft(pos, base, kind, state)?))
 }
 
 /// The open array type of an element type.

@@ -23,7 +23,7 @@ pub fn call<'a>(
         Thing::Routine(routine) => built_in_call(checker, pos, parenthesis, *routine, actuals),
         Thing::Method(method) => method_call(checker, parenthesis, method, actuals),
         Thing::Value(value) if checker.is_procedure(value.kind) => {
-            let callee = checker.begin(pos, value);
+            let callee = checker.begin(pos, value)?;
             procedure_call(checker, parenthesis, &callee, actuals)
         }
         Thing::Chain(draft) if checker.is_procedure(draft.kind) => {

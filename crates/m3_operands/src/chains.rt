@@ -7,17 +7,23 @@ use m3_types::TypeId;
 
 impl<'a> Checker<'_, 'a> {
     /// A chain that begins here.
-    pub fn draft(&self, pos: Pos, base: Base<'a>, kind: TypeId, state: State) -> Draft<'a> {
+    pub fn draft(
+        &self,
+        pos: Pos,
+        base: Base<'a>,
+        kind: TypeId,
+        state: State,
+    ) -> Result<Draft<'a>, NoMemory> {
         let here = self.steps.len();
-        Draft {
+        Ok(Draft {
             pos,
-            base,
+            base: self.box_up(base)?,
             start: here,
             end: here,
             state,
             kind,
             may_be_inner: false,
-        }
+        })
     }
 
     /// One more step of a chain. What was made behind it is done with.
@@ -61,7 +67,7 @@ impl<'a> Checker<'_, 'a> {
         }
         let chain = self.arena.try_alloc(Chain {
             pos: draft.pos,
-            base: draft.base,
+            base: **draft.base,
             steps,
             kind,
         })?;
@@ -141,11 +147,12 @@ impl<'a> Checker<'_, 'a> {
     }
 
     /// A value as the beginning of a chain.
-    pub fn begin(&self, pos: Pos, value: &Valued<'a>) -> Draft<'a> {
-        Draft {
+    pub fn begin(&self, pos: Pos, value: &Valued<'a>) -> Result<Draft<'a>, NoMemory> {
+        let draft = self.draft(pos, Base::Value(value.expr), value.kind, State::Value)?;
+        Ok(Draft {
             may_be_inner: value.may_be_inner,
-            ..self.draft(pos, Base::Value(value.expr), value.kind, State::Value)
-        }
+            ..draft
+        })
     }
 
     /// What a chain gives; nothing where its type was refused.
@@ -188,7 +195,7 @@ impl<'a> Checker<'_, 'a> {
         match thing {
             Thing::Chain(draft) => Ok(Some(*draft)),
             other => match self.value_of(pos, other)? {
-                Some(value) => Ok(Some(self.begin(pos, &value))),
+                Some(value) => Ok(Some(self.begin(pos, &value)?)),
                 None => Ok(None),
             },
         }
@@ -200,9 +207,10 @@ impl<'a> Checker<'_, 'a> {
             return Ok(*thing);
         };
         let chain = self.finish(draft, Some(draft.kind))?;
+        let inner = self.draft(pos, Base::Inner(chain), draft.kind, draft.state)?;
         Ok(Thing::Chain(Draft {
             may_be_inner: draft.may_be_inner,
-            ..self.draft(pos, Base::Inner(chain), draft.kind, draft.state)
+            ..inner
         }))
     }
 

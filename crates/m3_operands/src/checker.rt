@@ -6,6 +6,7 @@ use m3_base::{Least, NoMemory, Pos, Refusal};
 use m3_core::{CoreExpr, ProcDef, Step};
 use m3_declared::Declared;
 use m3_scopes::{EntityId, Program};
+use m3_syntax::Kept;
 use m3_types::TypeId;
 use std::alloc::Global;
 
@@ -101,6 +102,12 @@ impl<'p, 'a> Checker<'p, 'a> {
     pub fn bad(&mut self, pos: Pos, rule: u16) -> Thing<'a> {
         self.note(pos, rule);
         Thing::Bad
+    }
+
+    /// Keeps what an operand is made of in the arena.
+    pub fn box_up<T: Copy>(&self, part: T) -> Result<Kept<'a, T>, NoMemory> {
+        let kept = self.arena.try_alloc(Box::new(self.arena, part)?)?;
+        Ok(&*kept)
     }
 
     /// Keeps an expression in the arena.

@@ -31,7 +31,7 @@ impl<'a> Checker<'_, 'a> {
             | EntityKind::For
             | EntityKind::With
             | EntityKind::Handler
-            | EntityKind::TypeCase => Ok(self.variable(id, pos)),
+            | EntityKind::TypeCase => self.variable(id, pos),
             EntityKind::Procedure => self.procedure(id, &entity, pos),
             EntityKind::Import(_) => Ok(Thing::Interface),
             EntityKind::Unknown => Ok(Thing::Bad),
@@ -47,9 +47,9 @@ impl<'a> Checker<'_, 'a> {
     }
 
     /// A variable as a place.
-    fn variable(&self, id: EntityId, pos: Pos) -> Thing<'a> {
+    fn variable(&self, id: EntityId, pos: Pos) -> Result<Thing<'a>, NoMemory> {
         let Some(variable) = self.variables.get(&id).copied() else {
-            return Thing::Bad;
+            return Ok(Thing::Bad);
         };
         let kind = variable.kind;
         let base = match variable.held {
@@ -69,10 +69,11 @@ impl<'a> Checker<'_, 'a> {
             is_writable: !variable.is_read_only,
             is_designator: true,
         };
-        self.chain_thing(Draft {
+        let draft = self.draft(pos, base, kind, state)?;
+        Ok(self.chain_thing(Draft {
             may_be_inner: variable.may_be_inner,
-            ..self.draft(pos, base, kind, state)
-        })
+            ..draft
+        }))
     }
 
     fn is_built_in(&self, unit: u32) -> bool {

@@ -1,7 +1,7 @@
 use m3_base::Pos;
 use m3_core::{Base, BuiltinCall, CoreExpr, CoreStmt};
 use m3_scopes::{EntityId, Predeclared};
-use m3_syntax::Name;
+use m3_syntax::{Kept, Name};
 use m3_types::TypeId;
 
 /// A value: its expression and its type.
@@ -17,7 +17,7 @@ pub struct Valued<'a> {
 #[derive(Clone, Copy)]
 pub struct Draft<'a> {
     pub pos: Pos,
-    pub base: Base<'a>,
+    pub base: Kept<'a, Base<'a>>,
     pub start: usize,
     pub end: usize,
     pub state: State,
@@ -67,7 +67,7 @@ pub enum Thing<'a> {
     Call(Draft<'a>),
     Builtin(&'a BuiltinCall<'a>),
     /// INC or DEC.
-    Change(Pos, &'a CoreStmt<'a>),
+    Change(Pos, Kept<'a, CoreStmt<'a>>),
 }
 
 /// An actual of a call or a part of a constructor: what it is, the place of its first token, its name

@@ -181,7 +181,7 @@ pub fn call_statement<'a>(
             Ok(Some(CoreStmt::Call { pos, call }))
         }
         Thing::Builtin(call) => Ok(Some(CoreStmt::Builtin { pos, call })),
-        Thing::Change(_, statement) => Ok(Some(*statement)),
+        Thing::Change(_, statement) => Ok(Some(**statement)),
         _ => {
             checker.note(pos, 70);
             Ok(None)

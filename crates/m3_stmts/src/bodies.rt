@@ -29,7 +29,7 @@ pub struct NewVariable<'a> {
 }
 
 impl<'a> Body<'a> {
-    pub fn new(checker: &Checker<'_, 'a>, number: u32, result: Option<TypeId>) -> Body<'a> {
+    pub fn new(checker: &Checker<'_, 'a>, number: u32, due: Option<TypeId>) -> Body<'a> {
         let unit_name = match checker.program.units.get(checker.unit as usize) {
             Some(unit) => unit.name.text,
             None => &[],
@@ -41,7 +41,7 @@ impl<'a> Body<'a> {
             level: checker.level,
             number,
             loops: 0,
-            result,
+            result: due,
         }
     }
 
