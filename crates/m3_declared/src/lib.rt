@@ -3,4 +3,4 @@
 
 mod declared;
 
-pub use declared::{Basic, Constant, Declared};
+pub use declared::{Basic, Constant, Declared, Doubtful};
