@@ -5,7 +5,7 @@ use m3_mid::{End, Proc};
 use std::alloc::Global;
 
 /// How a block ends; a block that isn't there ends the run.
-pub(crate) fn end_of(p: &Proc, block: u32) -> End {
+pub fn end_of(p: &Proc, block: u32) -> End {
     match p.blocks.get(block as usize) {
         Some(block) => block.end,
         None => End::Return { value: None },

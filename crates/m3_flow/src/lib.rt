@@ -10,10 +10,11 @@ mod operations;
 mod order;
 mod ranges;
 
+pub use graph::end_of;
 pub use groups::{Groups, Pair};
-pub use live::{LiveRange, LiveSets, RowUse, live_at, live_with};
+pub use live::{LiveRange, LiveSets, RowUse, live_at, live_with, uses_of};
 pub use operations::{
-    actuals_of, end_operands, exits_of, is_call, is_point, operands_of, service_operands, settings_of,
-    shown_at,
+    actuals_of, end_operands, exits_of, is_call, is_point, operands_of, ops_of, service_operands, settings_of,
+    shown_at, temp_of,
 };
 pub use order::{Order, block_order};

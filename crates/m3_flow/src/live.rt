@@ -89,7 +89,7 @@ fn holds(ranges: &[LiveRange], place: u32) -> bool {
 }
 
 /// Adds the temporaries that an operation uses.
-pub(crate) fn uses_of(op: MidOp, uses: &mut Vec<u32>) -> Result<(), NoMemory> {
+pub fn uses_of(op: MidOp, uses: &mut Vec<u32>) -> Result<(), NoMemory> {
     for operand in operands_of(op) {
         if let Some(temp) = temp_of(operand) {
             uses.push(temp)?;

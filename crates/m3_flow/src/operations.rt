@@ -1,6 +1,14 @@
-use m3_mid::{Actual, Callee, End, Held, MemoryWord, MidOp, Operand, Shown};
+use m3_mid::{Actual, Callee, End, Held, MemoryWord, MidOp, Operand, Proc, Shown};
 
 const NOTHING: Operand = Operand::Number(0);
+
+/// The operations of a block; none where there is no such block.
+pub fn ops_of<'a>(p: &Proc<'a>, block: u32) -> &'a [MidOp<'a>] {
+    match p.blocks.get(block as usize) {
+        Some(block) => block.ops,
+        None => &[],
+    }
+}
 
 /// The operand that a word of memory names.
 fn base_of(word: MemoryWord) -> Operand {
@@ -161,7 +169,7 @@ pub fn exits_of(end: End) -> [Option<u32>; 2] {
 }
 
 /// The temporary that an operand names.
-pub(crate) fn temp_of(operand: Operand) -> Option<u32> {
+pub fn temp_of(operand: Operand) -> Option<u32> {
     match operand {
         Operand::Temp(temp) => Some(temp),
         Operand::Number(_) => None,
