@@ -1,0 +1,42 @@
+//! Prints the code and the rows of procedures of middle code that are written here by hand.
+#![tactic(auto)]
+
+use bumpalo::Bump;
+use listing::print_proc;
+use m3_emit::{Links, Places};
+use m3_mid::Proc;
+use std::alloc::Global;
+use std::io;
+
+mod listing;
+mod samples;
+
+/// Where the words of the constants, and the cells of the texts, of the samples lie.
+const LINKS: Links = Links {
+    constants: &[0, 8],
+    texts: &[16, 24],
+};
+
+fn print_all(
+    rt: &(impl Print + Alloc<A = Global>),
+    name: &str,
+    procs: &[Proc],
+) -> io::Result<()> {
+    println!(rt; "program {name}")?;
+    let mut places = Places::new(rt.alloc());
+    let mut first = 0u32;
+    for p in procs {
+        let arena = Bump::new(rt.alloc());
+        first = print_proc(rt, &arena, p, LINKS, &mut places, first)?;
+    }
+    for (file, line) in places.list() {
+        println!(rt; "place {file} {line}")?;
+    }
+    Ok(())
+}
+
+fn main(rt: HostRuntime) -> io::Result<()> {
+    print_all(&rt, "sum", samples::SUM)?;
+    print_all(&rt, "fib", samples::FIB)?;
+    Ok(())
+}
