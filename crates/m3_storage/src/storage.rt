@@ -7,7 +7,7 @@ use crate::variables::{
     Marks, Room, VarPlace, marks_at, place_all, place_globals, shown_places, type_of,
 };
 use m3_base::{NoMemory, place_number};
-use m3_core::{Core, ProcDef, VarDef};
+use m3_core::{Core, CoreExpr, ProcDef, VarDef};
 use m3_layout::{Shape, shape_of_value};
 use m3_types::{TypeId, TypeNode};
 use std::alloc::Global;
@@ -30,6 +30,7 @@ pub struct Storage<'a> {
     places: Vec<VarPlace>,
     shown: Vec<Option<u32>>,
     rooms: Vec<Room>,
+    constants: Vec<Option<TypeId>>,
 }
 
 /// The procedure at a level around another, or that other itself.
@@ -72,6 +73,7 @@ impl<'a> Storage<'a> {
             places: Vec::new(alloc),
             shown: Vec::new(alloc),
             rooms: Vec::new(alloc),
+            constants: vec![in alloc; None; core.values.len()]?,
         };
         storage.add_procs(core)?;
         storage.add_places(core)?;
@@ -97,8 +99,48 @@ impl<'a> Storage<'a> {
             &self.outers,
             &self.levels,
             &mut self.marks,
+            &mut self.constants,
         );
+        self.add_initials(core);
+        self.add_defaults();
         Ok(())
+    }
+
+    /// Notes the types of the constants that global variables get.
+    fn add_initials(&mut self, core: &Core) {
+        for global in core.globals {
+            if let Some(CoreExpr::Constant { kind, value, .. }) = global.initial {
+                self.note_constant(value.0, *kind);
+            }
+        }
+    }
+
+    /// Notes the types of the constants that are defaults of fields.
+    fn add_defaults(&mut self) {
+        for node in &self.core.types.graph.nodes {
+            if let TypeNode::Fields(fields) | TypeNode::Object(_, _, fields, _, _) = node {
+                for field in *fields {
+                    if let Some(default) = field.default {
+                        self.note_constant(default.source, field.kind);
+                    }
+                }
+            }
+        }
+    }
+
+    fn note_constant(&mut self, constant: u32, kind: TypeId) {
+        let place = constant as usize;
+        if place < self.constants.len() {
+            self.constants[place] = Some(kind);
+        }
+    }
+
+    /// The type of a constant that code may copy; none where no code names it.
+    pub fn constant_kind(&self, constant: u32) -> Option<TypeId> {
+        match self.constants.get(constant as usize) {
+            Some(kind) => *kind,
+            None => None,
+        }
     }
 
     fn add_places(&mut self, core: &Core) -> Result<(), NoMemory> {

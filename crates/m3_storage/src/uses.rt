@@ -4,6 +4,7 @@ use m3_core::{
     Actual, Base, Binding, Bound, Chain, Core, CoreExpr, CoreStmt, FieldValue, Operation,
     SetElement, Step, WithBinding,
 };
+use m3_types::TypeId;
 
 /// Finds the variables whose address is taken or that inner procedures reach, and the formals that are
 /// written.
@@ -14,6 +15,8 @@ pub struct Uses<'u> {
     outers: &'u [Option<u32>],
     levels: &'u [u32],
     marks: &'u mut Vec<Marks>,
+    /// For each constant the type under which an expression names it.
+    kinds: &'u mut Vec<Option<TypeId>>,
     /// The procedure that is read.
     proc: u32,
 }
@@ -25,6 +28,7 @@ pub fn mark_all(
     outers: &[Option<u32>],
     levels: &[u32],
     marks: &mut Vec<Marks>,
+    kinds: &mut Vec<Option<TypeId>>,
 ) {
     for (place, proc) in core.procs.iter().enumerate() {
         let mut uses = Uses {
@@ -32,6 +36,7 @@ pub fn mark_all(
             outers,
             levels,
             marks: &mut *marks,
+            kinds: &mut *kinds,
             proc: place as u32,
         };
         uses.statements(proc.body);
@@ -137,8 +142,13 @@ impl Uses<'_> {
             | CoreExpr::Text { .. }
             | CoreExpr::Nil { .. }
             | CoreExpr::Procedure { .. }
-            | CoreExpr::InnerProcedure { .. }
-            | CoreExpr::Constant { .. } => {}
+            | CoreExpr::InnerProcedure { .. } => {}
+            CoreExpr::Constant { kind, value, .. } => {
+                let place = value.0 as usize;
+                if place < self.kinds.len() {
+                    self.kinds[place] = Some(*kind);
+                }
+            }
             CoreExpr::Chain(chain) => self.chain(chain),
             CoreExpr::Builtin(call) => self.exprs(call.actuals),
             CoreExpr::Prefixed { operand, .. }
