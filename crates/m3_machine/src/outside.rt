@@ -12,33 +12,33 @@ const HEAP: u64 = 1 << 60;
 
 /// The memory outside the stacks: globals, constants and a heap.
 #[derive(Drop)]
-pub struct Outside<'a, S: Store> {
+pub struct Outside<S: Store> {
     pub globals: Vec<u64>,
-    pub constants: &'a [u64],
+    pub constants: Vec<u64>,
     pub heap: Closed<S>,
     pub ghost few: { length globals.items < 4294967296 },
-    pub ghost small: { length constants.now < 4294967296 },
+    pub ghost small: { length constants.items < 4294967296 },
 }
 
-impl<'a, S: Store> Words for Outside<'a, S> {
+impl<S: Store> Words for Outside<S> {
     ghost use Rattle.std.specs.Prelude.{length};
     ghost use Rattle.m3_machine.specs.Addresses.{outside_of, settable_of};
     ghost use Rattle.m3_machine.specs.Kept.{KeepsOutside};
     ghost use Rattle.m3_machine.specs.OutsideLaws.{readable_outside, low_outside, keeps_itself, keeps_on};
 
-    ghost holds = { λ m. outside_of m.globals.items m.constants.now (S.heap m.heap.store).cells };
+    ghost holds = { λ m. outside_of m.globals.items m.constants.items (S.heap m.heap.store).cells };
 
     ghost writable = { λ m. settable_of (length m.globals.items) (S.heap m.heap.store).cells };
 
-    ghost keeps = { λ old new. KeepsOutside old.globals.items new.globals.items old.constants.now new.constants.now (S.heap old.heap.store) (S.heap new.heap.store) };
+    ghost keeps = { λ old new. KeepsOutside old.globals.items new.globals.items old.constants.items new.constants.items (S.heap old.heap.store) (S.heap new.heap.store) };
 
-    ghost readable = { λ m x h. readable_outside m.globals.items m.constants.now (S.heap m.heap.store).cells x (S.sound m.heap.store).cells.in_heap m.few m.small h };
+    ghost readable = { λ m x h. readable_outside m.globals.items m.constants.items (S.heap m.heap.store).cells x (S.sound m.heap.store).cells.in_heap m.few m.small h };
 
-    ghost low = { λ m x h. low_outside m.globals.items m.constants.now (S.heap m.heap.store).cells x (S.sound m.heap.store).cells.in_heap m.few m.small h };
+    ghost low = { λ m x h. low_outside m.globals.items m.constants.items (S.heap m.heap.store).cells x (S.sound m.heap.store).cells.in_heap m.few m.small h };
 
-    ghost keeps_itself = { λ m. keeps_itself m.globals.items m.constants.now (S.heap m.heap.store) };
+    ghost keeps_itself = { λ m. keeps_itself m.globals.items m.constants.items (S.heap m.heap.store) };
 
-    ghost keeps_on = { λ s t u p q. keeps_on s.globals.items t.globals.items u.globals.items s.constants.now t.constants.now u.constants.now (S.heap s.heap.store) (S.heap t.heap.store) (S.heap u.heap.store) p q };
+    ghost keeps_on = { λ s t u p q. keeps_on s.globals.items t.globals.items u.globals.items s.constants.items t.constants.items u.constants.items (S.heap s.heap.store) (S.heap t.heap.store) (S.heap u.heap.store) p q };
 
     #[inline]
     fn load(&self, at: u64) -> Option<u64> {

@@ -35,7 +35,7 @@ pub fn run_plain<S: Store>(
 ) -> (Halt, u64)
     requires { (k : ℕ) (i : Instruction) → slice_get code.now k ≡ Some i → IsInstruction i }
     ensures { (q : Program) (base : State) (t : Thread) → thread_named memory.old.threads base.running ≡ Some t
-        → Ran (with_code q code.now memory.old.outside.constants.now) most result.0 result.1
+        → Ran (with_code q code.now memory.old.outside.constants.items) most result.0 result.1
         (seen base (at_hand r.old pc.old fp) memory.old.threads memory.old.outside.globals.items (S.heap memory.old.outside.heap.store))
         (seen (counted base result.1) (at_hand r.new pc.new fp) memory.new.threads memory.new.outside.globals.items (S.heap memory.new.outside.heap.store)) }
 {

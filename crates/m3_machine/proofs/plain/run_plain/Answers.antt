@@ -18,8 +18,8 @@ loop-count-init g c =
     let m = c.args.memory.now in
     let heap = g.S.Store.heap m.outside.heap.store in (
       omega arith,
-      keeps_itself m.threads m.outside.globals.items m.outside.constants.now heap,
-      λ q base t found. ran-nowhere (with_code q c.args.code.now m.outside.constants.now) base (at_hand c.args.r.now c.args.pc.now c.args.fp) m.threads m.outside.globals.items heap,
+      keeps_itself m.threads m.outside.globals.items m.outside.constants.items heap,
+      λ q base t found. ran-nowhere (with_code q c.args.code.now m.outside.constants.items) base (at_hand c.args.r.now c.args.pc.now c.args.fp) m.threads m.outside.globals.items heap,
     )
 
 pub returns-then-at-code : goal.returns-then-at-code
@@ -28,7 +28,7 @@ returns-then-at-code g c = λ q base t found.
     let m = c.loop-count.memory in
     let inv = c.loop-count.invariant in
     let heap = g.S.Store.heap m.outside.heap.store in
-    ran-out q c.args.code.now old.outside.constants.now
+    ran-out q c.args.code.now old.outside.constants.items
     (seen base (at_hand c.args.r.now c.args.pc.now c.args.fp) old.threads old.outside.globals.items (g.S.Store.heap old.outside.heap.store))
     base c.loop-count.count c.args.most t (at_hand c.loop-count.r c.loop-count.pc c.args.fp) m.threads m.outside.globals.items heap
     (found_still old.threads m.threads base.running t inv.1.stacks found) (slice_get_past c.args.code.now c.loop-count.pc (omega arith)) (inv.2 q base t found)
@@ -47,12 +47,12 @@ loop-count-preserved g c =
     let heap = g.S.Store.heap m.outside.heap.store in
     let heap' = g.S.Store.heap n.outside.heap.store in (
       omega arith,
-      keeps_on old.threads m.threads n.threads old.outside.globals.items m.outside.globals.items n.outside.globals.items old.outside.constants.now m.outside.constants.now n.outside.constants.now first heap heap' inv.1 c.in-Went.ensures.keeps,
+      keeps_on old.threads m.threads n.threads old.outside.globals.items m.outside.globals.items n.outside.globals.items old.outside.constants.items m.outside.constants.items n.outside.constants.items first heap heap' inv.1 c.in-Went.ensures.keeps,
       λ q base t found.
-          ran-on q c.args.code.now old.outside.constants.now
+          ran-on q c.args.code.now old.outside.constants.items
           (seen base (at_hand c.args.r.now c.args.pc.now c.args.fp) old.threads old.outside.globals.items first)
           base c.loop-count.count t (slice_index_or c.args.code.now c.loop-count.pc blank) (at_hand c.loop-count.r c.loop-count.pc c.args.fp) (at_hand c.carry_out.new.r c.carry_out.new.pc c.args.fp)
-          m.threads n.threads m.outside.globals.items n.outside.globals.items m.outside.constants.now n.outside.constants.now heap heap'
+          m.threads n.threads m.outside.globals.items n.outside.globals.items m.outside.constants.items n.outside.constants.items heap heap'
           inv.1.outside.same_constants (found_still old.threads m.threads base.running t inv.1.stacks found) (slice_get-get_or c.args.code.now c.loop-count.pc blank (omega arith))
           c.in-Went.ensures.keeps c.in-Went.ensures.effect (inv.2 q base t found),
     )
@@ -64,10 +64,10 @@ returns-in-Other g c = λ q base t found.
     let m = c.loop-count.memory in
     let n = c.carry_out.new.mem in
     let inv = c.loop-count.invariant in
-    ran-to-other q c.args.code.now old.outside.constants.now
+    ran-to-other q c.args.code.now old.outside.constants.items
     (seen base (at_hand c.args.r.now c.args.pc.now c.args.fp) old.threads old.outside.globals.items (g.S.Store.heap old.outside.heap.store))
     base c.loop-count.count c.args.most t (slice_index_or c.args.code.now c.loop-count.pc blank) (at_hand c.loop-count.r c.loop-count.pc c.args.fp) (at_hand c.carry_out.new.r c.carry_out.new.pc c.args.fp)
-    m.threads n.threads m.outside.globals.items n.outside.globals.items m.outside.constants.now n.outside.constants.now (g.S.Store.heap m.outside.heap.store) (g.S.Store.heap n.outside.heap.store)
+    m.threads n.threads m.outside.globals.items n.outside.globals.items m.outside.constants.items n.outside.constants.items (g.S.Store.heap m.outside.heap.store) (g.S.Store.heap n.outside.heap.store)
     inv.1.outside.same_constants (found_still old.threads m.threads base.running t inv.1.stacks found) (slice_get-get_or c.args.code.now c.loop-count.pc blank (omega arith))
     c.in-Other.ensures.keeps c.in-Other.ensures.effect (inv.2 q base t found)
 
@@ -78,10 +78,10 @@ returns-in-Trapped g c = λ q base t found.
     let m = c.loop-count.memory in
     let n = c.carry_out.new.mem in
     let inv = c.loop-count.invariant in
-    ran-into-trap q c.args.code.now old.outside.constants.now
+    ran-into-trap q c.args.code.now old.outside.constants.items
     (seen base (at_hand c.args.r.now c.args.pc.now c.args.fp) old.threads old.outside.globals.items (g.S.Store.heap old.outside.heap.store))
     base c.loop-count.count c.in-Trapped.n c.args.most t (slice_index_or c.args.code.now c.loop-count.pc blank) (at_hand c.loop-count.r c.loop-count.pc c.args.fp) (at_hand c.carry_out.new.r c.carry_out.new.pc c.args.fp)
-    m.threads n.threads m.outside.globals.items n.outside.globals.items m.outside.constants.now n.outside.constants.now (g.S.Store.heap m.outside.heap.store) (g.S.Store.heap n.outside.heap.store)
+    m.threads n.threads m.outside.globals.items n.outside.globals.items m.outside.constants.items n.outside.constants.items (g.S.Store.heap m.outside.heap.store) (g.S.Store.heap n.outside.heap.store)
     inv.1.outside.same_constants (found_still old.threads m.threads base.running t inv.1.stacks found) (slice_get-get_or c.args.code.now c.loop-count.pc blank (omega arith))
     c.in-Trapped.ensures.keeps c.in-Trapped.ensures.effect c.in-Trapped.ensures.trap (inv.2 q base t found)
 
@@ -90,7 +90,7 @@ returns g c = λ q base t found.
     let old = c.args.memory.now in
     let m = c.loop-count.memory in
     let inv = c.loop-count.invariant in
-    let p = with_code q c.args.code.now old.outside.constants.now in
+    let p = with_code q c.args.code.now old.outside.constants.items in
     let start = seen base (at_hand c.args.r.now c.args.pc.now c.args.fp) old.threads old.outside.globals.items (g.S.Store.heap old.outside.heap.store) in
     let end = seen (counted base c.loop-count.count) (at_hand c.loop-count.r c.loop-count.pc c.args.fp) m.threads m.outside.globals.items (g.S.Store.heap m.outside.heap.store) in
     let all : c.loop-count.count ≡ c.args.most = omega arith in

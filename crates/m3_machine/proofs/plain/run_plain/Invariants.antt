@@ -16,9 +16,9 @@ invariant-loop-count g l =
     let first = g.S.Store.heap old.outside.heap.store in
     let heap = g.S.Store.heap now.outside.heap.store in
     (l.count ≤ l.most)
-    × KeepsMemory old.threads now.threads old.outside.globals.items now.outside.globals.items old.outside.constants.now now.outside.constants.now first heap
+    × KeepsMemory old.threads now.threads old.outside.globals.items now.outside.globals.items old.outside.constants.items now.outside.constants.items first heap
     × ((q : Program) (base : State) (t : Thread) → thread_named old.threads base.running ≡ Some t
-    → Plain_run (with_code q l.code old.outside.constants.now) l.count
+    → Plain_run (with_code q l.code old.outside.constants.items) l.count
     (seen base (at_hand l.initial.r l.initial.pc l.fp) old.threads old.outside.globals.items first)
     (seen (counted base l.count) (at_hand l.r l.pc l.fp) now.threads now.outside.globals.items heap))
 

@@ -10,8 +10,8 @@ returns-clause-stored g c = λ set x.
     let m = c.args.self.now in
     let n = c.store.new.mem in
     stored_in_memory m.threads c.store.new.self
-    (outside_of m.outside.globals.items m.outside.constants.now (g.S.Store.heap m.outside.heap.store).cells)
-    (outside_of n.globals.items n.constants.now (g.S.Store.heap n.heap.store).cells)
+    (outside_of m.outside.globals.items m.outside.constants.items (g.S.Store.heap m.outside.heap.store).cells)
+    (outside_of n.globals.items n.constants.items (g.S.Store.heap n.heap.store).cells)
     c.args.at c.args.word x (c.store.ensures.inside set) (c.store.ensures.outside set x)
 
 pub returns-clause-writable : goal.returns-clause-writable

@@ -11,7 +11,7 @@ returns-then-at-ge-HEAP-clause-stored g c = λ set x.
     let m = c.args.self.now in
     let cells = (g.S.Store.heap m.heap.store).cells in
     let new = (g.S.Store.heap c.set.new.self.store).cells in
-    cell_stored m.globals.items m.constants.now cells new c.args.at c.args.word x m.few m.small (omega arith)
+    cell_stored m.globals.items m.constants.items cells new c.args.at c.args.word x m.few m.small (omega arith)
     (words_after cells new c.args.at c.args.word c.set.result c.set.ensures.value c.set.ensures.cells set)
 
 pub returns-then-at-ge-HEAP-clause-writable : goal.returns-then-at-ge-HEAP-clause-writable
@@ -35,5 +35,5 @@ returns-clause-stored g c = λ set x.
     let m = c.args.self.now in
     let cells = (g.S.Store.heap m.heap.store).cells in
     let here = placed c.args.at (length m.globals.items) c.ranges.at.fits m.few (omega arith) in
-    ap (λ i. outside_of (slice_set m.globals.items i c.args.word) m.constants.now cells x) here.1
-    ∙ global_stored m.globals.items m.constants.now cells c.args.at c.args.word x here.0
+    ap (λ i. outside_of (slice_set m.globals.items i c.args.word) m.constants.items cells x) here.1
+    ∙ global_stored m.globals.items m.constants.items cells c.args.at c.args.word x here.0
