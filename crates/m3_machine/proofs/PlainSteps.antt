@@ -13,7 +13,7 @@ use Rattle.m3_heap.specs.Heap.{Heap}
 use Rattle.m3_threads.specs.declared.status.Thread.{Thread}
 use Rattle.m3_threads.specs.All.{Everyone, is_named, updated, thread_named}
 use Rattle.m3_threads.specs.Spaces.{held, replaceable}
-use Rattle.m3_image.specs.Parts.{Program}
+use Rattle.m3_sections.specs.Parts.{Program}
 use Rattle.m3_machine.specs.Addresses.{outside_of, settable_of}
 use Rattle.m3_machine.specs.Kept.{KeepsMemory, KeepsStacks}
 use Rattle.m3_machine.specs.State.{State, memory_of, regs_set, with_regs, executed, Becomes}

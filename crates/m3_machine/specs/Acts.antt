@@ -13,8 +13,8 @@ use Rattle.m3_threads.specs.declared.status.Thread.{Thread}
 use Rattle.m3_threads.specs.All.{Everyone, thread_named, updated, base_of}
 use Rattle.m3_threads.specs.Going.{status_at, with_status}
 use Rattle.m3_threads.specs.Actions.{Forks}
-use Rattle.m3_image.specs.declared.procs.ProcPart.{ProcPart}
-use Rattle.m3_image.specs.Parts.{Program, CellType}
+use Rattle.m3_sections.specs.declared.procs.ProcPart.{ProcPart}
+use Rattle.m3_sections.specs.Parts.{Program, CellType}
 use Rattle.m3_machine.specs.State.{State, memory_of, with_all}
 use Rattle.m3_machine.specs.Progress.{Progress, traps, ends, gives, goes_on, goes_with, loading}
 use Rattle.m3_machine.specs.Calls.{type_told, looks_up}

@@ -5,9 +5,9 @@ use Rattle.m3_base.specs.declared.outcomes.Outcome.TheVariants.{StackFull}
 use Rattle.m3_threads.specs.declared.status.Thread.{Thread}
 use Rattle.m3_threads.specs.All.{base_of}
 use Rattle.m3_threads.specs.Spaces.{put_inside}
-use Rattle.m3_image.specs.declared.procs.ProcPart.{ProcPart}
-use Rattle.m3_image.specs.Parts.{Program, CellType}
-use Rattle.m3_image.specs.Programs.{containing}
+use Rattle.m3_sections.specs.declared.procs.ProcPart.{ProcPart}
+use Rattle.m3_sections.specs.Parts.{Program, CellType}
+use Rattle.m3_sections.specs.Ranges.{containing}
 use Rattle.m3_machine.specs.State.{State, memory_of, with_all, with_regs, executed}
 use Rattle.m3_machine.specs.Addresses.{is_from}
 use Rattle.m3_machine.specs.Progress.{Progress, Goes, traps, ends, goes_with, loading}

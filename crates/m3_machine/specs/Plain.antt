@@ -7,7 +7,7 @@ use Rattle.m3_isa.specs.declared.registers.Regs.{Regs}
 use Rattle.m3_heap.specs.Heap.{Heap}
 use Rattle.m3_threads.specs.declared.status.Thread.{Thread}
 use Rattle.m3_threads.specs.All.{Everyone, updated, thread_named}
-use Rattle.m3_image.specs.Parts.{Program}
+use Rattle.m3_sections.specs.Parts.{Program}
 use Rattle.m3_machine.specs.State.{State, memory_of, can_set, regs_set, Becomes}
 use Rattle.m3_machine.specs.Progress.{Goes, Ends}
 use Rattle.m3_machine.specs.Steps.{Plainly}

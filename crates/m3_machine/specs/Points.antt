@@ -4,7 +4,7 @@ use Rattle.m3_base.specs.declared.outcomes.Entry.{Entry}
 use Rattle.m3_base.specs.declared.outcomes.Outcome.{Outcome}
 use Rattle.m3_base.specs.declared.outcomes.Outcome.TheVariants.{Deadlock, Spent, Trap}
 use Rattle.m3_threads.specs.Going.{IsChoice, NoneGoes}
-use Rattle.m3_image.specs.Parts.{Program}
+use Rattle.m3_sections.specs.Parts.{Program}
 use Rattle.m3_machine.specs.State.{State, outside}
 use Rattle.m3_machine.specs.Making.{counted_collection}
 

@@ -7,7 +7,7 @@ use Rattle.m3_isa.specs.Instructions.{is_point}
 use Rattle.m3_isa.specs.declared.instructions.Instr.{Instr}
 use Rattle.m3_threads.specs.declared.status.Thread.{Thread}
 use Rattle.m3_threads.specs.All.{thread_named}
-use Rattle.m3_image.specs.Parts.{Program}
+use Rattle.m3_sections.specs.Parts.{Program}
 use Rattle.m3_heap.specs.Heap.{Heap}
 use Rattle.m3_machine.specs.State.{State, start, with_all}
 use Rattle.m3_machine.specs.Progress.{Progress, Goes, Rests, Ends}

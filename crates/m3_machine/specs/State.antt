@@ -7,7 +7,7 @@ use Rattle.m3_threads.specs.declared.status.Thread.{Thread}
 use Rattle.m3_threads.specs.All.{Everyone, updated}
 use Rattle.m3_threads.specs.Actions.{at_start}
 use Rattle.m3_threads.specs.Spaces.{held, replaceable}
-use Rattle.m3_image.specs.Parts.{Program}
+use Rattle.m3_sections.specs.Parts.{Program}
 use Rattle.m3_machine.specs.Addresses.{outside_of, settable_of}
 use Rattle.m3_machine.specs.Kept.{KeepsStacks}
 

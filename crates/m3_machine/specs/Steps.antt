@@ -13,8 +13,8 @@ use Rattle.m3_threads.specs.declared.answers.Done.{Done as Answer}
 use Rattle.m3_threads.specs.declared.answers.Done.TheVariants as answer
 use Rattle.m3_threads.specs.declared.status.Thread.{Thread}
 use Rattle.m3_threads.specs.Actions.{After, acquires, releases, waits, wakes, SleepsLongest, broadcasts, joins, ends as ends_thread, alerts, tests_alert, alert_waits, alert_joins}
-use Rattle.m3_image.specs.Parts.{Program}
-use Rattle.m3_image.specs.Programs.{containing}
+use Rattle.m3_sections.specs.Parts.{Program}
+use Rattle.m3_sections.specs.Ranges.{containing}
 use Rattle.m3_machine.specs.State.{State, outside, settable, memory_of, can_set, Becomes, HasOtherWords, with_regs, with_all, executed}
 use Rattle.m3_machine.specs.Progress.{Progress, Goes, Rests, Ends, ends, goes_on}
 use Rattle.m3_machine.specs.Calls.{calls, calls_behind, calls_method, returns}

@@ -4,7 +4,7 @@ ghost use Rattle.m3_isa.specs.Instructions.{IsInstruction};
 ghost use Rattle.m3_isa.specs.Effects.{at_hand};
 ghost use Rattle.m3_threads.specs.declared.status.Thread.{Thread};
 ghost use Rattle.m3_threads.specs.All.{thread_named};
-ghost use Rattle.m3_image.specs.Parts.{Program};
+ghost use Rattle.m3_sections.specs.Parts.{Program};
 ghost use Rattle.m3_machine.specs.State.{State};
 ghost use Rattle.m3_machine.specs.Plain.{seen, counted, with_code, Ran};
 

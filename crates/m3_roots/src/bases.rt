@@ -1,9 +1,9 @@
 //! Derived words taken apart and put together again.
-use crate::places::{place_in, set_word, word_at};
+use crate::places::{place_in, row_of, set_word, word_at};
 use m3_decoded::Decoded;
 use m3_frames::Frame;
 use m3_heap::Steps;
-use m3_tables::{Derivation, Numbers, Row, WayView};
+use m3_tables::{Derivation, Numbers, WayView};
 use std::sync::ledger::Ledger;
 
 /// The sum of the words at some places, modulo 2^64.
@@ -55,10 +55,6 @@ fn bases_of<L: Ledger>(
     let added = sum_of(r, stack, first, way.added, steps);
     let subtracted = sum_of(r, stack, first, way.subtracted, steps);
     Some(added.wrapping_sub(subtracted))
-}
-
-fn row_of<'a>(image: &Decoded<'a>, frame: &Frame) -> Option<Row<'a>> {
-    image.image().tables().at(frame.row as u32)
 }
 
 fn apart<L: Ledger>(

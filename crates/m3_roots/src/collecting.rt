@@ -1,4 +1,5 @@
-ghost use Rattle.std.specs.Prelude.{◌≡◌, true, false, List, map, length};
+ghost use Rattle.std.specs.Prelude.{◌≡◌, true, false, List, map, length, IfSome, IsSome};
+ghost use Rattle.m3_threads.specs.All.{thread_named};
 ghost use Rattle.m3_heap.specs.Shapes.{Shape};
 ghost use Rattle.m3_sections.specs.Shapes.{shape_of};
 ghost use Rattle.m3_decoded.specs.Ready.{image_of};
@@ -16,12 +17,10 @@ use std::sync::ledger::Ledger;
 
 /// Lists the frames of a thread, and gives its registers. None comes exactly where one of the frames isn't as
 /// frames are.
-fn frames_of(
-    image: &Decoded<'_>,
-    threads: &Threads,
-    thread: u64,
-    room: &mut Room,
-) -> Option<Regs> {
+#[tactic(auto, using(crate::proofs::Named::is_named))]
+fn frames_of(image: &Decoded<'_>, threads: &Threads, thread: u64, room: &mut Room) -> Option<Regs>
+    ensures { IfSome result (λ _. IsSome (thread_named threads.now thread)) }
+{
     let base = threads.stack_at(thread)?;
     let regs = *threads.regs(thread)?;
     let stack = threads.words(thread)?;

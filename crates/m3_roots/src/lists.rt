@@ -1,6 +1,6 @@
 //! What the rows of a thread's frames may list together: no word twice, no path and no first or second word of a
 //! frame, and no derived word of a newer frame as the base of an older one.
-use crate::places::place_in;
+use crate::places::{place_in, row_of};
 use m3_decoded::Decoded;
 use m3_frames::Frame;
 use m3_tables::{Derivation, Numbers, Row};
@@ -103,15 +103,15 @@ fn mark_derived(marks: &mut [u8], first: usize, row: &Row<'_>) -> bool {
 
 /// Marks what the row of a frame lists.
 fn mark_frame(image: &Decoded<'_>, marks: &mut [u8], frame: &Frame, newest: bool) -> bool {
-    let Some(row) = image.image().tables().at(frame.row as u32) else {
+    let Some(row) = row_of(image, frame) else {
         return false;
     };
     let Some(tidy) = image.tidy_places(frame.row) else {
         return false;
     };
     let first = frame.first;
-    mark(marks, first + 16, BARRED, LISTED)
-        && mark(marks, first + 17, BARRED, LISTED)
+    mark(marks, place_in(first, 16), BARRED, LISTED)
+        && mark(marks, place_in(first, 17), BARRED, LISTED)
         && bar_paths(marks, first, &row)
         && (newest || bases_are_plain(marks, first, &row))
         && mark_tidy(marks, first, tidy)

@@ -1,4 +1,16 @@
 //! The words of a thread by their places: the registers are 0 to 15, and 16 and more are the words of its stack.
+use m3_decoded::Decoded;
+use m3_frames::Frame;
+use m3_tables::Row;
+
+/// The row of a frame.
+pub fn row_of<'a>(image: &Decoded<'a>, frame: &Frame) -> Option<Row<'a>> {
+    let tables = image.image().tables();
+    if frame.row >= tables.len() as usize {
+        return None;
+    }
+    tables.at(frame.row as u32)
+}
 
 /// The place of a location of a frame that begins at a place of the stack.
 #[inline]

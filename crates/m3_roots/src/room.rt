@@ -1,3 +1,5 @@
+ghost use Rattle.std.specs.Prelude.{◌≤◌};
+
 use m3_base::NoMemory;
 use m3_frames::Frame;
 use std::alloc::Global;

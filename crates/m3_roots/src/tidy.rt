@@ -2,7 +2,7 @@
 ghost use Rattle.std.specs.Prelude.{◌≡◌, true, List, length};
 ghost use Rattle.m3_heap.specs.Shapes.{Shape};
 
-use crate::places::{place_in, set_word, word_at};
+use crate::places::{place_in, row_of, set_word, word_at};
 use m3_decoded::Decoded;
 use m3_frames::Frame;
 use m3_heap::{Steps, Store};
@@ -92,7 +92,7 @@ fn visit_frame<S: Store, L: Ledger>(
     if !newest {
         return true;
     }
-    let Some(row) = image.image().tables().at(frame.row as u32) else {
+    let Some(row) = row_of(image, frame) else {
         return false;
     };
     visit_arguments(row.argument_places(), frame.first, r, stack, store, steps)

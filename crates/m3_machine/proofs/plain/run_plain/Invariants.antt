@@ -2,7 +2,7 @@ use Rattle.std.proofs.Common.{◌≡◌, ◌≤◌, ◌-◌, Some}
 use Rattle.m3_isa.specs.Effects.{at_hand}
 use Rattle.m3_threads.specs.declared.status.Thread.{Thread}
 use Rattle.m3_threads.specs.All.{thread_named}
-use Rattle.m3_image.specs.Parts.{Program}
+use Rattle.m3_sections.specs.Parts.{Program}
 use Rattle.m3_machine.specs.State.{State}
 use Rattle.m3_machine.specs.Kept.{KeepsMemory}
 use Rattle.m3_machine.specs.Plain.{seen, counted, with_code, Plain_run}
