@@ -78,7 +78,6 @@ impl Code {
             self.code.push(instr(Op::Call, 0, 0, callee))?;
             self.code.push(instr(Op::Bnz, 1, 0, uncaught as i32))?;
         }
-        self.rows.push(empty_row(alloc, self.next()?))?;
         self.code.push(instr(Op::Endp, 0, 0, 0))?;
         self.code.push(instr(Op::Addi, 1, 1, -1))?;
         self.code.push(instr(Op::Unc, 1, 0, 0))?;

@@ -3,7 +3,7 @@ use crate::chains::not_nil;
 use crate::conditions::choice;
 use crate::copies::set;
 use crate::exprs::in_range;
-use crate::operators::{arith, check};
+use crate::operators::{arith, check, is_made};
 use crate::pending::Pending;
 use crate::places::load_at;
 use crate::values::{fetch, kind_of, source};
@@ -111,7 +111,7 @@ fn check_operand<'m>(
         )),
         _ => rest,
     };
-    if wants_cell(call.routine, actual) {
+    if wants_cell(call.routine, actual) && !is_made(e) {
         code.after(not_nil(operand, e.pos()))
     } else {
         code

@@ -185,7 +185,7 @@ fn check_text<'m>(
 }
 
 /// Whether an expression is a text that is never NIL.
-fn is_made(e: &CoreExpr) -> bool {
+pub fn is_made(e: &CoreExpr) -> bool {
     match e {
         CoreExpr::Text { .. } => true,
         CoreExpr::Operations { rest, .. } => match rest.last() {
