@@ -8,6 +8,7 @@ use m3_mid::Proc;
 use std::alloc::Global;
 use std::io;
 
+mod addresses;
 mod listing;
 mod samples;
 
@@ -38,5 +39,8 @@ fn print_all(
 fn main(rt: HostRuntime) -> io::Result<()> {
     print_all(&rt, "sum", samples::SUM)?;
     print_all(&rt, "fib", samples::FIB)?;
+    print_all(&rt, "arms", addresses::ARMS)?;
+    print_all(&rt, "kept", addresses::KEPT)?;
+    print_all(&rt, "moving", addresses::MOVING)?;
     Ok(())
 }
