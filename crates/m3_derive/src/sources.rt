@@ -28,7 +28,7 @@ pub(crate) struct Setting {
     pub(crate) source: Source,
 }
 
-fn term(p: &Proc, temp: u32, is_taken: bool) -> Option<Term> {
+fn term_of(p: &Proc, temp: u32, is_taken: bool) -> Option<Term> {
     match kind_of(p, temp) {
         Kind::Number => None,
         _ => Some(Term {
@@ -40,7 +40,7 @@ fn term(p: &Proc, temp: u32, is_taken: bool) -> Option<Term> {
 
 fn operand_term(p: &Proc, operand: Operand, is_taken: bool) -> Option<Term> {
     match operand {
-        Operand::Temp(temp) => term(p, temp, is_taken),
+        Operand::Temp(temp) => term_of(p, temp, is_taken),
         Operand::Number(_) => None,
     }
 }
@@ -62,7 +62,7 @@ fn slot_source(p: &Proc, slot: u32) -> Source {
 /// Where the address that an operation sets comes from.
 fn source_of(p: &Proc, op: MidOp) -> Source {
     match op {
-        MidOp::Move { to: _, from } => Source::Terms([term(p, from, false), None]),
+        MidOp::Move { to: _, from } => Source::Terms([term_of(p, from, false), None]),
         MidOp::Arith {
             to: _,
             operator: WordOperator::Add,
@@ -76,7 +76,7 @@ fn source_of(p: &Proc, op: MidOp) -> Source {
             right,
         } => Source::Terms([operand_term(p, left, false), operand_term(p, right, true)]),
         MidOp::Index { array, index, .. } => {
-            Source::Terms([term(p, array, false), operand_term(p, index, false)])
+            Source::Terms([term_of(p, array, false), operand_term(p, index, false)])
         }
         MidOp::Load {
             to: _,

@@ -9,13 +9,14 @@ use std::alloc::Global;
 use std::io;
 
 mod addresses;
+mod every;
 mod listing;
 mod samples;
 
 /// Where the words of the constants, and the cells of the texts, of the samples lie.
 const LINKS: Links = Links {
     constants: &[0, 8],
-    texts: &[16, 24],
+    texts: &[16, 20],
 };
 
 fn print_all(
@@ -42,5 +43,6 @@ fn main(rt: HostRuntime) -> io::Result<()> {
     print_all(&rt, "arms", addresses::ARMS)?;
     print_all(&rt, "kept", addresses::KEPT)?;
     print_all(&rt, "moving", addresses::MOVING)?;
+    print_all(&rt, "every", every::EVERY)?;
     Ok(())
 }
