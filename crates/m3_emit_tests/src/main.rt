@@ -10,6 +10,7 @@ use std::io;
 
 mod addresses;
 mod every;
+mod large;
 mod listing;
 mod samples;
 
@@ -37,6 +38,28 @@ fn print_all(
     Ok(())
 }
 
+fn print_measured(
+    rt: &impl Print,
+    name: &str,
+    measured: Result<large::Measured, m3_base::NoMemory>,
+) -> io::Result<()> {
+    match measured {
+        Ok(measured) => println!(rt; "{name}: {measured:?}"),
+        Err(_) => println!(rt; "{name}: out of memory"),
+    }
+}
+
+fn print_large(rt: &(impl Print + Alloc<A = Global>)) -> io::Result<()> {
+    let alloc = rt.alloc();
+    print_measured(rt, "one block of 200000", large::one_block(alloc, 200_000))?;
+    print_measured(rt, "100000 choices", large::choices(alloc, 8, 100_000, true))?;
+    print_measured(
+        rt,
+        "300 variables over 20000 choices",
+        large::choices(alloc, 300, 20_000, false),
+    )
+}
+
 fn main(rt: HostRuntime) -> io::Result<()> {
     print_all(&rt, "sum", samples::SUM)?;
     print_all(&rt, "fib", samples::FIB)?;
@@ -44,5 +67,6 @@ fn main(rt: HostRuntime) -> io::Result<()> {
     print_all(&rt, "kept", addresses::KEPT)?;
     print_all(&rt, "moving", addresses::MOVING)?;
     print_all(&rt, "every", every::EVERY)?;
+    print_large(&rt)?;
     Ok(())
 }
