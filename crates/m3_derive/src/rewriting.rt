@@ -5,10 +5,8 @@ use crate::shapes::{Said, Shape, Shapes, moves_on};
 use crate::sources::{Setting, Source, Term};
 use bumpalo::Bump;
 use bumpalo::collections::into_bump_slice;
-use m3_base::NoMemory;
-use m3_flow::Groups;
-use m3_flow::Pair;
-use m3_base::place_number;
+use m3_base::{NoMemory, place_number};
+use m3_flow::{Groups, Pair};
 use m3_mid::{Block, Kind, MemoryWord, MidOp, Proc};
 use std::alloc::Global;
 
@@ -217,6 +215,9 @@ fn rewrite_ops<'a>(
     ops: &'a [MidOp<'a>],
     alloc: Global,
 ) -> Result<&'a [MidOp<'a>], NoMemory> {
+    if list.is_empty() {
+        return Ok(ops);
+    }
     let mut rewriter = Rewriter {
         ops: Vec::new(arena),
         bases: Vec::new(alloc),
@@ -259,11 +260,7 @@ pub(crate) fn rewrite<'a>(
     for (at, block) in p.blocks.iter().enumerate() {
         let row = rows.row(place_number(at)?);
         kept_settings(settings, row, keeper, &mut list)?;
-        let ops = if list.is_empty() {
-            block.ops
-        } else {
-            rewrite_ops(arena, p, shapes, keeper, &list, block.ops, alloc)?
-        };
+        let ops = rewrite_ops(arena, p, shapes, keeper, &list, block.ops, alloc)?;
         blocks.push(Block {
             ops,
             end: block.end,

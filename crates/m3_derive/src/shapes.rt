@@ -45,10 +45,10 @@ pub(crate) fn add_term(list: &mut Vec<Term>, term: Term) -> Result<(), NoMemory>
             return Ok(());
         }
     }
-    let mut place = 0;
+    let mut place = 0usize;
     for other in list.iter() {
         if rank_of(*other) <= rank_of(term) {
-            place += 1;
+            place = place.saturating_add(1);
         }
     }
     if list.len() > 255 {
@@ -204,15 +204,29 @@ impl<'a> Shapes<'a> {
     }
 }
 
+fn is_own(term: Option<Term>, temp: u32) -> bool {
+    match term {
+        Some(term) => match term.base {
+            Base::Temp(own) => own == temp && !term.is_taken,
+            Base::Slot(_) => false,
+        },
+        None => false,
+    }
+}
+
+fn is_nothing(term: Option<Term>) -> bool {
+    match term {
+        Some(_) => false,
+        None => true,
+    }
+}
+
 /// Whether a setting adds a number to its own temporary.
 pub(crate) fn moves_on(setting: Setting) -> bool {
-    let own = Some(Term {
-        base: Base::Temp(setting.temp),
-        is_taken: false,
-    });
     match setting.source {
         Source::Terms([first, second]) => {
-            (first == own && second.is_none()) || (first.is_none() && second == own)
+            (is_own(first, setting.temp) && is_nothing(second))
+                || (is_nothing(first) && is_own(second, setting.temp))
         }
         Source::Own => false,
     }
