@@ -221,13 +221,14 @@ fn is_nothing(term: Option<Term>) -> bool {
     }
 }
 
+fn adds_number(first: Option<Term>, second: Option<Term>, temp: u32) -> bool {
+    (is_own(first, temp) && is_nothing(second)) || (is_nothing(first) && is_own(second, temp))
+}
+
 /// Whether a setting adds a number to its own temporary.
 pub(crate) fn moves_on(setting: Setting) -> bool {
     match setting.source {
-        Source::Terms([first, second]) => {
-            (is_own(first, setting.temp) && is_nothing(second))
-                || (is_nothing(first) && is_own(second, setting.temp))
-        }
+        Source::Terms(terms) => adds_number(terms[0], terms[1], setting.temp),
         Source::Own => false,
     }
 }

@@ -1,4 +1,5 @@
-//! Prints the code and the rows of procedures of middle code that are written here by hand.
+//! Prints the code and the rows of procedures of middle code that are written here by hand, and sizes of
+//! large ones. The argument `every` stands for a procedure that uses each kind of operation.
 #![tactic(auto)]
 
 use bumpalo::Bump;
@@ -6,7 +7,8 @@ use listing::print_proc;
 use m3_emit::{Links, Places};
 use m3_mid::Proc;
 use std::alloc::Global;
-use std::io;
+use std::rt::Env;
+use std::{env, io};
 
 mod addresses;
 mod every;
@@ -60,13 +62,29 @@ fn print_large(rt: &(impl Print + Alloc<A = Global>)) -> io::Result<()> {
     )
 }
 
+fn print_samples(rt: &(impl Print + Alloc<A = Global>)) -> io::Result<()> {
+    print_all(rt, "sum", samples::SUM)?;
+    print_all(rt, "fib", samples::FIB)?;
+    print_all(rt, "arms", addresses::ARMS)?;
+    print_all(rt, "kept", addresses::KEPT)?;
+    print_all(rt, "moving", addresses::MOVING)?;
+    print_large(rt)
+}
+
+fn run(rt: &(impl Print + Env + Alloc<A = Global>)) -> io::Result<()> {
+    let mut has_words = false;
+    for word in env::args(rt)?.skip(1) {
+        has_words = true;
+        if word.as_str() == "every" {
+            print_all(rt, "every", every::EVERY)?;
+        }
+    }
+    if has_words {
+        return Ok(());
+    }
+    print_samples(rt)
+}
+
 fn main(rt: HostRuntime) -> io::Result<()> {
-    print_all(&rt, "sum", samples::SUM)?;
-    print_all(&rt, "fib", samples::FIB)?;
-    print_all(&rt, "arms", addresses::ARMS)?;
-    print_all(&rt, "kept", addresses::KEPT)?;
-    print_all(&rt, "moving", addresses::MOVING)?;
-    print_all(&rt, "every", every::EVERY)?;
-    print_large(&rt)?;
-    Ok(())
+    run(&rt)
 }
