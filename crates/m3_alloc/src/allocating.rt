@@ -1,6 +1,7 @@
 use crate::choosing::{choose_registers, give, wishes_of};
 use crate::homes::homes_of;
 use crate::needs::{Needs, needs_of};
+use crate::sharing::share_words;
 use crate::slots::give_slots;
 use m3_base::{NoMemory, place_number};
 use m3_derive::Derived;
@@ -98,11 +99,13 @@ pub fn allocate<'a>(alloc: Global, d: &Derived<'a>) -> Result<Placed<'a>, NoMemo
     let mut needs = needs_of(alloc, d, &order, &live)?;
     let wishes = wishes_of(alloc, d, &order)?;
     let mut given = vec![in alloc; None; d.proc.temps.len()]?;
-    choose_registers(alloc, &wishes, &live, &mut needs, all, &mut given)?;
+    let lost = needs.lost_by_temp(alloc)?;
+    choose_registers(alloc, &wishes, &live, &lost, &mut needs, all, &mut given)?;
     let homes = homes_of(alloc, d)?;
     give_homes(&homes, &needs, &mut given)?;
     let first = place_number(d.proc.slots.len())?.saturating_add(3);
-    let body = give_slots(alloc, &live, &needs, all, first, &mut given)?;
+    let next = share_words(alloc, &live, &lost, &needs, all, first, &mut given)?;
+    let body = give_slots(alloc, &live, &needs, all, next, &mut given)?;
     let mut places = Vec::new(alloc);
     for place in &given {
         places.push(place.unwrap_or(Location::Register(0)))?;

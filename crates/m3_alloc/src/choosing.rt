@@ -145,8 +145,12 @@ pub(crate) fn wishes_of(alloc: Global, d: &Derived, order: &Order) -> Result<Wis
     })
 }
 
-fn is_free(free: u16, register: u8) -> bool {
-    register < 12 && free & (1u16 << register) != 0
+fn bit_of(register: u8) -> u64 {
+    if register < 12 { 1u64 << register } else { 0 }
+}
+
+fn is_free(free: u64, register: u8) -> bool {
+    register < 12 && free & (1u64 << register) != 0
 }
 
 impl Wishes {
@@ -158,7 +162,7 @@ impl Wishes {
     }
 
     /// The best of the registers that are free for a temporary.
-    fn choose(&self, temp: u32, free: u16, places: &[Option<Location>]) -> Option<u8> {
+    fn choose(&self, temp: u32, free: u64, places: &[Option<Location>]) -> Option<u8> {
         for like in self.likes.row(temp) {
             if let Some(Some(Location::Register(register))) = places.get(*like as usize)
                 && is_free(free, *register)
@@ -227,25 +231,18 @@ pub(crate) fn choose_registers(
     alloc: Global,
     wishes: &Wishes,
     live: &LiveSets,
+    lost: &Groups,
     needs: &mut Needs,
     all: u32,
     places: &mut Vec<Option<Location>>,
 ) -> Result<(), NoMemory> {
     let mut cover = Cover::new(alloc, all as usize)?;
-    let mut pairs = Vec::new(alloc);
-    for (temp, place) in &needs.lost {
-        pairs.push(Pair {
-            group: *temp,
-            item: *place,
-        })?;
-    }
-    let lost = Groups::of(alloc, places.len(), &pairs)?;
     for temp in &queue_of(alloc, wishes, live, needs)? {
-        let free = free_for(&cover, live, &lost, *temp);
+        let free = cover.free_for(live, lost, *temp);
         match wishes.choose(*temp, free, places) {
             Some(register) => {
                 give(places, *temp, Location::Register(register));
-                take_for(&mut cover, live, &lost, *temp, register);
+                cover.take_for(live, lost, *temp, bit_of(register));
             }
             None => {
                 if let Some(in_slot) = needs.in_slot.get_mut(*temp as usize) {
@@ -260,31 +257,5 @@ pub(crate) fn choose_registers(
 pub(crate) fn give(places: &mut Vec<Option<Location>>, temp: u32, location: Location) {
     if let Some(place) = places.get_mut(temp as usize) {
         *place = Some(location);
-    }
-}
-
-/// The registers that are free wherever a temporary is live or set.
-fn free_for(cover: &Cover, live: &LiveSets, lost: &Groups, temp: u32) -> u16 {
-    let mut taken = 0;
-    for range in live.ranges_of(temp) {
-        taken |= cover.taken(range.from as usize, range.to as usize);
-    }
-    for place in lost.row(temp) {
-        let from = *place as usize;
-        taken |= cover.taken(from, from.saturating_add(1));
-    }
-    !taken
-}
-
-fn take_for(cover: &mut Cover, live: &LiveSets, lost: &Groups, temp: u32, register: u8) {
-    if register < 12 {
-        let mask = 1u16 << register;
-        for range in live.ranges_of(temp) {
-            cover.take(range.from as usize, range.to as usize, mask);
-        }
-        for place in lost.row(temp) {
-            let from = *place as usize;
-            cover.take(from, from.saturating_add(1), mask);
-        }
     }
 }

@@ -1,22 +1,23 @@
 use m3_base::NoMemory;
+use m3_flow::{Groups, LiveSets};
 use std::alloc::Global;
 
-/// Which registers are taken at which places: a binary tree over the places, in which a stretch of places is
+/// Which of 64 words or registers are taken at which places: a binary tree over the places, in which a stretch of places is
 /// marked and asked for in logarithmic time.
 #[derive(Drop)]
 pub(crate) struct Cover {
     leaves: usize,
-    /// Of each node, the registers that are taken at all of its places.
-    whole: Vec<u16>,
-    /// Of each node, the registers that are taken at some of its places by what was marked at or below it.
-    parts: Vec<u16>,
+    /// Of each node, what is taken at all of its places.
+    whole: Vec<u64>,
+    /// Of each node, what is taken at some of its places by what was marked at or below it.
+    parts: Vec<u64>,
 }
 
-fn at(list: &[u16], node: usize) -> u16 {
+fn at(list: &[u64], node: usize) -> u64 {
     list.get(node).copied().unwrap_or(0)
 }
 
-fn add(list: &mut Vec<u16>, node: usize, mask: u16) {
+fn add(list: &mut Vec<u64>, node: usize, mask: u64) {
     if let Some(item) = list.get_mut(node) {
         *item |= mask;
     }
@@ -33,13 +34,13 @@ impl Cover {
         let nodes = leaves.saturating_mul(2);
         Ok(Cover {
             leaves,
-            whole: vec![in alloc; 0u16; nodes]?,
-            parts: vec![in alloc; 0u16; nodes]?,
+            whole: vec![in alloc; 0u64; nodes]?,
+            parts: vec![in alloc; 0u64; nodes]?,
         })
     }
 
     /// What is taken at all places below some node above a place.
-    fn above(&self, place: usize) -> u16 {
+    fn above(&self, place: usize) -> u64 {
         let mut node = place.saturating_add(self.leaves);
         let mut mask = 0;
         for _level in 0..34 {
@@ -49,8 +50,8 @@ impl Cover {
         mask
     }
 
-    /// The registers that are taken at some place of a stretch.
-    pub(crate) fn taken(&self, from: usize, to: usize) -> u16 {
+    /// What is taken at some place of a stretch.
+    pub(crate) fn taken(&self, from: usize, to: usize) -> u64 {
         let mut mask = self.above(from) | self.above(to.saturating_sub(1));
         let mut low = from.saturating_add(self.leaves);
         let mut high = to.saturating_add(self.leaves);
@@ -71,7 +72,7 @@ impl Cover {
         mask
     }
 
-    fn note_above(&mut self, place: usize, mask: u16) {
+    fn note_above(&mut self, place: usize, mask: u64) {
         let mut node = place.saturating_add(self.leaves);
         for _level in 0..34 {
             add(&mut self.parts, node, mask);
@@ -79,13 +80,13 @@ impl Cover {
         }
     }
 
-    fn note(&mut self, node: usize, mask: u16) {
+    fn note(&mut self, node: usize, mask: u64) {
         add(&mut self.whole, node, mask);
         add(&mut self.parts, node, mask);
     }
 
-    /// Takes registers at all places of a stretch, which isn't empty.
-    pub(crate) fn take(&mut self, from: usize, to: usize, mask: u16) {
+    /// Takes words or registers at all places of a stretch, which isn't empty.
+    pub(crate) fn take(&mut self, from: usize, to: usize, mask: u64) {
         let mut low = from.saturating_add(self.leaves);
         let mut high = to.saturating_add(self.leaves);
         for _level in 0..34 {
@@ -104,5 +105,31 @@ impl Cover {
         }
         self.note_above(from, mask);
         self.note_above(to.saturating_sub(1), mask);
+    }
+}
+
+impl Cover {
+    /// What is free wherever a temporary is live or set.
+    pub(crate) fn free_for(&self, live: &LiveSets, lost: &Groups, temp: u32) -> u64 {
+        let mut taken = 0;
+        for range in live.ranges_of(temp) {
+            taken |= self.taken(range.from as usize, range.to as usize);
+        }
+        for place in lost.row(temp) {
+            let from = *place as usize;
+            taken |= self.taken(from, from.saturating_add(1));
+        }
+        !taken
+    }
+
+    /// Takes words or registers wherever a temporary is live or set.
+    pub(crate) fn take_for(&mut self, live: &LiveSets, lost: &Groups, temp: u32, mask: u64) {
+        for range in live.ranges_of(temp) {
+            self.take(range.from as usize, range.to as usize, mask);
+        }
+        for place in lost.row(temp) {
+            let from = *place as usize;
+            self.take(from, from.saturating_add(1), mask);
+        }
     }
 }

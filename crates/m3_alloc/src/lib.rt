@@ -6,6 +6,7 @@ mod choosing;
 mod cover;
 mod homes;
 mod needs;
+mod sharing;
 mod slots;
 
 pub use allocating::{Placed, allocate, outgoing_words};

@@ -1,6 +1,6 @@
 use m3_base::{NoMemory, place_number};
 use m3_derive::Derived;
-use m3_flow::{LiveRange, LiveSets, Order, is_call, ops_of, settings_of, shown_at};
+use m3_flow::{Groups, LiveRange, LiveSets, Order, Pair, is_call, ops_of, settings_of, shown_at};
 use m3_mid::{Held, MidOp};
 use std::alloc::Global;
 
@@ -37,6 +37,18 @@ fn count_below(list: &[u32], bound: u32) -> usize {
 }
 
 impl Needs {
+    /// For each temporary the places at which it is set for nobody.
+    pub(crate) fn lost_by_temp(&self, alloc: Global) -> Result<Groups, NoMemory> {
+        let mut pairs = Vec::new(alloc);
+        for (temp, place) in &self.lost {
+            pairs.push(Pair {
+                group: *temp,
+                item: *place,
+            })?;
+        }
+        Groups::of(alloc, self.in_slot.len(), &pairs)
+    }
+
     fn put_in_slot(&mut self, temp: u32) {
         if let Some(in_slot) = self.in_slot.get_mut(temp as usize) {
             *in_slot = true;

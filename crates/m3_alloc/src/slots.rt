@@ -69,7 +69,7 @@ fn hulls_of(alloc: Global, live: &LiveSets, needs: &Needs) -> Result<Hulls, NoMe
     Ok(hulls)
 }
 
-/// Gives slots to the temporaries that want one and have none yet, from a word on, and gives the word behind
+/// Gives slots to the temporaries that want one and still have none, from a word on, and gives the word behind
 /// them. Two temporaries share a word where one begins to live behind the last place of the other.
 pub(crate) fn give_slots(
     alloc: Global,

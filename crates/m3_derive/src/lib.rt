@@ -3,9 +3,15 @@
 #![tactic(auto)]
 
 mod active;
+mod keeping;
 mod planning;
 mod plans;
+mod relevance;
+mod rewriting;
 mod rows;
+mod shapes;
+mod sources;
+mod stability;
 
 pub use planning::derive;
 pub use plans::{Base, Derivation, Derived, RowPlan, WayPlan};

@@ -4,10 +4,10 @@ const NOTHING: Operand = Operand::Number(0);
 
 /// The operations of a block; none where there is no such block.
 pub fn ops_of<'a>(p: &Proc<'a>, block: u32) -> &'a [MidOp<'a>] {
-    match p.blocks.get(block as usize) {
-        Some(block) => block.ops,
-        None => &[],
-    }
+    let Some(block) = p.blocks.get(block as usize).copied() else {
+        return &[];
+    };
+    block.ops
 }
 
 /// The operand that a word of memory names.
