@@ -10,9 +10,11 @@ mod constants;
 mod members;
 mod names;
 mod things;
+mod type_names;
 mod types;
 mod views;
 
 pub use checker::{Checker, Held, Variable};
 pub use members::{Found, Member};
 pub use things::{Draft, Given, Method, State, Thing, Valued};
+pub use type_names::judge_declaration;
