@@ -36,16 +36,19 @@ impl<'a> Evaluator<'_, 'a> {
                 return self.word_call(selector, pos, routine);
             }
         }
+        let result = self.result_of_call(pos, thing)?;
+        let is_callable = !matches!(result, Thing::Bad);
         let mut is_bad = false;
         for actual in *actuals {
-            if self.actual(actual)?.is_none() {
+            let is_good = match actual {
+                Actual::Type(_) if !is_callable => true,
+                other => self.actual(other)?.is_some(),
+            };
+            if !is_good {
                 is_bad = true;
             }
         }
-        if is_bad {
-            return Ok(Thing::Bad);
-        }
-        self.result_of_call(pos, thing)
+        if is_bad { Ok(Thing::Bad) } else { Ok(result) }
     }
 
     /// What an actual is worth as a value.
@@ -69,10 +72,7 @@ impl<'a> Evaluator<'_, 'a> {
             Thing::Routine(id) => self.declared.kind_of(id),
             Thing::Method(signature) => Some(signature),
             Thing::Value(worth) => Some(worth.kind),
-            other => {
-                self.value_of(pos, other);
-                None
-            }
+            _ => None,
         };
         let Some(kind) = kind else {
             return Ok(Thing::Bad);
