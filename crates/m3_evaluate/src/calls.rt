@@ -40,11 +40,14 @@ impl<'a> Evaluator<'_, 'a> {
         let is_callable = !matches!(result, Thing::Bad);
         let mut is_bad = false;
         for actual in *actuals {
-            let is_good = match actual {
-                Actual::Type(_) if !is_callable => true,
-                other => self.actual(other)?.is_some(),
-            };
-            if !is_good {
+            let at = actual_pos(actual);
+            let thing = self.argument(actual)?;
+            if let Thing::Type(_) = thing {
+                if !is_callable {
+                    continue;
+                }
+            }
+            if self.value_of(at, thing).is_none() {
                 is_bad = true;
             }
         }
@@ -54,15 +57,20 @@ impl<'a> Evaluator<'_, 'a> {
     /// What an actual is worth as a value.
     #[cycle(expressions)]
     pub(crate) fn actual(&mut self, actual: &Actual<'a>) -> Result<Option<Worth<'a>>, NoMemory> {
+        let at = actual_pos(actual);
+        let thing = self.argument(actual)?;
+        Ok(self.value_of(at, thing))
+    }
+
+    /// What an actual is.
+    #[cycle(expressions)]
+    pub(crate) fn argument(&mut self, actual: &Actual<'a>) -> Result<Thing<'a>, NoMemory> {
         match actual {
-            Actual::Value(value) | Actual::Named(_, value) => self.expression(value),
-            Actual::Type(kind) => {
-                let pos = kind.pos();
-                match self.type_of(kind) {
-                    Some(kind) => Ok(self.value_of(pos, Thing::Type(kind))),
-                    None => Ok(None),
-                }
-            }
+            Actual::Value(value) | Actual::Named(_, value) => self.operand(value),
+            Actual::Type(kind) => match self.type_of(kind) {
+                Some(kind) => Ok(Thing::Type(kind)),
+                None => Ok(Thing::Bad),
+            },
         }
     }
 
@@ -243,6 +251,14 @@ impl<'a> Evaluator<'_, 'a> {
             TypeNode::Constant(ConstValue::Procedure(procedure)) => Some(procedure),
             _ => None,
         }
+    }
+}
+
+/// The place of an actual's expression or type.
+pub(crate) fn actual_pos(actual: &Actual<'_>) -> Pos {
+    match actual {
+        Actual::Value(value) | Actual::Named(_, value) => value.pos(),
+        Actual::Type(kind) => kind.pos(),
     }
 }
 

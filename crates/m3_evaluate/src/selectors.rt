@@ -137,7 +137,7 @@ impl<'a> Evaluator<'_, 'a> {
         worth: &Worth<'a>,
         name: Name<'a>,
     ) -> Result<Thing<'a>, NoMemory> {
-        if let TypeNode::Fields(_) = self.node(worth.kind)? {
+        if let TypeNode::Fields(_) = self.plain(worth.kind)? {
             return self.field(worth, name);
         }
         let seen = self.seen(worth.kind)?;
