@@ -5,8 +5,8 @@
 mod assigning;
 mod chains;
 mod checker;
-mod kinds;
 mod constants;
+mod kinds;
 mod members;
 mod names;
 mod things;

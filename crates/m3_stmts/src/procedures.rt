@@ -45,7 +45,10 @@ pub fn check_procedure<'a>(
 /// The type and the number of a procedure.
 fn known<'a>(checker: &Checker<'_, 'a>, name: Name<'a>) -> Option<(TypeId, u32)> {
     let id = checker.program.binds.at(checker.unit, name.pos)?;
-    Some((checker.declared.kind_of(id)?, checker.declared.procedure_number(id)?))
+    Some((
+        checker.declared.kind_of(id)?,
+        checker.declared.procedure_number(id)?,
+    ))
 }
 
 /// What is known of a procedure beside its body.
