@@ -98,11 +98,7 @@ fn actual<'a>(
 
 /// Whether a place of one type may be passed for a formal of another: it is the same, or an array
 /// that is assignable to it.
-fn fits_place(
-    checker: &Checker<'_, '_>,
-    kind: TypeId,
-    formal: TypeId,
-) -> Result<bool, NoMemory> {
+fn fits_place(checker: &Checker<'_, '_>, kind: TypeId, formal: TypeId) -> Result<bool, NoMemory> {
     if checker.is_refused(formal) || checker.same(kind, formal)? {
         return Ok(true);
     }
@@ -115,8 +111,8 @@ fn by_place<'a>(
     place: u32,
     formal: &Formal<'a>,
 ) -> Result<Option<Actual<'a>>, NoMemory> {
-    let checks_shape =
-        checker.is_array(formal.kind) && !checker.is_subtype(draft.kind, formal.kind)?;
+    let checks_shape = checker.is_array(formal.kind)
+        && !checker.is_subtype(draft.kind, formal.kind)?;
     Ok(Some(Actual::Place {
         formal: place,
         kind: formal.kind,

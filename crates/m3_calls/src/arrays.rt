@@ -151,10 +151,7 @@ fn open_array(checker: &mut Checker<'_, '_>, element: TypeId) -> Result<TypeId, 
     if let Some(kind) = checker.open.get(&element) {
         return Ok(*kind);
     }
-    let kind = checker
-        .declared
-        .types
-        .push(TypeNode::OpenArray(element))?;
+    let kind = checker.declared.types.push(TypeNode::OpenArray(element))?;
     checker.open.insert(element, kind)?;
     Ok(kind)
 }

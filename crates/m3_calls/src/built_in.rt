@@ -124,10 +124,7 @@ fn in_order<'a>(
 }
 
 /// A call of a routine as an operand.
-pub fn built<'a>(
-    checker: &Checker<'_, 'a>,
-    call: BuiltinCall<'a>,
-) -> Result<Thing<'a>, NoMemory> {
+pub fn built<'a>(checker: &Checker<'_, 'a>, call: BuiltinCall<'a>) -> Result<Thing<'a>, NoMemory> {
     let kept = &*checker.arena.try_alloc(call)?;
     match call.kind {
         Some(kind) => checker.value(CoreExpr::Builtin(kept), kind),

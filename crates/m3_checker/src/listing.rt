@@ -83,7 +83,11 @@ fn list_unit<'a>(
     unit: &Unit<'a>,
 ) -> Result<(), NoMemory> {
     for declaration in unit.declarations() {
-        if let Decl::Exception { exceptions: row, .. } = declaration {
+        if let Decl::Exception {
+            exceptions: row,
+            ..
+        } = declaration
+        {
             for exception in *row {
                 exceptions.push(exception_of(checker, unit, exception.name))?;
             }

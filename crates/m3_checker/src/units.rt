@@ -2,7 +2,7 @@ use crate::globals::given_unit;
 use crate::modules::check_module;
 use m3_base::{NoMemory, Refused, place_number};
 use m3_exprs::expression;
-use m3_operands::Checker;
+use m3_operands::{Checker, judge_declaration};
 use m3_stmts::{check_procedure, initial_value};
 use m3_syntax::{Decl, Unit, UnitKind, VarDecl};
 
@@ -36,6 +36,7 @@ fn check_constants(checker: &mut Checker<'_, '_>) -> Result<(), NoMemory> {
 
 fn check_unit<'a>(checker: &mut Checker<'_, 'a>, unit: &Unit<'a>) -> Result<(), NoMemory> {
     for declaration in unit.declarations() {
+        judge_declaration(checker, declaration);
         check_procedure(checker, None, declaration)?;
     }
     match unit.kind {

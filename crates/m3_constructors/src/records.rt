@@ -46,11 +46,13 @@ pub fn record_of<'a>(
     };
     add_parts(checker, &mut making, kind, fields, parts)?;
     add_defaults(checker, &mut making, written.pos, fields)?;
-    Ok(making.judged.make(CoreExpr::RecordOf {
-        pos: written.pos,
-        kind,
-        fields: into_bump_slice(making.row),
-    }))
+    Ok(
+        making.judged.make(CoreExpr::RecordOf {
+            pos: written.pos,
+            kind,
+            fields: into_bump_slice(making.row),
+        }),
+    )
 }
 
 fn fields_of<'a>(checker: &Checker<'_, 'a>, kind: TypeId) -> &'a [Field<'a>] {

@@ -75,6 +75,8 @@ pub struct Declarer<'p, 'a> {
     pub promises: Vec<Promise<'a>>,
     pub brands: Vec<BrandAt<'a>>,
     pub values: Vec<MethodValue<'a>>,
+    /// Whether the definitions of all types were worked out.
+    pub has_definitions: bool,
     /// The number of the next BRANDED without a text.
     pub occurrence: u32,
     /// The constants that types contain, by those of the program.
@@ -102,6 +104,7 @@ impl<'p, 'a> Declarer<'p, 'a> {
             promises: Vec::new(alloc),
             brands: Vec::new(alloc),
             values: Vec::new(alloc),
+            has_definitions: false,
             occurrence: 0,
             interned: IndexMap::new(alloc),
             busy: IndexMap::new(alloc),

@@ -27,7 +27,7 @@ impl<'a> Declarer<'_, 'a> {
         };
         self.eval.unit = revealed.unit;
         let kind = self.eval.type_of(written.kind)?;
-        if self.is_refused(kind) {
+        if kind == self.eval.declared.basic.refused {
             return None;
         }
         Some(Told {
@@ -39,24 +39,42 @@ impl<'a> Declarer<'_, 'a> {
         })
     }
 
-    /// Lists each reveal for the whole program and for each unit where it applies: its own, and if this
-    /// is an interface those that import or export it.
-    pub fn list_reveals(&mut self) -> Result<(), NoMemory> {
+    /// All revelations whose types weren't refused, in the order of units.
+    fn all_told(&mut self) -> Result<Vec<Told>, NoMemory> {
         let mut told = Vec::new(self.eval.alloc);
         for place in 0..self.eval.program.reveals.len() {
             if let Some(revealed) = self.eval.program.reveals.get(place).copied() {
                 if let Some(found) = self.told(&revealed) {
-                    self.reveal(TypeGraph::WHOLE_PROGRAM, &found)?;
                     told.push(found)?;
                 }
             }
         }
         told.sort_by_key(|found: &Told| found.unit)?;
+        Ok(told)
+    }
+
+    /// Lists each reveal for the whole program and for each unit where it applies: its own, and if this
+    /// is an interface those that import or export it.
+    pub fn list_reveals(&mut self) -> Result<(), NoMemory> {
+        let told = self.all_told()?;
+        for found in &told {
+            self.reveal(TypeGraph::WHOLE_PROGRAM, found)?;
+        }
+        self.list_in_views(&told)
+    }
+
+    /// Notes each reveal where it applies, before the definitions of all types are there.
+    pub fn note_reveals(&mut self) -> Result<(), NoMemory> {
+        let told = self.all_told()?;
+        self.list_in_views(&told)
+    }
+
+    fn list_in_views(&mut self, told: &[Told]) -> Result<(), NoMemory> {
         for unit in 0..self.eval.program.infos.len() {
             let seen = self.seen_units(unit)?;
             let view = place_number(unit)?;
             for other in &seen {
-                self.reveal_in(view, *other, &told)?;
+                self.reveal_in(view, *other, told)?;
             }
         }
         Ok(())
@@ -90,15 +108,27 @@ impl<'a> Declarer<'_, 'a> {
     }
 
     fn reveal(&mut self, view: u32, told: &Told) -> Result<(), NoMemory> {
-        if (told.opaque.0 as usize) >= self.eval.declared.types.nodes.len() {
-            return Ok(());
-        }
-        self.eval.declared.types.reveal(Reveal {
+        let reveal = Reveal {
             view,
             opaque: told.opaque,
             bound: told.kind,
             full: !told.is_partial,
-        })
+        };
+        if !self.has_definitions {
+            return self.note_reveal(&reveal);
+        }
+        if (told.opaque.0 as usize) >= self.eval.declared.types.nodes.len() {
+            return Ok(());
+        }
+        self.eval.declared.types.reveal(reveal)
+    }
+
+    fn note_reveal(&mut self, reveal: &Reveal) -> Result<(), NoMemory> {
+        let key = (reveal.view, reveal.opaque);
+        if reveal.full || !self.eval.early.contains_key(&key) {
+            self.eval.early.insert(key, *reveal)?;
+        }
+        Ok(())
     }
 
     /// Rule 45, reveal by reveal in the order of units and places.
@@ -106,8 +136,9 @@ impl<'a> Declarer<'_, 'a> {
         let mut told = Vec::new(self.eval.alloc);
         for place in 0..self.eval.program.reveals.len() {
             if let Some(revealed) = self.eval.program.reveals.get(place).copied() {
-                if let Some(found) = self.told(&revealed) {
-                    told.push(found)?;
+                match self.told(&revealed) {
+                    Some(found) if !self.is_refused(found.kind) => told.push(found)?,
+                    _ => {}
                 }
             }
         }

@@ -8,6 +8,7 @@ impl<'a> Declarer<'_, 'a> {
     /// Does all tasks: the definitions of types, then with the reveals of opaque types the constants and
     /// the types of variables.
     pub fn settle_all(&mut self) -> Result<(), NoMemory> {
+        self.note_reveals()?;
         for place in 0..self.plans.len() {
             if let Some(kind) = self.planned(place) {
                 self.attempt(Need::Node(kind))?;
@@ -18,6 +19,7 @@ impl<'a> Declarer<'_, 'a> {
                 self.settle(Need::Node(kind))?;
             }
         }
+        self.has_definitions = true;
         self.list_reveals()?;
         self.eval.is_complete = true;
         for place in 0..self.eval.program.binds.entities().len() {

@@ -16,7 +16,7 @@ use std::process::ExitCode;
 use std::rt::{Env, Files};
 use std::{env, fs, io};
 
-fn run(rt: &(impl Print + Env + Files + AllocGlobal)) -> io::Result<ExitCode> {
+fn run(rt: &(impl Print + Eprint + Env + Files + AllocGlobal)) -> io::Result<ExitCode> {
     let mut words = Vec::new(rt.alloc());
     for word in env::args(rt)?.skip(1) {
         words.push(word)?;

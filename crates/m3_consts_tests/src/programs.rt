@@ -26,7 +26,7 @@ pub fn read_files(rt: &(impl Files + AllocGlobal), names: &[String]) -> io::Resu
 
 /// Prints the refusal of some files as the command does; the status is 1 where there is one.
 pub fn build(
-    rt: &(impl Print + Files + AllocGlobal),
+    rt: &(impl Eprint + Files + AllocGlobal),
     names: &[String],
 ) -> io::Result<ExitCode> {
     let texts = read_files(rt, names)?;
@@ -41,13 +41,13 @@ pub fn build(
     match answer {
         Ok(()) => Ok(ExitCode::from(0)),
         Err(Refused::NoMemory) => {
-            println!(rt; "out of memory")?;
+            eprintln!(rt; "out of memory")?;
             Ok(ExitCode::from(7))
         }
         Err(Refused::Rule(refusal)) => {
             let told = told(rt.alloc(), sources.as_slice(), &refusal)?;
             let text = rule_text(refusal.rule).unwrap_or("");
-            println!(rt; "{told} {text}")?;
+            eprintln!(rt; "{told} {text}")?;
             Ok(ExitCode::from(1))
         }
     }

@@ -36,30 +36,41 @@ impl<'a> Evaluator<'_, 'a> {
                 return self.word_call(selector, pos, routine);
             }
         }
+        let result = self.result_of_call(pos, thing)?;
+        let is_callable = !matches!(result, Thing::Bad);
         let mut is_bad = false;
         for actual in *actuals {
-            if self.actual(actual)?.is_none() {
+            let at = actual_pos(actual);
+            let thing = self.argument(actual)?;
+            if let Thing::Type(_) = thing {
+                if !is_callable {
+                    continue;
+                }
+            }
+            if self.value_of(at, thing).is_none() {
                 is_bad = true;
             }
         }
-        if is_bad {
-            return Ok(Thing::Bad);
-        }
-        self.result_of_call(pos, thing)
+        if is_bad { Ok(Thing::Bad) } else { Ok(result) }
     }
 
     /// What an actual is worth as a value.
     #[cycle(expressions)]
     pub(crate) fn actual(&mut self, actual: &Actual<'a>) -> Result<Option<Worth<'a>>, NoMemory> {
+        let at = actual_pos(actual);
+        let thing = self.argument(actual)?;
+        Ok(self.value_of(at, thing))
+    }
+
+    /// What an actual is.
+    #[cycle(expressions)]
+    pub(crate) fn argument(&mut self, actual: &Actual<'a>) -> Result<Thing<'a>, NoMemory> {
         match actual {
-            Actual::Value(value) | Actual::Named(_, value) => self.expression(value),
-            Actual::Type(kind) => {
-                let pos = kind.pos();
-                match self.type_of(kind) {
-                    Some(kind) => Ok(self.value_of(pos, Thing::Type(kind))),
-                    None => Ok(None),
-                }
-            }
+            Actual::Value(value) | Actual::Named(_, value) => self.operand(value),
+            Actual::Type(kind) => match self.type_of(kind) {
+                Some(kind) => Ok(Thing::Type(kind)),
+                None => Ok(Thing::Bad),
+            },
         }
     }
 
@@ -69,10 +80,7 @@ impl<'a> Evaluator<'_, 'a> {
             Thing::Routine(id) => self.declared.kind_of(id),
             Thing::Method(signature) => Some(signature),
             Thing::Value(worth) => Some(worth.kind),
-            other => {
-                self.value_of(pos, other);
-                None
-            }
+            _ => None,
         };
         let Some(kind) = kind else {
             return Ok(Thing::Bad);
@@ -243,6 +251,14 @@ impl<'a> Evaluator<'_, 'a> {
             TypeNode::Constant(ConstValue::Procedure(procedure)) => Some(procedure),
             _ => None,
         }
+    }
+}
+
+/// The place of an actual's expression or type.
+pub(crate) fn actual_pos(actual: &Actual<'_>) -> Pos {
+    match actual {
+        Actual::Value(value) | Actual::Named(_, value) => value.pos(),
+        Actual::Type(kind) => kind.pos(),
     }
 }
 

@@ -6,7 +6,7 @@ use m3_base::{NoMemory, Pos, place_number};
 use m3_core::{Value, ValueId};
 use m3_declared::Declared;
 use m3_scopes::{EntityId, Program};
-use m3_types::{TypeId, TypeNode};
+use m3_types::{Reveal, TypeId, TypeNode};
 use std::alloc::Global;
 
 /// What has to be worked out: a constant, the type of a variable that names none, or the definition of
@@ -54,6 +54,8 @@ pub struct Evaluator<'p, 'a> {
     pub nilable: IndexSet<TypeId>,
     /// Whether the definitions of all types are there.
     pub is_complete: bool,
+    /// The reveals of opaque types by view, a full one where there is one.
+    pub early: IndexMap<(u32, TypeId), Reveal>,
     /// The fields, methods and formals of the types that were asked for one, by name.
     pub(crate) members: IndexMap<(TypeId, &'a [u8]), Member>,
     pub(crate) listed: IndexSet<TypeId>,
@@ -79,6 +81,7 @@ impl<'p, 'a> Evaluator<'p, 'a> {
             settled: IndexSet::new(alloc),
             nilable: IndexSet::new(alloc),
             is_complete: false,
+            early: IndexMap::new(alloc),
             members: IndexMap::new(alloc),
             listed: IndexSet::new(alloc),
         }

@@ -12,9 +12,17 @@ impl<'a> Evaluator<'_, 'a> {
         }
     }
 
+    /// The definition of a type that NIL doesn't belong to; of another nothing is lacking.
+    pub(crate) fn plain(&mut self, kind: TypeId) -> Result<TypeNode<'a>, NoMemory> {
+        if self.nilable.contains(&kind) {
+            return Ok(TypeNode::Reserved);
+        }
+        self.node(kind)
+    }
+
     pub fn is_ordinal(&mut self, kind: TypeId) -> Result<bool, NoMemory> {
         Ok(matches!(
-            self.node(kind)?,
+            self.plain(kind)?,
             TypeNode::Integer
                 | TypeNode::Boolean
                 | TypeNode::Character
@@ -25,7 +33,7 @@ impl<'a> Evaluator<'_, 'a> {
 
     pub fn is_array(&mut self, kind: TypeId) -> Result<bool, NoMemory> {
         Ok(matches!(
-            self.node(kind)?,
+            self.plain(kind)?,
             TypeNode::FixedArray(_, _) | TypeNode::OpenArray(_)
         ))
     }
@@ -43,12 +51,12 @@ impl<'a> Evaluator<'_, 'a> {
 
     /// Whether a type's base is INTEGER.
     pub(crate) fn is_integer(&mut self, kind: TypeId) -> Result<bool, NoMemory> {
-        self.node(kind)?;
+        self.plain(kind)?;
         Ok(self.base_of(kind) == self.declared.basic.integer)
     }
 
     pub(crate) fn is_boolean(&mut self, kind: TypeId) -> Result<bool, NoMemory> {
-        self.node(kind)?;
+        self.plain(kind)?;
         Ok(self.base_of(kind) == self.declared.basic.boolean)
     }
 
@@ -69,8 +77,8 @@ impl<'a> Evaluator<'_, 'a> {
 
     /// Whether both are set types, and the same.
     pub(crate) fn are_sets(&mut self, a: TypeId, b: TypeId) -> Result<bool, NoMemory> {
-        let left = self.node(a)?;
-        let right = self.node(b)?;
+        let left = self.plain(a)?;
+        let right = self.plain(b)?;
         if let (TypeNode::SetOf(base), TypeNode::SetOf(other)) = (left, right) {
             self.node(base)?;
             self.node(other)?;
@@ -95,7 +103,25 @@ impl<'a> Evaluator<'_, 'a> {
 
     /// The structure that the unit sees of a type.
     pub fn seen(&self, kind: TypeId) -> Result<TypeId, NoMemory> {
-        structure(self.alloc, &self.declared.types, self.unit, kind)
+        if self.is_complete {
+            return structure(self.alloc, &self.declared.types, self.unit, kind);
+        }
+        Ok(self.seen_early(kind))
+    }
+
+    /// The same before the definitions of all types are there, and without choosing among partial reveals.
+    fn seen_early(&self, kind: TypeId) -> TypeId {
+        let mut kind = kind;
+        for _ in 0..self.declared.types.nodes.len() {
+            let TypeNode::Opaque(bound, _) = self.definition(kind) else {
+                return kind;
+            };
+            kind = match self.early.get(&(self.unit, kind)).copied() {
+                Some(reveal) => reveal.bound,
+                None => bound,
+            };
+        }
+        kind
     }
 
     /// Whether a value of one type can be assigned to another; none where this takes more than is known

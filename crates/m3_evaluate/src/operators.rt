@@ -171,7 +171,7 @@ impl<'a> Evaluator<'_, 'a> {
     }
 
     fn membership(&mut self, operands: &Operands<'a>) -> Result<Option<Worth<'a>>, NoMemory> {
-        let TypeNode::SetOf(base) = self.node(operands.right.kind)? else {
+        let TypeNode::SetOf(base) = self.plain(operands.right.kind)? else {
             return Ok(None);
         };
         if !self.share_base(operands.left.kind, base)? {

@@ -1,3 +1,4 @@
+use crate::calls::actual_pos;
 use crate::evaluator::Evaluator;
 use crate::worth::{Thing, Worth};
 use m3_base::{NoMemory, Pos};
@@ -67,21 +68,9 @@ impl<'a> Evaluator<'_, 'a> {
         };
         for (place, actual) in actuals.iter().enumerate() {
             let thing = self.argument(actual)?;
-            take(&mut given, place, thing, place_of(actual));
+            take(&mut given, place, thing, actual_pos(actual));
         }
         self.routine(pos, routine, &given)
-    }
-
-    /// What an actual of a predeclared routine is.
-    #[cycle(expressions)]
-    fn argument(&mut self, actual: &Actual<'a>) -> Result<Thing<'a>, NoMemory> {
-        match actual {
-            Actual::Value(value) | Actual::Named(_, value) => self.operand(value),
-            Actual::Type(kind) => match self.type_of(kind) {
-                Some(kind) => Ok(Thing::Type(kind)),
-                None => Ok(Thing::Bad),
-            },
-        }
     }
 
     /// NEW: a value of the type that it names, which is no constant. The bindings are judged with the
@@ -110,14 +99,6 @@ impl<'a> Evaluator<'_, 'a> {
 
     pub(crate) fn worth_of(&mut self, pos: Pos, thing: Thing<'a>) -> Option<Worth<'a>> {
         self.value_of(pos, thing)
-    }
-}
-
-fn place_of(actual: &Actual<'_>) -> Pos {
-    match actual {
-        Actual::Value(value) => value.pos(),
-        Actual::Named(name, _) => name.pos,
-        Actual::Type(kind) => kind.pos(),
     }
 }
 

@@ -100,13 +100,13 @@ impl<'a> Evaluator<'_, 'a> {
 
     /// `T.x`: a member of an enumeration, or a method of an object type as a procedure.
     fn type_member(&mut self, kind: TypeId, name: Name<'a>) -> Result<Thing<'a>, NoMemory> {
-        if let TypeNode::Enumeration(_) = self.node(kind)? {
+        if let TypeNode::Enumeration(_) = self.definition(kind) {
             return match self.own_member(kind, name.text)? {
                 Some(Member::Value(place)) => Ok(self.number(kind, i64::from(place))),
                 _ => Ok(Thing::Bad),
             };
         }
-        if !self.is_reference(kind)? {
+        if !self.nilable.contains(&kind) && !self.is_known_reference(kind) {
             return Ok(Thing::Bad);
         }
         let Some(found) = self.member(kind, name.text)? else {
@@ -121,12 +121,13 @@ impl<'a> Evaluator<'_, 'a> {
         }
     }
 
+    fn is_known_reference(&self, kind: TypeId) -> bool {
+        m3_types::is_reference_at(self.declared.types.nodes.as_slice(), kind.0 as usize)
+    }
+
     pub(crate) fn is_reference(&mut self, kind: TypeId) -> Result<bool, NoMemory> {
         self.node(kind)?;
-        Ok(m3_types::is_reference_at(
-            self.declared.types.nodes.as_slice(),
-            kind.0 as usize,
-        ))
+        Ok(self.is_known_reference(kind))
     }
 
     /// A field of a record, or a field or method of what a reference leads to.
@@ -136,7 +137,7 @@ impl<'a> Evaluator<'_, 'a> {
         worth: &Worth<'a>,
         name: Name<'a>,
     ) -> Result<Thing<'a>, NoMemory> {
-        if let TypeNode::Fields(_) = self.node(worth.kind)? {
+        if let TypeNode::Fields(_) = self.plain(worth.kind)? {
             return self.field(worth, name);
         }
         let seen = self.seen(worth.kind)?;

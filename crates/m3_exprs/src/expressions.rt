@@ -18,10 +18,7 @@ pub fn expression<'a>(
 }
 
 /// An expression that is assigned, returned, bound or given to something.
-pub fn given<'a>(
-    checker: &mut Checker<'_, 'a>,
-    value: &Expr<'a>,
-) -> Result<Given<'a>, NoMemory> {
+pub fn given<'a>(checker: &mut Checker<'_, 'a>, value: &Expr<'a>) -> Result<Given<'a>, NoMemory> {
     Ok(Given {
         pos: value.pos(),
         name: None,
@@ -32,10 +29,7 @@ pub fn given<'a>(
 
 /// What an expression is.
 #[cycle(expressions)]
-pub fn operand<'a>(
-    checker: &mut Checker<'_, 'a>,
-    value: &Expr<'a>,
-) -> Result<Thing<'a>, NoMemory> {
+pub fn operand<'a>(checker: &mut Checker<'_, 'a>, value: &Expr<'a>) -> Result<Thing<'a>, NoMemory> {
     match value {
         Expr::Missing { .. } => Ok(Thing::Bad),
         Expr::Name(name) => checker.name(*name),
@@ -74,10 +68,7 @@ pub fn operand<'a>(
 
 /// Operands with operators of one level, which group to the left.
 #[cycle(expressions)]
-fn operations<'a>(
-    checker: &mut Checker<'_, 'a>,
-    value: &Expr<'a>,
-) -> Result<Thing<'a>, NoMemory> {
+fn operations<'a>(checker: &mut Checker<'_, 'a>, value: &Expr<'a>) -> Result<Thing<'a>, NoMemory> {
     let Expr::Operations { pos, first, rest } = value else {
         return Ok(Thing::Bad);
     };
@@ -98,10 +89,7 @@ fn operations<'a>(
 
 /// An operand with selectors and calls behind it.
 #[cycle(expressions)]
-fn selected<'a>(
-    checker: &mut Checker<'_, 'a>,
-    value: &Expr<'a>,
-) -> Result<Thing<'a>, NoMemory> {
+fn selected<'a>(checker: &mut Checker<'_, 'a>, value: &Expr<'a>) -> Result<Thing<'a>, NoMemory> {
     let Expr::Selected {
         pos,
         operand: inner,
@@ -201,10 +189,7 @@ fn call_actual<'a>(
 
 /// `T {..}`.
 #[cycle(expressions)]
-fn constructed<'a>(
-    checker: &mut Checker<'_, 'a>,
-    value: &Expr<'a>,
-) -> Result<Thing<'a>, NoMemory> {
+fn constructed<'a>(checker: &mut Checker<'_, 'a>, value: &Expr<'a>) -> Result<Thing<'a>, NoMemory> {
     let Expr::Constructor {
         pos,
         kind,
@@ -230,10 +215,7 @@ fn constructed<'a>(
 }
 
 #[cycle(expressions)]
-fn part<'a>(
-    checker: &mut Checker<'_, 'a>,
-    element: &Element<'a>,
-) -> Result<Part<'a>, NoMemory> {
+fn part<'a>(checker: &mut Checker<'_, 'a>, element: &Element<'a>) -> Result<Part<'a>, NoMemory> {
     match element {
         Element::Value(value) => {
             let thing = operand(checker, value)?;

@@ -81,15 +81,13 @@ pub fn add_range<'a>(
     for member in set {
         row.push(*member)?;
     }
-    let mut member = first;
-    while member <= last {
+    for member in first..last {
         if !has(set, member) {
             row.push(member)?;
         }
-        if member == i64::MAX {
-            break;
-        }
-        member += 1;
+    }
+    if first <= last && !has(set, last) {
+        row.push(last)?;
     }
     row.sort_unstable();
     Ok(into_bump_slice(row))

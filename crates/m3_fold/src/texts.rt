@@ -31,7 +31,7 @@ pub fn spelled<'a>(arena: &'a Bump, text: &[u8]) -> Result<&'a [u8], NoMemory> {
         [b'"', inner @ ..] => inner,
         other => other,
     };
-    'bytes: loop {
+    'bytes: for _ in 0..text.len() {
         match rest {
             [] | [b'"', ..] => break 'bytes,
             [b'\\', first, second, third, ..] if octal(*first, *second, *third).is_some() => {

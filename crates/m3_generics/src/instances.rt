@@ -118,7 +118,9 @@ impl<'a> Expansion<'_, 'a> {
                 found: self.tables.generic_interface(generic.text),
             }),
             UnitKind::ModuleInstance {
-                generic, actuals, ..
+                generic,
+                actuals,
+                ..
             } => Some(Head {
                 generic,
                 actuals,

@@ -166,7 +166,11 @@ impl<'a> Checker<'_, 'a> {
 
     /// What an operand is as a value; what is no value is refused at the place of the operand, or of
     /// the call where it is one without result (rule 61).
-    pub fn value_of(&mut self, pos: Pos, thing: &Thing<'a>) -> Result<Option<Valued<'a>>, NoMemory> {
+    pub fn value_of(
+        &mut self,
+        pos: Pos,
+        thing: &Thing<'a>,
+    ) -> Result<Option<Valued<'a>>, NoMemory> {
         match thing {
             Thing::Bad => Ok(None),
             Thing::Value(value) => Ok(Some(*value)),

@@ -20,12 +20,7 @@ impl<'a> Checker<'_, 'a> {
     }
 
     /// A constant as an operand.
-    pub fn constant(
-        &self,
-        pos: Pos,
-        kind: TypeId,
-        value: ValueId,
-    ) -> Result<Thing<'a>, NoMemory> {
+    pub fn constant(&self, pos: Pos, kind: TypeId, value: ValueId) -> Result<Thing<'a>, NoMemory> {
         if self.is_refused(kind) {
             return Ok(Thing::Bad);
         }

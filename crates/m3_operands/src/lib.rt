@@ -5,14 +5,16 @@
 mod assigning;
 mod chains;
 mod checker;
-mod kinds;
 mod constants;
+mod kinds;
 mod members;
 mod names;
 mod things;
+mod type_names;
 mod types;
 mod views;
 
 pub use checker::{Checker, Held, Variable};
 pub use members::{Found, Member};
 pub use things::{Draft, Given, Method, State, Thing, Valued};
+pub use type_names::judge_declaration;

@@ -5,64 +5,10 @@ use bumpalo::collections::into_bump_slice;
 use m3_base::{NoMemory, Pos};
 use m3_core::CoreExpr;
 use m3_scopes::{EntityId, EntityKind, Predeclared};
-use m3_syntax::{Name, Qualid, TypeExp, TypeName};
+use m3_syntax::{Name, Qualid};
 use m3_types::{ConstId, ConstValue, Formal, Mode, TypeId, TypeNode};
 
 impl<'a> Checker<'_, 'a> {
-    /// The type that a type expression stands for; none where it was refused. A name that is no type is
-    /// refused (rule 60).
-    pub fn type_of(&mut self, kind: &TypeExp<'a>) -> Option<TypeId> {
-        let mut kind = kind;
-        'parentheses: loop {
-            match kind {
-                TypeExp::Parenthesis { inner, .. } => kind = inner,
-                _ => break 'parentheses,
-            }
-        }
-        let found = match kind {
-            TypeExp::Named(TypeName::Named(name)) => self.type_named(name),
-            TypeExp::Named(TypeName::Root(_)) => Some(self.declared.basic.root),
-            other => self.declared.type_at(self.unit, other.pos()),
-        };
-        self.unless_refused(found)
-    }
-
-    fn unless_refused(&self, found: Option<TypeId>) -> Option<TypeId> {
-        match found {
-            Some(kind) if !self.is_refused(kind) => Some(kind),
-            _ => None,
-        }
-    }
-
-    fn type_named(&mut self, name: &Qualid<'a>) -> Option<TypeId> {
-        let pos = name.first.pos;
-        let Some(id) = self.qualid(name) else {
-            self.note(pos, 60);
-            return None;
-        };
-        let kind = match self.program.binds.entity(id) {
-            Some(entity) => entity.kind,
-            None => EntityKind::Unknown,
-        };
-        match kind {
-            EntityKind::Type | EntityKind::Opaque => self.declared.type_named(id),
-            EntityKind::Unknown => None,
-            EntityKind::Predeclared(Predeclared::Floating)
-            | EntityKind::Predeclared(Predeclared::LeftOut) => None,
-            EntityKind::Predeclared(name) => {
-                let found = self.predeclared_type(name);
-                if found.is_none() {
-                    self.note(pos, 60);
-                }
-                found
-            }
-            _ => {
-                self.note(pos, 60);
-                None
-            }
-        }
-    }
-
     /// The type that a predeclared name stands for, where it is one's.
     pub fn predeclared_type(&self, name: Predeclared) -> Option<TypeId> {
         let basic = self.declared.basic;

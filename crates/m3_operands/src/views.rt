@@ -31,11 +31,10 @@ impl<'a> Checker<'_, 'a> {
 
     /// What the unit knows best of an opaque type.
     fn unveiled(&self, opaque: TypeId, bound: TypeId) -> Result<TypeId, NoMemory> {
-        let found = self.declared.types.reveals_of(
-            self.alloc,
-            self.unit,
-            opaque.0 as usize,
-        )?;
+        let found = self
+            .declared
+            .types
+            .reveals_of(self.alloc, self.unit, opaque.0 as usize)?;
         self.best_of(found.as_slice(), opaque, bound)
     }
 
@@ -62,11 +61,10 @@ impl<'a> Checker<'_, 'a> {
 
     /// Whether a full reveal of an opaque type applies in the unit.
     pub fn is_unveiled(&self, opaque: TypeId) -> Result<bool, NoMemory> {
-        let found = self.declared.types.reveals_of(
-            self.alloc,
-            self.unit,
-            opaque.0 as usize,
-        )?;
+        let found = self
+            .declared
+            .types
+            .reveals_of(self.alloc, self.unit, opaque.0 as usize)?;
         Ok(self.has_full(found.as_slice(), opaque))
     }
 

@@ -115,10 +115,7 @@ pub fn initial_value<'a>(
     row: &VarDecl<'a>,
 ) -> Result<Option<(Valued<'a>, TypeId)>, NoMemory> {
     let value = match row.init {
-        Init::Typed(kind, value) => {
-            checker.type_of(kind);
-            value
-        }
+        Init::Typed(_, value) => value,
         Init::Untyped(value) => Some(value),
     };
     let Some(value) = value else {

@@ -5,7 +5,7 @@ use crate::variables::{declare_formals, declare_locals};
 use bumpalo::collections::into_bump_slice;
 use m3_base::{NoMemory, Pos};
 use m3_core::{CoreStmt, ProcDef};
-use m3_operands::Checker;
+use m3_operands::{Checker, judge_declaration};
 use m3_syntax::{Block, Decl, Name};
 use m3_types::{Raises, TypeId, TypeNode};
 
@@ -45,7 +45,10 @@ pub fn check_procedure<'a>(
 /// The type and the number of a procedure.
 fn known<'a>(checker: &Checker<'_, 'a>, name: Name<'a>) -> Option<(TypeId, u32)> {
     let id = checker.program.binds.at(checker.unit, name.pos)?;
-    Some((checker.declared.kind_of(id)?, checker.declared.procedure_number(id)?))
+    Some((
+        checker.declared.kind_of(id)?,
+        checker.declared.procedure_number(id)?,
+    ))
 }
 
 /// What is known of a procedure beside its body.
@@ -102,6 +105,7 @@ pub fn block<'a>(
 ) -> Result<CoreStmt<'a>, NoMemory> {
     let variables = declare_locals(checker, body, block.declarations)?;
     for declaration in block.declarations {
+        judge_declaration(checker, declaration);
         check_inner(checker, body.number, declaration)?;
     }
     let initial = initial_values(checker, block.declarations)?;
