@@ -1,3 +1,5 @@
+ghost use Rattle.m3_isa.specs.Instructions.{IsInstruction};
+
 use crate::machine::Machine;
 use crate::progress::Progress;
 use m3_base::{FaultKind, Outcome};
@@ -92,7 +94,7 @@ impl<'a, S: Store> Machine<'a, S> {
             return Ok(Progress::trap(1));
         };
         let i = *i;
-        self.instructions += 1;
+        self.instructions = self.instructions.wrapping_add(1);
         match i.op {
             Op::Put => self.put_text(i, out),
             Op::Putn => self.put_number(i, out),
@@ -101,7 +103,9 @@ impl<'a, S: Store> Machine<'a, S> {
         }
     }
 
-    fn act_silently(&mut self, i: Instr) -> Progress {
+    fn act_silently(&mut self, i: Instr) -> Progress
+        requires { IsInstruction i }
+    {
         match i.op {
             Op::Call => self.call(i.imm.cast_unsigned()),
             Op::Callr => self.call_behind(3, self.word(i.a)),

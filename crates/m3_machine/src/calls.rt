@@ -59,7 +59,7 @@ impl<'a, S: Store> Machine<'a, S> {
         let Some(caller) = self.image.containing(regs.pc) else {
             return Progress::trap(1);
         };
-        let argument = regs.fp.wrapping_add(u64::from(caller.body) + 3);
+        let argument = regs.fp.wrapping_add(u64::from(caller.body).wrapping_add(3));
         let Some(cell) = self.memory.load(argument) else {
             return Progress::trap(2);
         };

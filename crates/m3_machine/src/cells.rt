@@ -1,3 +1,5 @@
+ghost use Rattle.std.specs.Prelude.{◌≤◌};
+
 use crate::machine::Machine;
 use crate::progress::Progress;
 use m3_base::Outcome;
@@ -6,7 +8,9 @@ use m3_isa::{Instr, Words};
 
 impl<'a, S: Store> Machine<'a, S> {
     /// A new cell, after one collection where it doesn't fit at once.
-    pub(crate) fn make_cell(&mut self, kind: u32, words: u64) -> Result<u64, Outcome> {
+    pub(crate) fn make_cell(&mut self, kind: u32, words: u64) -> Result<u64, Outcome>
+        requires { 1 ≤ words }
+    {
         if let Some(cell) = self.memory.outside.heap.store.allocate(kind, words) {
             return Ok(cell);
         }
@@ -26,7 +30,7 @@ impl<'a, S: Store> Machine<'a, S> {
             Some(shape) if shape.kind() == 0 => shape.words(),
             _ => return Progress::trap(4),
         };
-        match self.make_cell(kind, u64::from(words)) {
+        match self.make_cell(kind, u64::from(words).max(1)) {
             Ok(cell) => self.give(i.a, cell),
             Err(outcome) => Progress::Ends(outcome),
         }
@@ -55,7 +59,7 @@ impl<'a, S: Store> Machine<'a, S> {
     fn write_sizes(&mut self, cell: u64) {
         for n in 0..self.sizes.len() {
             let size = self.sizes[n];
-            self.memory.store(cell.wrapping_add(1 + n as u64), size);
+            self.memory.store(cell.wrapping_add(1).wrapping_add(n as u64), size);
         }
     }
 

@@ -1,3 +1,5 @@
+ghost use Rattle.std.specs.Prelude.{◌≡◌};
+
 use crate::machine::Machine;
 use m3_base::{Entry, Outcome};
 use m3_heap::{Steps, Store};
@@ -11,15 +13,20 @@ impl<'a, S: Store> Machine<'a, S> {
         requires parts { blank.parts ≡ L.parts }
         requires whole { blank.parts ≡ 1 }
     {
+        if self.stuck {
+            return false;
+        }
         let mut steps = Steps::<L>::new(blank);
-        collect(
+        let done = collect(
             &mut self.memory.threads,
             &mut self.memory.outside.globals,
             &mut self.memory.outside.heap.store,
             &self.image,
             &mut self.room,
             &mut steps,
-        )
+        );
+        self.stuck = !done;
+        done
     }
 
     /// Collects the heap. False comes exactly where that ends in trap 9.
@@ -34,28 +41,39 @@ impl<'a, S: Store> Machine<'a, S> {
     /// The running thread stands at the instruction that it has come to.
     pub(crate) fn stand(&mut self) {
         let pc = self.regs().pc;
-        if let Some(i) = self.image.fetch(pc) {
-            let i = *i;
+        let Some(i) = self.image.fetch(pc) else {
+            return;
+        };
+        let i = *i;
+        if self.is_awake() && self.may_count() {
             self.memory.threads.stand(self.running, i);
         }
     }
 
-    fn choose(&mut self, to: Option<u64>) -> Option<u64> {
+    fn choose(&self, to: Option<u64>) -> Option<u64> {
+        if !self.may_count() {
+            return None;
+        }
         self.memory
             .threads
             .choose(to, self.running, &self.memory.outside)
     }
 
+    /// How a run ends that may pass no point more.
+    pub(crate) fn spent(&self) -> Outcome {
+        match self.choose(None) {
+            Some(_) => Outcome::Spent,
+            None => Outcome::Deadlock,
+        }
+    }
+
     /// Passes a point: an entry is taken, the heap is collected where it says so, and the thread that goes is
     /// chosen. Or the run ends here.
-    pub(crate) fn pass_point(&mut self, entry: Entry, last: u64) -> Option<Outcome> {
+    pub(crate) fn pass_point(&mut self, entry: Entry) -> Option<Outcome> {
         if self.choose(None).is_none() {
             return Some(Outcome::Deadlock);
         }
-        if self.points >= last {
-            return Some(Outcome::Spent);
-        }
-        self.points += 1;
+        self.points = self.points.wrapping_add(1);
         if entry.collect && !self.collect() {
             return Some(Outcome::Trap(9));
         }

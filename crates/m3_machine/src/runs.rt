@@ -25,8 +25,8 @@ fn later_entries(entries: &[Entry]) -> &[Entry] {
 
 impl<'a, S: Store> Machine<'a, S> {
     /// How many instructions a turn may have.
-    fn turn_limit(&self, stack: u64) -> u64 {
-        (stack + 1) * self.image.code().len() as u64
+    fn turn_limit(&self) -> u64 {
+        (self.stack + 1) * u64::from(self.image.image().code_len())
     }
 
     /// Carries out plain instructions of the running thread, at most so many.
@@ -41,7 +41,7 @@ impl<'a, S: Store> Machine<'a, S> {
             most,
         );
         self.set_regs(regs);
-        self.instructions += u128::from(count);
+        self.instructions = self.instructions.wrapping_add(u128::from(count));
         (halt, count)
     }
 
@@ -64,14 +64,14 @@ impl<'a, S: Store> Machine<'a, S> {
 
     /// Goes on to the thread's next point instruction, to its end or to the run's.
     fn turn<O: Sink>(&mut self, out: &mut O) -> Result<Progress, SinkFailed> {
-        let mut left = self.turn_limit(self.stack);
+        let mut left = self.turn_limit();
         while left > 0 {
             let progress = self.act(out)?;
             if progress != Progress::Goes {
                 return Ok(progress);
             }
             let (halt, count) = self.go_plainly(left - 1);
-            left = left - 1 - count;
+            left = (left - 1).saturating_sub(count);
             if let Halt::Trapped(n) = halt {
                 return Ok(Progress::trap(n));
             }
@@ -92,10 +92,9 @@ impl<'a, S: Store> Machine<'a, S> {
         out: &mut O,
     ) -> Result<Outcome, SinkFailed>
     {
-        let last = self.points.saturating_add(points);
         let mut entries = schedule;
-        for _turn in 0..u64::MAX {
-            if let Some(outcome) = self.pass_point(first_entry(entries), last) {
+        for _point in 0..points {
+            if let Some(outcome) = self.pass_point(first_entry(entries)) {
                 return Ok(outcome);
             }
             entries = later_entries(entries);
@@ -103,6 +102,6 @@ impl<'a, S: Store> Machine<'a, S> {
                 return Ok(outcome);
             }
         }
-        Ok(Outcome::Spent)
+        Ok(self.spent())
     }
 }

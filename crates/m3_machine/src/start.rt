@@ -1,3 +1,5 @@
+ghost use Rattle.std.specs.Prelude.{◌≡◌, ◌≤◌, ◌<◌, [], false, length, IfOk};
+
 use crate::machine::Machine;
 use crate::memory::Memory;
 use crate::outside::Outside;
@@ -10,7 +12,9 @@ use m3_threads::Threads;
 use std::alloc::Global;
 
 /// The globals at the start: the header of the main thread's cell, of type 1 and four words, and zeros.
-fn first_globals(alloc: Global, words: u32) -> Result<Vec<u64>, NoMemory> {
+fn first_globals(alloc: Global, words: u32) -> Result<Vec<u64>, NoMemory>
+    ensures { IfOk result (λ v. length v.items ≡ words) }
+{
     let mut globals = vec![in alloc; 0u64; words as usize]?;
     if globals.len() > 0 {
         globals[0] = 1 + 4 * (1 << 32);
@@ -18,10 +22,12 @@ fn first_globals(alloc: Global, words: u32) -> Result<Vec<u64>, NoMemory> {
     Ok(globals)
 }
 
-fn constants_of(alloc: Global, image: &ImageView<'_>) -> Result<Vec<u64>, NoMemory> {
+fn constants_of(alloc: Global, image: &ImageView<'_>) -> Result<Vec<u64>, NoMemory>
+    ensures { IfOk result (λ v. length v.items < 4294967296) }
+{
     let mut constants = Vec::new(alloc);
-    for n in 0..image.constant_count() {
-        let Some(word) = image.constant(n as u32) else {
+    for n in 0..u32::MAX {
+        let Some(word) = image.constant(n) else {
             break;
         };
         constants.push(word)?;
@@ -60,6 +66,12 @@ impl<'a, S: Store> Machine<'a, S> {
         threads: u32,
     ) -> Result<Machine<'a, S>, NoMemory>
         where S: Drop
+        requires some { 1 ≤ threads }
+        requires few { threads ≤ 64 }
+        requires large { 1024 ≤ stack }
+        requires small { stack ≤ 1048576 }
+        requires empty { (S.heap store).cells ≡ [] }
+        requires closed { (S.heap store).is_open ≡ false }
     {
         let globals = first_globals(alloc, image.global_words())?;
         let constants = constants_of(alloc, &image)?;
@@ -86,6 +98,8 @@ impl<'a, S: Store> Machine<'a, S> {
             points: 0,
             instructions: 0,
             collections: 0,
+            made: 0,
+            stuck: false,
         };
         machine.stand();
         Ok(machine)

@@ -1,3 +1,5 @@
+ghost use Rattle.std.specs.Prelude.{◌≤◌};
+
 use crate::machine::Machine;
 use crate::progress::Progress;
 use m3_base::Outcome;
@@ -21,7 +23,9 @@ struct Part {
 }
 
 /// The words of a text of so many bytes and so many more.
-fn text_words(left: u64, right: u64) -> u64 {
+fn text_words(left: u64, right: u64) -> u64
+    ensures { 1 ≤ result }
+{
     2 + left / 8 + right / 8 + (left % 8 + right % 8).div_ceil(8)
 }
 
@@ -85,7 +89,9 @@ impl<'a, S: Store> Machine<'a, S> {
         self.memory.store(blank.start.wrapping_add(1), bytes);
     }
 
-    fn make_text(&mut self, words: u64) -> Result<Blank, Outcome> {
+    fn make_text(&mut self, words: u64) -> Result<Blank, Outcome>
+        requires { 1 ≤ words }
+    {
         let start = self.make_cell(0, words)?;
         Ok(Blank {
             start,
@@ -177,7 +183,7 @@ impl<'a, S: Store> Machine<'a, S> {
                 None => 0,
             };
             let bytes = word.to_le_bytes();
-            let left = (part.count - 8 * k).min(8) as usize;
+            let left = part.count.wrapping_sub(k.wrapping_mul(8)).min(8) as usize;
             out.put(&bytes[..left])?;
         }
         Ok(())

@@ -1,3 +1,6 @@
+ghost use Rattle.std.specs.Prelude.{◌≡◌};
+ghost use Rattle.m3_isa.specs.Instructions.{IsInstruction};
+
 use crate::machine::Machine;
 use crate::progress::Progress;
 use m3_base::Outcome;
@@ -16,7 +19,13 @@ fn told(done: Done) -> Progress {
 
 impl<'a, S: Store> Machine<'a, S> {
     /// Instructions on threads, mutexes, conditions and alerts.
-    pub(crate) fn act_on_threads(&mut self, i: Instr) -> Progress {
+    pub(crate) fn act_on_threads(&mut self, i: Instr) -> Progress
+        requires { IsInstruction i }
+    {
+        if !self.is_awake() || !self.may_count() {
+            return Progress::Rests;
+        }
+        self.made += 1;
         let running = self.running;
         let threads = &mut self.memory.threads;
         let outside = &mut self.memory.outside;
@@ -39,10 +48,21 @@ impl<'a, S: Store> Machine<'a, S> {
         }
     }
 
+    /// A thread stands at the instruction that it begins with.
+    fn stand_first(&mut self, thread: u64, first: u32) {
+        let Some(begins) = self.image.fetch(first) else {
+            return;
+        };
+        let begins = *begins;
+        if self.may_count() && self.memory.threads.status(thread).is_some() {
+            self.memory.threads.stand(thread, begins);
+        }
+    }
+
     /// FORK: a thread cell with the new thread's number, and the thread, which begins with procedure 1 and has
     /// the closure that register b holds.
     pub(crate) fn start_thread(&mut self, i: Instr) -> Progress {
-        if self.memory.threads.is_full() {
+        if !self.may_count() || self.memory.threads.is_full() {
             return Progress::Ends(Outcome::ThreadsFull);
         }
         let cell = match self.make_cell(1, 4) {
@@ -54,14 +74,15 @@ impl<'a, S: Store> Machine<'a, S> {
             None => 0,
         };
         let closure = self.word(i.b);
+        if !self.may_count() {
+            return Progress::Ends(Outcome::ThreadsFull);
+        }
+        self.made += 1;
         let Ok(number) = self.memory.threads.fork(first, closure, cell) else {
             return Progress::Ends(Outcome::ThreadsFull);
         };
         self.memory.store(cell.wrapping_add(1), number);
-        if let Some(begins) = self.image.fetch(first) {
-            let begins = *begins;
-            self.memory.threads.stand(number, begins);
-        }
+        self.stand_first(number, first);
         self.give(i.a, cell)
     }
 }
