@@ -32,6 +32,10 @@ fn instr(op: Op, a: u8, b: u8, imm: i32) -> Instr {
     }
 }
 
+fn target(number: u32) -> i32 {
+    i32::try_from(number).unwrap_or(i32::MAX)
+}
+
 fn empty_row(alloc: Global, instr: u32) -> RowPlain {
     RowPlain {
         instr,
@@ -74,9 +78,9 @@ impl Code {
         let uncaught = place_number(order.len().saturating_mul(2).saturating_add(1))?;
         for number in order {
             self.rows.push(empty_row(alloc, self.next()?))?;
-            let callee = (*number as i32).wrapping_add(2);
+            let callee = target(number.saturating_add(2));
             self.code.push(instr(Op::Call, 0, 0, callee))?;
-            self.code.push(instr(Op::Bnz, 1, 0, uncaught as i32))?;
+            self.code.push(instr(Op::Bnz, 1, 0, target(uncaught)))?;
         }
         self.code.push(instr(Op::Endp, 0, 0, 0))?;
         self.code.push(instr(Op::Addi, 1, 1, -1))?;
