@@ -88,10 +88,12 @@ impl Code {
         self.close(0, 3, 3)
     }
 
-    /// Procedure 1: a new thread calls `apply` of its closure, and ends with what that gives.
+    /// Procedure 1: a new thread calls `apply` of its closure, and ends with what that gives. Word 2 of its
+    /// frame is the thread's cell.
     fn add_thread(&mut self, alloc: Global) -> Result<(), NoMemory> {
         let first = self.next()?;
         let mut row = empty_row(alloc, first);
+        row.tidy.push(Location::Slot(2))?;
         row.arguments.push(Location::Slot(6))?;
         self.rows.push(row)?;
         self.code.push(instr(Op::Callm, 0, 0, 0))?;
