@@ -20,7 +20,7 @@ fn checked_op(operator: CheckedOperator) -> (Op, FaultKind) {
 
 impl<'a> Emitter<'a> {
     /// Where the run ends with a fault.
-    pub(crate) fn fault(
+    pub fn fault(
         &mut self,
         kind: FaultKind,
         pos: Pos,
@@ -62,7 +62,7 @@ impl<'a> Emitter<'a> {
     }
 
     /// The run ends with a fault.
-    pub(crate) fn put_fault(
+    pub fn put_fault(
         &mut self,
         kind: FaultKind,
         pos: Pos,
@@ -73,7 +73,7 @@ impl<'a> Emitter<'a> {
     }
 
     /// Goes on where the relation holds.
-    pub(crate) fn put_check(
+    pub fn put_check(
         &mut self,
         relation: Relation,
         left: Operand,
@@ -93,7 +93,7 @@ impl<'a> Emitter<'a> {
     }
 
     /// A checked operator. DivZero comes before Overflow.
-    pub(crate) fn put_checked(
+    pub fn put_checked(
         &mut self,
         to: u32,
         operator: CheckedOperator,

@@ -6,15 +6,15 @@ use m3_mid::{Operand, Relation};
 
 /// The blocks at which it goes on behind an If, and the block whose code follows.
 #[derive(Clone, Copy, Debug)]
-pub(crate) struct Fork {
-    pub(crate) yes: u32,
-    pub(crate) no: u32,
-    pub(crate) next: Option<u32>,
+pub struct Fork {
+    pub yes: u32,
+    pub no: u32,
+    pub next: Option<u32>,
 }
 
 impl<'a> Emitter<'a> {
     /// Goes on at a block.
-    pub(crate) fn put_goto(&mut self, to: u32, next: Option<u32>) -> Result<(), NoMemory> {
+    pub fn put_goto(&mut self, to: u32, next: Option<u32>) -> Result<(), NoMemory> {
         if next == Some(to) {
             return Ok(());
         }
@@ -30,7 +30,7 @@ impl<'a> Emitter<'a> {
 
     /// Goes on at one of two blocks. Where one of them follows, one branch does, if there is one that is taken
     /// in the other case.
-    pub(crate) fn put_if(
+    pub fn put_if(
         &mut self,
         relation: Relation,
         left: Operand,

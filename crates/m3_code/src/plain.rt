@@ -35,13 +35,13 @@ fn small_sum(operator: WordOperator, left: Operand, right: Operand) -> Option<(O
 }
 
 /// The number of a slot's word in the frame.
-pub(crate) fn word_of(slot: u32) -> u32 {
+pub fn word_of(slot: u32) -> u32 {
     slot.saturating_add(3)
 }
 
 impl<'a> Emitter<'a> {
     /// An instruction with two operands and a result.
-    pub(crate) fn put_binary(
+    pub fn put_binary(
         &mut self,
         op: Op,
         to: u32,
@@ -66,7 +66,7 @@ impl<'a> Emitter<'a> {
         self.settle(goal)
     }
 
-    pub(crate) fn put_arith(
+    pub fn put_arith(
         &mut self,
         to: u32,
         operator: WordOperator,
@@ -81,13 +81,13 @@ impl<'a> Emitter<'a> {
     }
 
     /// An instruction whose result is a number of its own.
-    pub(crate) fn put_address(&mut self, op: Op, to: u32, number: u32) -> Result<(), NoMemory> {
+    pub fn put_address(&mut self, op: Op, to: u32, number: u32) -> Result<(), NoMemory> {
         let goal = self.goal(to)?;
         self.put_word(op, goal.register, number)?;
         self.settle(goal)
     }
 
-    pub(crate) fn put_constant(&mut self, to: u32, value: i64) -> Result<(), NoMemory> {
+    pub fn put_constant(&mut self, to: u32, value: i64) -> Result<(), NoMemory> {
         match self.place_of(to) {
             Location::Register(register) => self.put_number(register, value),
             Location::Slot(word) => {
@@ -99,7 +99,7 @@ impl<'a> Emitter<'a> {
         }
     }
 
-    pub(crate) fn put_move(&mut self, to: u32, from: u32) -> Result<(), NoMemory> {
+    pub fn put_move(&mut self, to: u32, from: u32) -> Result<(), NoMemory> {
         let goal = self.place_of(to);
         if goal == self.place_of(from) {
             return Ok(());
@@ -124,7 +124,7 @@ impl<'a> Emitter<'a> {
         Ok((self.temp(base)?, offset))
     }
 
-    pub(crate) fn put_load(&mut self, to: u32, from: MemoryWord) -> Result<(), NoMemory> {
+    pub fn put_load(&mut self, to: u32, from: MemoryWord) -> Result<(), NoMemory> {
         match from {
             MemoryWord::Slot(slot) => {
                 let word = word_of(slot);
@@ -151,7 +151,7 @@ impl<'a> Emitter<'a> {
         self.settle(goal)
     }
 
-    pub(crate) fn put_store(&mut self, at: MemoryWord, from: Operand) -> Result<(), NoMemory> {
+    pub fn put_store(&mut self, at: MemoryWord, from: Operand) -> Result<(), NoMemory> {
         let register = self.operand(from)?;
         match at {
             MemoryWord::Slot(slot) => {
@@ -212,7 +212,7 @@ impl<'a> Emitter<'a> {
     }
 
     /// An address in an array.
-    pub(crate) fn put_index(
+    pub fn put_index(
         &mut self,
         to_array: (u32, u32),
         index: Operand,
@@ -289,7 +289,7 @@ impl<'a> Emitter<'a> {
         }
     }
 
-    pub(crate) fn put_copy(
+    pub fn put_copy(
         &mut self,
         to_address: u32,
         from_address: u32,
@@ -301,7 +301,7 @@ impl<'a> Emitter<'a> {
         self.put_abc(Op::Copy, a, b, c)
     }
 
-    pub(crate) fn put_fill(
+    pub fn put_fill(
         &mut self,
         at: u32,
         words: Operand,
@@ -314,7 +314,7 @@ impl<'a> Emitter<'a> {
     }
 
     /// EQW has its count in the register of its result.
-    pub(crate) fn put_equal_words(
+    pub fn put_equal_words(
         &mut self,
         to: u32,
         left: u32,
@@ -330,7 +330,7 @@ impl<'a> Emitter<'a> {
     }
 
     /// An instruction with an operand, a number and a result.
-    pub(crate) fn put_test(
+    pub fn put_test(
         &mut self,
         op: Op,
         to: u32,

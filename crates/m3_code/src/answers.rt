@@ -47,7 +47,7 @@ fn test_of(relation: Relation, left: Operand, right: Operand) -> Test {
 
 impl<'a> Emitter<'a> {
     /// Whether a relation holds, as 1 or 0.
-    pub(crate) fn put_compare(
+    pub fn put_compare(
         &mut self,
         to: u32,
         relation: Relation,

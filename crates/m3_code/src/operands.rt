@@ -15,14 +15,14 @@ fn halves_of(value: i64) -> (i32, i32) {
 /// Where the result of an operation goes: into a register, and from there to a word of the frame where that is
 /// its place.
 #[derive(Clone, Copy, Debug)]
-pub(crate) struct Goal {
-    pub(crate) register: u8,
-    pub(crate) word: Option<u32>,
+pub struct Goal {
+    pub register: u8,
+    pub word: Option<u32>,
 }
 
 impl<'a> Emitter<'a> {
     /// Puts a number into a register.
-    pub(crate) fn put_number(&mut self, register: u8, value: i64) -> Result<(), NoMemory> {
+    pub fn put_number(&mut self, register: u8, value: i64) -> Result<(), NoMemory> {
         if let Ok(imm) = i32::try_from(value) {
             return self.put_imm(Op::Li, register, 0, imm);
         }
@@ -32,7 +32,7 @@ impl<'a> Emitter<'a> {
     }
 
     /// A register that holds a number.
-    pub(crate) fn number(&mut self, value: i64) -> Result<u8, NoMemory> {
+    pub fn number(&mut self, value: i64) -> Result<u8, NoMemory> {
         if let Some(register) = self.find(Content::Number(value)) {
             return Ok(register);
         }
@@ -43,7 +43,7 @@ impl<'a> Emitter<'a> {
     }
 
     /// A register that holds a temporary.
-    pub(crate) fn temp(&mut self, temp: u32) -> Result<u8, NoMemory> {
+    pub fn temp(&mut self, temp: u32) -> Result<u8, NoMemory> {
         match self.place_of(temp) {
             Location::Register(register) => Ok(register),
             Location::Slot(word) => {
@@ -59,7 +59,7 @@ impl<'a> Emitter<'a> {
     }
 
     /// A register that holds an operand.
-    pub(crate) fn operand(&mut self, operand: Operand) -> Result<u8, NoMemory> {
+    pub fn operand(&mut self, operand: Operand) -> Result<u8, NoMemory> {
         match operand {
             Operand::Temp(temp) => self.temp(temp),
             Operand::Number(value) => self.number(value),
@@ -67,7 +67,7 @@ impl<'a> Emitter<'a> {
     }
 
     /// A register that holds the address of the first global word.
-    pub(crate) fn globals(&mut self) -> Result<u8, NoMemory> {
+    pub fn globals(&mut self) -> Result<u8, NoMemory> {
         if let Some(register) = self.find(Content::Globals) {
             return Ok(register);
         }
@@ -78,7 +78,7 @@ impl<'a> Emitter<'a> {
     }
 
     /// Puts an operand into one register, whatever that held.
-    pub(crate) fn load_into(&mut self, register: u8, operand: Operand) -> Result<(), NoMemory> {
+    pub fn load_into(&mut self, register: u8, operand: Operand) -> Result<(), NoMemory> {
         match operand {
             Operand::Number(value) => self.put_number(register, value),
             Operand::Temp(temp) => match self.place_of(temp) {
@@ -91,7 +91,7 @@ impl<'a> Emitter<'a> {
         }
     }
 
-    pub(crate) fn move_into(&mut self, to: u8, from: u8) -> Result<(), NoMemory> {
+    pub fn move_into(&mut self, to: u8, from: u8) -> Result<(), NoMemory> {
         if to == from {
             Ok(())
         } else {
@@ -101,7 +101,7 @@ impl<'a> Emitter<'a> {
 
     /// The register in which the result for a temporary is to come about, by one instruction, which reads all
     /// its registers before.
-    pub(crate) fn goal(&mut self, to: u32) -> Result<Goal, NoMemory> {
+    pub fn goal(&mut self, to: u32) -> Result<Goal, NoMemory> {
         match self.place_of(to) {
             Location::Register(register) => Ok(Goal {
                 register,
@@ -115,7 +115,7 @@ impl<'a> Emitter<'a> {
     }
 
     /// Brings a result to its place.
-    pub(crate) fn settle(&mut self, goal: Goal) -> Result<(), NoMemory> {
+    pub fn settle(&mut self, goal: Goal) -> Result<(), NoMemory> {
         if let Some(word) = goal.word {
             self.put_word(Op::Sts, goal.register, word)?;
             self.forget_word(word);
@@ -125,7 +125,7 @@ impl<'a> Emitter<'a> {
     }
 
     /// Gives a temporary the word of a register, which may be that of another temporary.
-    pub(crate) fn give(&mut self, to: u32, from: u8) -> Result<(), NoMemory> {
+    pub fn give(&mut self, to: u32, from: u8) -> Result<(), NoMemory> {
         match self.place_of(to) {
             Location::Register(register) => self.move_into(register, from),
             Location::Slot(word) => {
