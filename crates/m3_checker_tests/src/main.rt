@@ -1,15 +1,17 @@
 //! Tries the checker on tables of cases. The first argument names a prelude of declarations, and each
 //! other one a table: a line in brackets says what the lines behind it are, and each of these has the number
 //! of the rule that it breaks, or `ok`, and a piece of a program with `@` at the place where it breaks
-//! the rule. Cases that come out otherwise are shown. The word `programs` and files behind it are
+//! the rule. Cases that come out otherwise are shown. The file `programs.txt` has
 //! programs of several files: a title behind `== `, the files behind `--- NAME`, and behind `>>> ` what
-//! they give.
+//! they give. The word `check` and files behind it in place of that print the refusal of these files.
 #![tactic(auto)]
 
 mod answers;
+mod files;
 mod pieces;
 mod programs;
 
+use files::check_files;
 use pieces::try_table;
 use programs::try_programs;
 use std::rt::{Env, Files};
@@ -21,7 +23,7 @@ fn run(rt: &(impl Print + Env + Files + AllocGlobal)) -> io::Result<()> {
         words.push(word)?;
     }
     match words.split_first() {
-        Some((first, names)) if first.as_str() == "programs" => try_all_programs(rt, names),
+        Some((first, names)) if first.as_str() == "check" => check_files(rt, names),
         Some((first, names)) => try_tables(rt, first, names),
         None => Ok(()),
     }
@@ -42,13 +44,6 @@ fn try_tables(
             let (cases, differing) = (tally.cases, tally.differing);
             println!(rt; "{name}: {cases} cases, {differing} come out otherwise")?;
         }
-    }
-    Ok(())
-}
-
-fn try_all_programs(rt: &(impl Print + Files + AllocGlobal), names: &[String]) -> io::Result<()> {
-    for name in names {
-        tell_programs(rt, name)?;
     }
     Ok(())
 }

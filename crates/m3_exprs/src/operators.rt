@@ -47,6 +47,7 @@ impl<'a> Row<'a> {
         };
         match operation(checker, operator, left, right.kind)? {
             Some((operator, kind)) => {
+                let right = self.fitted(checker, operator, left, &right)?;
                 self.kind = Some(kind);
                 self.rest.push(Operation {
                     operator,
@@ -61,6 +62,23 @@ impl<'a> Row<'a> {
             }
         }
         Ok(())
+    }
+
+    /// The right operand of an operator: where procedures are compared, NIL on either side is one.
+    fn fitted(
+        &mut self,
+        checker: &Checker<'_, 'a>,
+        operator: Operator,
+        left: TypeId,
+        right: &Valued<'a>,
+    ) -> Result<Valued<'a>, NoMemory> {
+        let Operator::Compare(_, Compared::Procedures) = operator else {
+            return Ok(*right);
+        };
+        if let (Some(first), true) = (self.first, self.rest.is_empty()) {
+            self.first = Some(checker.nil_as(&first, right.kind)?);
+        }
+        checker.nil_as(right, left)
     }
 
     /// The whole, whose first token stands at a place.

@@ -9,7 +9,7 @@ impl<'a> Checker<'_, 'a> {
     /// A value as one of a type that it is assignable to, with the check that this needs.
     pub fn converted(&self, value: &Valued<'a>, to: TypeId) -> Result<Valued<'a>, NoMemory> {
         if matches!(self.assign(value.kind, to)?, Assign::Yes) {
-            return Ok(*value);
+            return self.nil_as(value, to);
         }
         let check = if self.is_ordinal(to) {
             Conversion::Range
@@ -19,6 +19,24 @@ impl<'a> Checker<'_, 'a> {
             Conversion::Narrow
         };
         self.checked(value.expr.pos(), value, to, check)
+    }
+
+    /// A value, which is NIL of a type where it is NIL.
+    pub fn nil_as(&self, value: &Valued<'a>, to: TypeId) -> Result<Valued<'a>, NoMemory> {
+        match value.expr {
+            CoreExpr::Nil { pos, .. } => {
+                let nil = CoreExpr::Nil {
+                    pos: *pos,
+                    kind: to,
+                };
+                Ok(Valued {
+                    expr: self.keep(nil)?,
+                    kind: to,
+                    may_be_inner: false,
+                })
+            }
+            _ => Ok(*value),
+        }
     }
 
     /// A value with a check that faults at a place.
