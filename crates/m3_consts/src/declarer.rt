@@ -6,7 +6,7 @@ use m3_evaluate::{Assumed, Evaluator, Known, Need, Reason, Worth};
 use m3_gather::Gathered;
 use m3_scopes::EntityId;
 use m3_syntax::{Expr, Signature, TypeExp};
-use m3_types::{ConstId, TypeId};
+use m3_types::{ConstId, TypeId, TypeNode};
 use std::alloc::Global;
 
 const PHASE: u8 = 5;
@@ -230,7 +230,7 @@ impl<'p, 'a> Declarer<'p, 'a> {
         let Some((kind, known)) = self.constant(value)? else {
             return Ok(None);
         };
-        if to == self.eval.declared.basic.refused {
+        if self.was_refused(to) {
             return Ok(None);
         }
         let pos = value.pos();
@@ -255,6 +255,12 @@ impl<'p, 'a> Declarer<'p, 'a> {
                 Ok(None)
             }
         }
+    }
+
+    /// Whether a type was worked out and refused.
+    fn was_refused(&self, kind: TypeId) -> bool {
+        matches!(self.eval.definition(kind), TypeNode::Reserved)
+            && self.eval.settled.contains(&Need::Node(kind))
     }
 
     /// The text of a constant.

@@ -116,6 +116,21 @@ impl<'a> Declarer<'_, 'a> {
         Ok(())
     }
 
+    /// Whether an object type is a subtype of another type, which mostly stands among its ancestors.
+    fn is_object_below(&self, object: TypeId, above: TypeId) -> Result<bool, NoMemory> {
+        let mut at = object;
+        'ancestors: for _ in 0..self.eval.declared.types.nodes.len() {
+            if at == above {
+                return Ok(true);
+            }
+            match self.eval.definition(at) {
+                TypeNode::Object(_, parent, _, _, _) => at = parent,
+                _ => break 'ancestors,
+            }
+        }
+        self.eval.is_subtype(object, above)
+    }
+
     /// Whether a procedure can be a method of an object type: its first formal is by VALUE and takes the
     /// object, and the rest is a subtype of the method's signature.
     fn method_fits(
@@ -133,7 +148,7 @@ impl<'a> Declarer<'_, 'a> {
         if first.mode != Mode::Value {
             return Ok(false);
         }
-        if !self.is_refused(first.kind) && !self.eval.is_subtype(object, first.kind)? {
+        if !self.is_refused(first.kind) && !self.is_object_below(object, first.kind)? {
             return Ok(false);
         }
         let node = TypeNode::Procedure(rest, result, raises);

@@ -144,7 +144,11 @@ impl<'a> Declarer<'_, 'a> {
         self.eval.unit = plan.unit;
         let node = self.definition(&plan, kind)?;
         if let (true, Some(node)) = (self.has_all(), node) {
-            self.set(kind, node);
+            if binds_methods(&plan) {
+                self.eval.drafts.insert(kind, node)?;
+            } else {
+                self.set(kind, node);
+            }
         }
         Ok(())
     }
@@ -357,33 +361,69 @@ impl<'a> Declarer<'_, 'a> {
         };
         let brand = self.brand(part.brand)?;
         let fields = self.fields(part.fields)?;
-        let methods = self.methods(part, kind)?;
-        let overrides = self.overrides(part, kind)?;
-        Ok(Some(TypeNode::Object(brand, parent, fields, methods, overrides)))
+        let methods = self.methods(part)?;
+        Ok(Some(TypeNode::Object(brand, parent, fields, methods, &[])))
     }
 
-    fn methods(
-        &mut self,
-        part: &'a ObjectPart<'a>,
-        kind: TypeId,
-    ) -> Result<&'a [Method<'a>], NoMemory> {
-        let mut row = Vec::new(self.eval.arena);
+    /// The methods of a part, without what is bound to them.
+    fn methods(&self, part: &'a ObjectPart<'a>) -> Result<&'a [Method<'a>], NoMemory> {
+        let mut row: Vec<Method<'a>, &'a Bump> = Vec::new(self.eval.arena);
         for method in part.methods {
             let name = method.name;
             let signature = match self.eval.declared.type_at(self.eval.unit, name.pos) {
                 Some(signature) => signature,
                 None => self.eval.declared.basic.refused,
             };
-            let value = match method.default {
-                Some(default) => self.method_value(kind, name, Some(signature), default)?,
-                None => None,
-            };
-            let default = self.initial(value)?;
             row.push(Method {
                 name: name.text,
                 signature,
-                default,
+                default: None,
             })?;
+        }
+        Ok(into_bump_slice(row))
+    }
+
+    /// Works out what is bound to the methods of an object type, and so its whole definition.
+    pub fn make_methods(&mut self, kind: TypeId) -> Result<(), NoMemory> {
+        let (Some(plan), Some(draft)) = (
+            self.plans.get(&kind).copied(),
+            self.eval.drafts.get(&kind).copied(),
+        ) else {
+            return Ok(());
+        };
+        let (Written::Part(TypeExp::Object { parts, .. }, place), TypeNode::Object(brand, parent, fields, methods, _)) =
+            (plan.written, draft)
+        else {
+            return Ok(());
+        };
+        let Some(part) = parts.get(place as usize) else {
+            return Ok(());
+        };
+        self.eval.unit = plan.unit;
+        let methods = self.bound_methods(part, kind, methods)?;
+        let overrides = self.overrides(part, kind)?;
+        if self.has_all() {
+            self.set(kind, TypeNode::Object(brand, parent, fields, methods, overrides));
+        }
+        Ok(())
+    }
+
+    fn bound_methods(
+        &mut self,
+        part: &'a ObjectPart<'a>,
+        kind: TypeId,
+        methods: &'a [Method<'a>],
+    ) -> Result<&'a [Method<'a>], NoMemory> {
+        let mut row = Vec::new(self.eval.arena);
+        for (method, written) in methods.iter().zip(part.methods) {
+            let value = match written.default {
+                Some(default) => {
+                    self.method_value(kind, written.name, Some(method.signature), default)?
+                }
+                None => None,
+            };
+            let default = self.initial(value)?;
+            row.push(Method { default, ..*method })?;
         }
         Ok(into_bump_slice(row))
     }
@@ -434,6 +474,22 @@ impl<'a> Declarer<'_, 'a> {
         })?;
         Ok(found)
     }
+}
+
+/// Whether something is bound to the methods of an object type.
+fn binds_methods(plan: &Plan<'_>) -> bool {
+    let Written::Part(TypeExp::Object { parts, .. }, place) = plan.written else {
+        return false;
+    };
+    let Some(part) = parts.get(place as usize) else {
+        return false;
+    };
+    for method in part.methods {
+        if method.default.is_some() {
+            return true;
+        }
+    }
+    !part.overrides.is_empty()
 }
 
 fn add_fields<'a>(

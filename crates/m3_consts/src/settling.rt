@@ -19,6 +19,11 @@ impl<'a> Declarer<'_, 'a> {
                 self.settle(Need::Node(kind))?;
             }
         }
+        for place in 0..self.eval.drafts.len() {
+            if let Some(kind) = self.drafted(place) {
+                self.settle(Need::Methods(kind))?;
+            }
+        }
         self.has_definitions = true;
         self.list_reveals()?;
         self.eval.is_complete = true;
@@ -33,6 +38,13 @@ impl<'a> Declarer<'_, 'a> {
 
     fn planned(&self, place: usize) -> Option<TypeId> {
         match self.plans.get_index(place) {
+            Some((kind, _)) => Some(*kind),
+            None => None,
+        }
+    }
+
+    fn drafted(&self, place: usize) -> Option<TypeId> {
+        match self.eval.drafts.get_index(place) {
             Some((kind, _)) => Some(*kind),
             None => None,
         }
@@ -100,7 +112,7 @@ impl<'a> Declarer<'_, 'a> {
     fn refuse_task(&mut self, need: Need) {
         let at = match need {
             Need::Constant(id) | Need::Kind(id) => self.place_of(id),
-            Need::Node(kind) => match self.plans.get(&kind) {
+            Need::Node(kind) | Need::Methods(kind) => match self.plans.get(&kind) {
                 Some(plan) => Some((plan.unit, plan.pos)),
                 None => None,
             },
@@ -124,6 +136,7 @@ impl<'a> Declarer<'_, 'a> {
             Need::Constant(id) => self.make_constant(id)?,
             Need::Kind(id) => self.make_kind(id)?,
             Need::Node(kind) => self.make_node(kind)?,
+            Need::Methods(kind) => self.make_methods(kind)?,
         }
         if !self.has_all() {
             self.eval.declared.texts.truncate(texts);

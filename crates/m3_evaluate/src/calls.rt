@@ -1,4 +1,4 @@
-use crate::evaluator::Evaluator;
+use crate::evaluator::{Evaluator, Need};
 use crate::worth::{Known, Reason, Thing, Worth};
 use bumpalo::collections::into_bump_slice;
 use m3_base::{NoMemory, Pos};
@@ -211,7 +211,7 @@ impl<'a> Evaluator<'_, 'a> {
     fn method_value(&mut self, kind: TypeId, name: &'a [u8]) -> Result<Option<u32>, NoMemory> {
         let mut kind = kind;
         for _ in 0..self.declared.types.nodes.len() {
-            match self.node(kind)? {
+            match self.bound_node(kind)? {
                 TypeNode::Opaque(_, _) => match self.revealed(kind) {
                     Some(full) => kind = full,
                     None => return Ok(None),
@@ -236,6 +236,19 @@ impl<'a> Evaluator<'_, 'a> {
             }
         }
         Ok(None)
+    }
+
+    /// The definition of a type with what is bound to its methods.
+    fn bound_node(&mut self, kind: TypeId) -> Result<TypeNode<'a>, NoMemory> {
+        let node = self.node(kind)?;
+        if self.drafts.contains_key(&kind) {
+            self.lack(Need::Methods(kind))?;
+            return Ok(match self.declared.types.nodes.get(kind.0 as usize) {
+                Some(node) => *node,
+                None => TypeNode::Reserved,
+            });
+        }
+        Ok(node)
     }
 
     fn revealed(&self, kind: TypeId) -> Option<TypeId> {

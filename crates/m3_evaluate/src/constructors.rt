@@ -276,12 +276,12 @@ impl<'a> Evaluator<'_, 'a> {
                 let written = written as u128;
                 let has_all = written == count || is_filled && written < count;
                 parts.is_wrong = parts.is_wrong || !has_all;
-                let values = core::mem::replace(&mut parts.values, Vec::new(self.arena));
+                let values = std::mem::replace(&mut parts.values, Vec::new(self.arena));
                 Value::Array(into_bump_slice(values), u64::try_from(count).unwrap_or(u64::MAX))
             }
             TypeNode::OpenArray(_) => {
                 parts.is_wrong = parts.is_wrong || is_filled;
-                let values = core::mem::replace(&mut parts.values, Vec::new(self.arena));
+                let values = std::mem::replace(&mut parts.values, Vec::new(self.arena));
                 Value::Array(into_bump_slice(values), written as u64)
             }
             TypeNode::Fields(fields) => {

@@ -1,4 +1,4 @@
-use crate::members::Member;
+use crate::members::{Found, Member};
 use crate::worth::{Known, Reason, Thing, Worth};
 use bumpalo::Bump;
 use indexmap::{IndexMap, IndexSet};
@@ -9,13 +9,15 @@ use m3_scopes::{EntityId, Program};
 use m3_types::{Reveal, TypeId, TypeNode};
 use std::alloc::Global;
 
-/// What has to be worked out: a constant, the type of a variable that names none, or the definition of
-/// a type.
+/// What has to be worked out: a constant, the type of a variable that names none, the definition of a
+/// type, or what is bound to its methods.
 #[derive(Clone, Copy, Debug, PartialEq, Eq, Hash)]
 pub enum Need {
     Constant(EntityId),
     Kind(EntityId),
     Node(TypeId),
+    /// What is bound to the methods of an object type.
+    Methods(TypeId),
 }
 
 /// That a value of one type can be assigned to another, which is judged when all types are there.
@@ -50,6 +52,8 @@ pub struct Evaluator<'p, 'a> {
     pub assumed: Vec<Assumed>,
     /// What is worked out, also where it was refused.
     pub settled: IndexSet<Need>,
+    /// The definitions of object types to whose methods nothing is bound yet.
+    pub drafts: IndexMap<TypeId, TypeNode<'a>>,
     /// The types in the making that NIL belongs to.
     pub nilable: IndexSet<TypeId>,
     /// Whether the definitions of all types are there.
@@ -59,6 +63,8 @@ pub struct Evaluator<'p, 'a> {
     /// The fields, methods and formals of the types that were asked for one, by name.
     pub(crate) members: IndexMap<(TypeId, &'a [u8]), Member>,
     pub(crate) listed: IndexSet<TypeId>,
+    /// Members of object types that were found, by view.
+    pub(crate) found: IndexMap<(u32, TypeId, &'a [u8]), Option<Found>>,
 }
 
 impl<'p, 'a> Evaluator<'p, 'a> {
@@ -79,11 +85,13 @@ impl<'p, 'a> Evaluator<'p, 'a> {
             flaw: None,
             assumed: Vec::new(alloc),
             settled: IndexSet::new(alloc),
+            drafts: IndexMap::new(alloc),
             nilable: IndexSet::new(alloc),
             is_complete: false,
             early: IndexMap::new(alloc),
             members: IndexMap::new(alloc),
             listed: IndexSet::new(alloc),
+            found: IndexMap::new(alloc),
         }
     }
 
@@ -118,6 +126,13 @@ impl<'p, 'a> Evaluator<'p, 'a> {
     /// The definition of a type as it stands.
     pub fn definition(&self, kind: TypeId) -> TypeNode<'a> {
         match self.declared.types.nodes.get(kind.0 as usize) {
+            Some(TypeNode::Reserved) | None => self.draft(kind),
+            Some(node) => *node,
+        }
+    }
+
+    fn draft(&self, kind: TypeId) -> TypeNode<'a> {
+        match self.drafts.get(&kind) {
             Some(node) => *node,
             None => TypeNode::Reserved,
         }

@@ -10,6 +10,9 @@ pub enum Member {
     Value(u32),
 }
 
+/// How many ancestors are passed between two for which a member that was found is noted.
+const NOTED_EVERY: usize = 64;
+
 /// A member with the type that declares it.
 #[derive(Clone, Copy, Debug)]
 pub struct Found {
@@ -80,18 +83,34 @@ impl<'a> Evaluator<'_, 'a> {
 
     /// The newest member of this name of an object type and its ancestors, as the unit sees them.
     pub fn member(&mut self, kind: TypeId, name: &'a [u8]) -> Result<Option<Found>, NoMemory> {
+        let unit = self.unit;
+        let mut passed = Vec::new(self.alloc);
+        let mut found = None;
         let mut kind = kind;
-        for _ in 0..self.declared.types.nodes.len() {
+        'ancestors: for step in 0..self.declared.types.nodes.len() {
+            if let Some(known) = self.found.get(&(unit, kind, name)).copied() {
+                found = known;
+                break 'ancestors;
+            }
+            if step % NOTED_EVERY == 0 {
+                passed.push(kind)?;
+            }
             let owner = self.seen(kind)?;
             let TypeNode::Object(_, parent, _, _, _) = self.node(owner)? else {
-                return Ok(None);
+                break 'ancestors;
             };
             if let Some(member) = self.own_member(owner, name)? {
-                return Ok(Some(Found { owner, member }));
+                found = Some(Found { owner, member });
+                break 'ancestors;
             }
             kind = parent;
         }
-        Ok(None)
+        if self.is_complete {
+            for other in &passed {
+                self.found.insert((unit, *other, name), found)?;
+            }
+        }
+        Ok(found)
     }
 
     /// The type of a field, by the type that declares it.

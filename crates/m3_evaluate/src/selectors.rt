@@ -122,7 +122,17 @@ impl<'a> Evaluator<'_, 'a> {
     }
 
     fn is_known_reference(&self, kind: TypeId) -> bool {
-        m3_types::is_reference_at(self.declared.types.nodes.as_slice(), kind.0 as usize)
+        matches!(
+            self.definition(kind),
+            TypeNode::RefTo(_, _)
+                | TypeNode::Object(_, _, _, _, _)
+                | TypeNode::Opaque(_, _)
+                | TypeNode::Null
+                | TypeNode::RefAny
+                | TypeNode::Text
+                | TypeNode::Mutex
+                | TypeNode::Root
+        )
     }
 
     pub(crate) fn is_reference(&mut self, kind: TypeId) -> Result<bool, NoMemory> {
