@@ -45,7 +45,8 @@ impl<'a> Checker<'_, 'a> {
         })
     }
 
-    /// The finished chain.
+    /// The finished chain. Its steps stay in the checker's list, since a chain that was begun meanwhile has
+    /// its own behind them.
     pub fn finish(
         &mut self,
         draft: &Draft<'a>,
@@ -62,9 +63,6 @@ impl<'a> Checker<'_, 'a> {
         kind: Option<TypeId>,
     ) -> Result<&'a Chain<'a>, NoMemory> {
         let steps = self.steps_of(draft, last)?;
-        if self.steps.len() == draft.end {
-            self.steps.truncate(draft.start);
-        }
         let chain = self.arena.try_alloc(Chain {
             pos: draft.pos,
             base: **draft.base,

@@ -1,0 +1,215 @@
+use crate::branches::Fork;
+use crate::calls::Passed;
+use crate::emitter::Emitter;
+use crate::part::Places;
+use m3_base::NoMemory;
+use m3_isa::Op;
+use m3_mid::{End, MidOp};
+
+impl<'a> Emitter<'a> {
+    /// An operation without a point.
+    fn put_plain(&mut self, op: MidOp<'a>, next: Option<MidOp<'a>>) -> Result<(), NoMemory> {
+        match op {
+            MidOp::Number { to, value } => self.put_constant(to, value),
+            MidOp::Move { to, from } => self.put_move(to, from),
+            MidOp::Arith {
+                to,
+                operator,
+                left,
+                right,
+            } => self.put_arith(to, operator, left, right),
+            MidOp::Compare {
+                to,
+                relation,
+                left,
+                right,
+            } => self.put_compare(to, relation, left, right),
+            MidOp::Load { to, from } => self.put_load(to, from),
+            MidOp::Store { at, from } => self.put_store(at, from),
+            MidOp::Index {
+                to,
+                array,
+                index,
+                words,
+                offset,
+            } => self.put_index((to, array), index, words, offset, next),
+            _ => self.put_rest(op),
+        }
+    }
+
+    /// An operation on an address or on several words.
+    fn put_rest(&mut self, op: MidOp<'a>) -> Result<(), NoMemory> {
+        match op {
+            MidOp::SlotAddress { to, slot } => {
+                self.put_address(Op::Slot, to, crate::plain::word_of(slot))
+            }
+            MidOp::FrameAddress { to } => self.put_address(Op::Slot, to, 0),
+            MidOp::GlobalAddress { to, word } => self.put_address(Op::Glb, to, word),
+            MidOp::TextCell { to, text } => {
+                let at = self.links.texts.get(text as usize).copied().unwrap_or(0);
+                self.put_address(Op::Con, to, at)
+            }
+            MidOp::ConstantAddress { to, constant } => {
+                let at = self
+                    .links
+                    .constants
+                    .get(constant as usize)
+                    .copied()
+                    .unwrap_or(0);
+                self.put_address(Op::Con, to, at)
+            }
+            MidOp::Copy {
+                to_address,
+                from_address,
+                words,
+            } => self.put_copy(to_address, from_address, words),
+            MidOp::Fill {
+                at,
+                words,
+                distance,
+            } => self.put_fill(at, words, distance),
+            _ => self.put_cell_test(op),
+        }
+    }
+
+    /// An operation that asks for something about words or cells.
+    fn put_cell_test(&mut self, op: MidOp<'a>) -> Result<(), NoMemory> {
+        use m3_mid::Operand;
+        match op {
+            MidOp::EqualWords {
+                to,
+                left,
+                right,
+                words,
+            } => self.put_equal_words(to, left, right, words),
+            MidOp::TypeTest { to, cell, tested } => self.put_test(Op::Subt, to, cell, tested),
+            MidOp::MethodOf { to, object, method } => self.put_test(Op::Meth, to, object, method),
+            MidOp::TextByte { to, text, index } => {
+                self.put_binary(Op::Tget, to, Operand::Temp(text), index)
+            }
+            MidOp::EqualTexts { to, left, right } => {
+                self.put_binary(Op::Teq, to, Operand::Temp(left), Operand::Temp(right))
+            }
+            _ => Ok(()),
+        }
+    }
+
+    /// An operation with a point.
+    fn put_pointed(&mut self, op: MidOp<'a>, places: &mut Places) -> Result<(), NoMemory> {
+        match op {
+            MidOp::Call {
+                callee,
+                actuals,
+                result: outcome,
+                raised,
+                shown: _,
+            } => {
+                let mut passed = Passed {
+                    tidy: Vec::new(self.alloc),
+                    derived: Vec::new(self.alloc),
+                };
+                self.put_call(op, callee, actuals, outcome, raised, &mut passed)
+            }
+            MidOp::Make {
+                to, cell, sizes, ..
+            } => self.put_make(op, to, cell, sizes),
+            MidOp::Service {
+                service,
+                operands,
+                to,
+                raised,
+                pos,
+                shown: _,
+            } => self.put_service(op, service, operands, (to, raised), (pos, places)),
+            _ => self.put_point(op),
+        }
+    }
+
+    fn put_op(
+        &mut self,
+        op: MidOp<'a>,
+        next: Option<MidOp<'a>>,
+        places: &mut Places,
+    ) -> Result<(), NoMemory> {
+        match op {
+            MidOp::Checked {
+                to,
+                operator,
+                left,
+                right,
+                pos,
+            } => self.put_checked(to, operator, (left, right), pos, places),
+            MidOp::Check {
+                relation,
+                left,
+                right,
+                fault,
+                pos,
+            } => self.put_check(relation, left, right, (fault, pos), places),
+            _ if m3_flow::is_point(op) => self.put_pointed(op, places),
+            _ => self.put_plain(op, next),
+        }
+    }
+
+    /// The operations of a block. What one leaves to the next, the next takes.
+    pub(crate) fn put_ops(
+        &mut self,
+        ops: &'a [MidOp<'a>],
+        places: &mut Places,
+    ) -> Result<(), NoMemory> {
+        for (at, op) in ops.iter().enumerate() {
+            let fold = self.fold;
+            self.unpin();
+            if let Some(fold) = fold {
+                self.pin_register(fold.register);
+            }
+            let next = ops.get(at.saturating_add(1)).copied();
+            self.put_op(*op, next, places)?;
+            if fold.is_some() {
+                self.fold = None;
+            }
+        }
+        self.unpin();
+        Ok(())
+    }
+
+    /// The end of a block, behind which the code of another one follows.
+    pub(crate) fn put_end(
+        &mut self,
+        end: End,
+        targets: &[u32],
+        next: Option<u32>,
+        places: &mut Places,
+    ) -> Result<(), NoMemory> {
+        match end {
+            End::Goto(to) => self.put_goto(target(targets, to), next),
+            End::If {
+                relation,
+                left,
+                right,
+                yes,
+                no,
+            } => self.put_if(
+                relation,
+                left,
+                right,
+                Fork {
+                    yes: target(targets, yes),
+                    no: target(targets, no),
+                    next,
+                },
+            ),
+            End::Return { value } => self.put_return(value),
+            End::FaultAt { kind, pos } => self.put_fault(kind, pos, places),
+            End::Raise {
+                exception,
+                number,
+                tidy,
+            } => self.put_raise(exception, number, tidy),
+        }
+    }
+}
+
+pub(crate) fn target(targets: &[u32], block: u32) -> u32 {
+    targets.get(block as usize).copied().unwrap_or(block)
+}
