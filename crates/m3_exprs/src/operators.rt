@@ -52,7 +52,7 @@ impl<'a> Row<'a> {
                 self.rest.push(Operation {
                     operator,
                     pos,
-                    right: right.expr,
+                    right: right.core(),
                     kind,
                 })?;
             }
@@ -88,7 +88,7 @@ impl<'a> Row<'a> {
         };
         let expr = CoreExpr::Operations {
             pos,
-            first: first.expr,
+            first: first.core(),
             rest: into_bump_slice(self.rest),
         };
         checker.value(expr, kind)

@@ -18,19 +18,19 @@ impl<'a> Checker<'_, 'a> {
         } else {
             Conversion::Narrow
         };
-        self.checked(value.expr.pos(), value, to, check)
+        self.checked(value.core().pos(), value, to, check)
     }
 
     /// A value, which is NIL of a type where it is NIL.
     pub fn nil_as(&self, value: &Valued<'a>, to: TypeId) -> Result<Valued<'a>, NoMemory> {
-        match value.expr {
+        match value.core() {
             CoreExpr::Nil { pos, .. } => {
                 let nil = CoreExpr::Nil {
                     pos: *pos,
                     kind: to,
                 };
                 Ok(Valued {
-                    expr: self.keep(nil)?,
+                    kept: self.box_up(nil)?,
                     kind: to,
                     may_be_inner: false,
                 })
@@ -51,10 +51,10 @@ impl<'a> Checker<'_, 'a> {
             pos,
             kind: to,
             check,
-            operand: value.expr,
+            operand: value.core(),
         };
         Ok(Valued {
-            expr: self.keep(expr)?,
+            kept: self.box_up(expr)?,
             kind: to,
             may_be_inner: false,
         })
@@ -79,7 +79,7 @@ impl<'a> Checker<'_, 'a> {
         }
         if value.may_be_inner && self.is_procedure(value.kind) {
             let kind = value.kind;
-            return Ok(Some(self.checked(value.expr.pos(), &value, kind, Conversion::Nested)?));
+            return Ok(Some(self.checked(value.core().pos(), &value, kind, Conversion::Nested)?));
         }
         Ok(Some(self.converted(&value, to)?))
     }
