@@ -7,7 +7,7 @@ use std::io;
 pub fn try_large(rt: &(impl Print + AllocGlobal)) -> io::Result<Tally> {
     let alloc = rt.alloc();
     let mut tally = Tally::new();
-    tell(rt, &mut tally, "65,536 types", many_types(alloc, 65_536)?, "Main.m3:346:33: rule 90")?;
+    tell(rt, &mut tally, "65,536 types", many_types(alloc, 65_536)?, "Main.m3:346:708: rule 90")?;
     tell(rt, &mut tally, "65,535 types", many_types(alloc, 65_535)?, "ok")?;
     tell(rt, &mut tally, "65,536 procedures", many_procedures(alloc, 65_535)?, "Main.m3:1:1: rule 91")?;
     tell(rt, &mut tally, "65,535 procedures", many_procedures(alloc, 65_534)?, "ok")?;
