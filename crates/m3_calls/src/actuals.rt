@@ -157,6 +157,6 @@ fn by_value<'a>(
     Ok(Some(Actual::Value {
         formal: place,
         kind: formal.kind,
-        value: checker.converted(&value, formal.kind)?.expr,
+        value: checker.converted(&value, formal.kind)?.core(),
     }))
 }

@@ -26,7 +26,7 @@ pub fn abs<'a>(
         pos,
         kind,
         operators,
-        operand: value.expr,
+        operand: value.core(),
     };
     checker.value(expr, kind)
 }
@@ -75,7 +75,7 @@ pub fn extreme<'a>(
     } else {
         checker.base_of(left.kind)
     };
-    computed(checker, pos, routine, &[*left.expr, *right.expr], kind)
+    computed(checker, pos, routine, &[*left.core(), *right.core()], kind)
 }
 
 /// ORD of an ordinal (rule 68).
@@ -89,7 +89,7 @@ pub fn ord<'a>(
         return Ok(Thing::Bad);
     };
     let kind = checker.declared.basic.integer;
-    computed(checker, pos, Routine::Ord, &[*value.expr], kind)
+    computed(checker, pos, Routine::Ord, &[*value.core()], kind)
 }
 
 /// VAL of an integer and an ordinal type (rule 68).
@@ -111,7 +111,7 @@ pub fn val<'a>(
         return Ok(checker.bad(second.pos, 68));
     }
     let base = checker.base_of(kind);
-    let Thing::Value(value) = computed(checker, pos, Routine::Val, &[*value.expr], base)? else {
+    let Thing::Value(value) = computed(checker, pos, Routine::Val, &[*value.core()], base)? else {
         return Ok(Thing::Bad);
     };
     Ok(Thing::Value(checker.checked(pos, &value, kind, Conversion::Range)?))
@@ -173,7 +173,7 @@ fn changed<'a>(
         is_decrement,
         target,
         amount: match amount {
-            Some(value) => Some(value.expr),
+            Some(value) => Some(value.core()),
             None => None,
         },
     };

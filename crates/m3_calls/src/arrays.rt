@@ -124,8 +124,8 @@ pub fn subarray<'a>(
     let array = checker.finish_place(&draft)?;
     let base = Base::Subarray {
         array,
-        start: from.expr,
-        count: elements.expr,
+        start: from.core(),
+        count: elements.core(),
         kind,
     };
     part_of(checker, pos, &draft, base, kind)

@@ -125,9 +125,9 @@ fn in_order<'a>(
 
 /// A call of a routine as an operand.
 pub fn built<'a>(checker: &Checker<'_, 'a>, call: BuiltinCall<'a>) -> Result<Thing<'a>, NoMemory> {
-    let kept = &*checker.arena.try_alloc(call)?;
+    let kept = checker.box_up(call)?;
     match call.kind {
-        Some(kind) => checker.value(CoreExpr::Builtin(kept), kind),
+        Some(kind) => checker.value(CoreExpr::Builtin(&**kept), kind),
         None => Ok(Thing::Builtin(kept)),
     }
 }

@@ -41,7 +41,7 @@ pub fn bind_methods<'a>(
 
 /// The procedure constant that a value is.
 fn procedure_of(value: &Valued<'_>) -> Option<u32> {
-    match value.expr {
+    match value.core() {
         CoreExpr::Procedure { procedure, .. } => Some(*procedure),
         _ => None,
     }

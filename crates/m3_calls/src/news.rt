@@ -161,7 +161,7 @@ fn size<'a>(
             if !checker.is_integer(size.kind) {
                 checker.note(given.pos, 51);
             }
-            parts.sizes.push(*size.expr)?;
+            parts.sizes.push(*size.core())?;
         }
         None => parts.is_bad = true,
     }
@@ -222,7 +222,7 @@ fn bind_field<'a>(
         Some(value) => parts.bindings.push(Binding {
             owner: object,
             field,
-            value: value.expr,
+            value: value.core(),
         })?,
         None => parts.is_bad = true,
     }

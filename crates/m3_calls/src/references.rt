@@ -36,7 +36,7 @@ pub fn istype<'a>(
     let expr = CoreExpr::TypeTest {
         pos,
         kind,
-        operand: value.expr,
+        operand: value.core(),
         tested,
     };
     checker.value(expr, kind)

@@ -1,6 +1,7 @@
 ghost use Rattle.std.specs.Prelude.{◌<◌, All, length};
 
 use crate::globals::declare_globals;
+use crate::limits::judge_limits;
 use crate::listing::{Lists, list_all};
 use crate::units::check_units;
 use bumpalo::Bump;
@@ -38,7 +39,7 @@ fn check_program<'a>(
     let mut checker = Checker::new(alloc, arena, program, declared);
     let lists = check_all(&mut checker, sources)?;
     let types = SizedTypes::measure(alloc, checker.declared.types)?;
-    Ok(Core {
+    let core = Core {
         types,
         procs: lists.procs,
         globals: lists.globals,
@@ -48,7 +49,8 @@ fn check_program<'a>(
         values: lists.values,
         files: lists.files,
         alerted: lists.alerted,
-    })
+    };
+    within_limits(alloc, program, &lists, core)
 }
 
 /// Checks what a program's declarations declare, and lists what the checked program has.
@@ -60,4 +62,15 @@ fn check_all<'a>(
     check_units(checker)?;
     checker.least.check()?;
     Ok(list_all(checker, sources)?)
+}
+
+/// A checked program, if it is within the limits.
+fn within_limits<'a>(
+    alloc: Global,
+    program: &Program<'a>,
+    lists: &Lists<'a>,
+    core: Core<'a>,
+) -> Result<Core<'a>, Refused> {
+    judge_limits(alloc, program, lists, &core)?;
+    Ok(core)
 }

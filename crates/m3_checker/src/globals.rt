@@ -77,21 +77,33 @@ fn declare_global<'a>(
     number.checked_add(1).ok_or(NoMemory)
 }
 
-/// The module and interface variables, by their numbers.
-pub fn list_globals<'a>(checker: &mut Checker<'_, 'a>) -> Result<&'a [VarDef<'a>], NoMemory> {
-    let mut globals = Vec::new(checker.arena);
+/// The module and interface variables, by their numbers, and for each the number of its unit.
+#[derive(Drop)]
+struct Globals<'a> {
+    definitions: Vec<VarDef<'a>, &'a Bump>,
+    units: Vec<u32, &'a Bump>,
+}
+
+/// The module and interface variables, by their numbers, with the numbers of their units.
+pub fn list_globals<'a>(
+    checker: &mut Checker<'_, 'a>,
+) -> Result<(&'a [VarDef<'a>], &'a [u32]), NoMemory> {
+    let mut globals = Globals {
+        definitions: Vec::new(checker.arena),
+        units: Vec::new(checker.arena),
+    };
     for place in 0..checker.program.units.len() {
         checker.unit = place_number(place)?;
         if let Some(unit) = given_unit(checker, place) {
             list_unit(checker, &mut globals, &unit)?;
         }
     }
-    Ok(into_bump_slice(globals))
+    Ok((into_bump_slice(globals.definitions), into_bump_slice(globals.units)))
 }
 
 fn list_unit<'a>(
     checker: &Checker<'_, 'a>,
-    globals: &mut Vec<VarDef<'a>, &'a Bump>,
+    globals: &mut Globals<'a>,
     unit: &Unit<'a>,
 ) -> Result<(), NoMemory> {
     for declaration in unit.declarations() {
@@ -104,7 +116,7 @@ fn list_unit<'a>(
 
 fn list_rows<'a>(
     checker: &Checker<'_, 'a>,
-    globals: &mut Vec<VarDef<'a>, &'a Bump>,
+    globals: &mut Globals<'a>,
     unit: &Unit<'a>,
     rows: &[VarDecl<'a>],
 ) -> Result<(), NoMemory> {
@@ -118,7 +130,7 @@ fn list_rows<'a>(
 
 fn list_global<'a>(
     checker: &Checker<'_, 'a>,
-    globals: &mut Vec<VarDef<'a>, &'a Bump>,
+    globals: &mut Globals<'a>,
     unit: &Unit<'a>,
     name: Name<'a>,
     init: &Init<'a>,
@@ -126,7 +138,8 @@ fn list_global<'a>(
     let Some(kind) = kind_of_variable(checker, name) else {
         return Ok(());
     };
-    globals.push(VarDef {
+    globals.units.push(unit.pos.file)?;
+    globals.definitions.push(VarDef {
         unit: unit.name.text,
         name: name.text,
         kind: VarKind::Variable(kind),

@@ -1,10 +1,12 @@
 use crate::globals::list_globals;
 use bumpalo::Bump;
 use bumpalo::collections::into_bump_slice;
-use m3_base::{NoMemory, Source, place_number};
+use m3_base::{NoMemory, Pos, Source, place_number};
 use m3_core::{ExcDef, ProcDef, Value, VarDef};
+use m3_gather::{TypeAt, gather};
 use m3_operands::Checker;
 use m3_syntax::{Decl, Name, Unit};
+use m3_types::TypeId;
 
 /// The lists of a checked program.
 #[derive(Clone, Copy)]
@@ -17,6 +19,17 @@ pub struct Lists<'a> {
     pub values: &'a [Value<'a>],
     pub files: &'a [&'a [u8]],
     pub alerted: u32,
+    /// The number of the unit of each variable.
+    pub units: &'a [u32],
+    pub written: &'a [WrittenType],
+}
+
+/// A type expression that is more than a name: the number of its unit, its place, and its type.
+#[derive(Clone, Copy, Debug)]
+pub struct WrittenType {
+    pub unit: u32,
+    pub pos: Pos,
+    pub kind: TypeId,
 }
 
 /// Lists what the checked program has.
@@ -25,9 +38,12 @@ pub fn list_all<'a>(
     sources: &[Source<'a>],
 ) -> Result<Lists<'a>, NoMemory> {
     let exceptions = list_exceptions(checker)?;
+    let (globals, units) = list_globals(checker)?;
     Ok(Lists {
         procs: list_procedures(checker)?,
-        globals: list_globals(checker)?,
+        globals,
+        units,
+        written: list_types(checker)?,
         exceptions,
         texts: &*checker
             .arena
@@ -38,6 +54,38 @@ pub fn list_all<'a>(
             .try_alloc_slice_copy(checker.declared.values.as_slice())?,
         files: list_files(checker, sources)?,
         alerted: alerted_among(exceptions)?,
+    })
+}
+
+/// The type expressions of given units, as they stand in the text.
+fn list_types<'a>(checker: &Checker<'_, 'a>) -> Result<&'a [WrittenType], NoMemory> {
+    let gathered = gather(checker.alloc, checker.program)?;
+    written_among(checker, gathered.types.as_slice())
+}
+
+fn written_among<'a>(
+    checker: &Checker<'_, 'a>,
+    types: &[TypeAt<'a>],
+) -> Result<&'a [WrittenType], NoMemory> {
+    let mut written = Vec::new(checker.arena);
+    for found in types {
+        if let Some(kind) = written_type(checker, found) {
+            written.push(kind)?;
+        }
+    }
+    Ok(into_bump_slice(written))
+}
+
+fn written_type<'a>(checker: &Checker<'_, 'a>, found: &TypeAt<'a>) -> Option<WrittenType> {
+    let info = checker.program.infos.get(found.unit as usize)?;
+    if info.is_built_in {
+        return None;
+    }
+    let pos = found.kind.pos();
+    Some(WrittenType {
+        unit: info.number,
+        pos,
+        kind: checker.declared.type_at(found.unit, pos)?,
     })
 }
 

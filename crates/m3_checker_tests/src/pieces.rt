@@ -3,6 +3,51 @@ use m3_base::Source;
 use std::alloc::{AllocError, Global};
 use std::io;
 
+/// The pieces of a section that break no rule, tried together, each in a block of its own.
+#[derive(Drop)]
+struct Joined {
+    text: String,
+    pieces: u64,
+}
+
+impl Joined {
+    fn new(alloc: Global) -> Joined {
+        Joined {
+            text: String::new(alloc),
+            pieces: 0,
+        }
+    }
+
+    fn add(&mut self, piece: &str) -> Result<(), AllocError> {
+        self.text.push_str("BEGIN\n")?;
+        self.text.push_str(piece)?;
+        self.text.push_str("\nEND;\n")?;
+        self.pieces = self.pieces.saturating_add(1);
+        Ok(())
+    }
+
+    /// Tries the pieces so far, and counts them as right where all of them are.
+    fn finish(
+        self,
+        rt: &(impl Print + AllocGlobal),
+        tally: &mut Tally,
+        around: (&str, &str),
+    ) -> io::Result<()> {
+        if self.pieces == 0 {
+            return Ok(());
+        }
+        let is_right = try_piece(rt, around, "ok", self.text.as_str())?;
+        tally.count(is_right);
+        tally.cases = tally.cases.saturating_add(self.pieces.saturating_sub(1));
+        Ok(())
+    }
+}
+
+/// Whether pieces of a section are statements.
+fn are_statements(section: &str) -> bool {
+    section == "[statements]" || section == "[function]" || section == "[body]"
+}
+
 /// Tries each line of a table, in the module of a prelude.
 pub fn try_table(
     rt: &(impl Print + AllocGlobal),
@@ -10,17 +55,36 @@ pub fn try_table(
     content: &str,
 ) -> io::Result<Tally> {
     let mut tally = Tally::new();
-    let mut section = "";
-    for line in content.lines() {
-        if line.starts_with("[") {
-            section = line;
-        } else if !line.is_empty() && !line.starts_with("#") {
-            let (rule, piece) = line.split_once(" ").unwrap_or((line, ""));
-            let is_right = try_piece(rt, (prelude, section), rule, piece)?;
+    for section in content.split("\n[").skip(1) {
+        try_section(rt, &mut tally, prelude, section)?;
+    }
+    Ok(tally)
+}
+
+/// Tries the lines of a section, behind the rest of the line that names it.
+fn try_section(
+    rt: &(impl Print + AllocGlobal),
+    tally: &mut Tally,
+    prelude: &str,
+    content: &str,
+) -> io::Result<()> {
+    let (name, lines) = content.split_once("\n").unwrap_or((content, ""));
+    let section = format!(in rt.alloc(); "[{name}")?;
+    let around = (prelude, section.as_str());
+    let mut joined = Joined::new(rt.alloc());
+    for line in lines.lines() {
+        if line.is_empty() || line.starts_with("#") {
+            continue;
+        }
+        let (rule, piece) = line.split_once(" ").unwrap_or((line, ""));
+        if rule == "ok" && are_statements(section.as_str()) {
+            joined.add(piece)?;
+        } else {
+            let is_right = try_piece(rt, around, rule, piece)?;
             tally.count(is_right);
         }
     }
-    Ok(tally)
+    joined.finish(rt, tally, around)
 }
 
 /// Tries one piece.

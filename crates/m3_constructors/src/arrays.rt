@@ -23,7 +23,7 @@ pub fn array_of<'a>(
             judged.is_wrong = true;
         }
         match element_of(checker, element, part)? {
-            Some(value) => row.push(*value.expr)?,
+            Some(value) => row.push(*value.core())?,
             None => judged.is_bad = true,
         }
     }

@@ -115,7 +115,7 @@ fn add_field<'a>(
     match value {
         Some(value) => making.row.push(FieldValue {
             field,
-            value: value.expr,
+            value: value.core(),
         })?,
         None => making.judged.is_bad = true,
     }

@@ -42,13 +42,13 @@ fn element<'a>(
     let first = checker.assigned(&part.first, base)?;
     let Some(last) = &part.last else {
         return Ok(match first {
-            Some(only) => Some(SetElement::One(only.expr)),
+            Some(only) => Some(SetElement::One(only.core())),
             None => None,
         });
     };
     let last = checker.assigned(last, base)?;
     match (first, last) {
-        (Some(first), Some(last)) => Ok(Some(SetElement::Range(first.expr, last.expr))),
+        (Some(first), Some(last)) => Ok(Some(SetElement::Range(first.core(), last.core()))),
         _ => Ok(None),
     }
 }

@@ -47,11 +47,12 @@ impl<'a> Row<'a> {
         };
         match operation(checker, operator, left, right.kind)? {
             Some((operator, kind)) => {
+                let right = self.fitted(checker, operator, left, &right)?;
                 self.kind = Some(kind);
                 self.rest.push(Operation {
                     operator,
                     pos,
-                    right: right.expr,
+                    right: right.core(),
                     kind,
                 })?;
             }
@@ -63,6 +64,23 @@ impl<'a> Row<'a> {
         Ok(())
     }
 
+    /// The right operand of an operator: where procedures are compared, NIL on either side is one.
+    fn fitted(
+        &mut self,
+        checker: &Checker<'_, 'a>,
+        operator: Operator,
+        left: TypeId,
+        right: &Valued<'a>,
+    ) -> Result<Valued<'a>, NoMemory> {
+        let Operator::Compare(_, Compared::Procedures) = operator else {
+            return Ok(*right);
+        };
+        if let (Some(first), true) = (self.first, self.rest.is_empty()) {
+            self.first = Some(checker.nil_as(&first, right.kind)?);
+        }
+        checker.nil_as(right, left)
+    }
+
     /// The whole, whose first token stands at a place.
     pub fn finish(self, checker: &Checker<'_, 'a>, pos: Pos) -> Result<Thing<'a>, NoMemory> {
         let (Some(first), Some(kind)) = (self.first, self.kind) else {
@@ -70,7 +88,7 @@ impl<'a> Row<'a> {
         };
         let expr = CoreExpr::Operations {
             pos,
-            first: first.expr,
+            first: first.core(),
             rest: into_bump_slice(self.rest),
         };
         checker.value(expr, kind)

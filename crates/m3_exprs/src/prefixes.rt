@@ -80,7 +80,7 @@ fn prefixed<'a>(
         pos,
         kind,
         operators,
-        operand: value.expr,
+        operand: value.core(),
     };
     checker.value(expr, kind)
 }

@@ -211,7 +211,7 @@ fn element<'a>(
         checker.note(index.pos, 51);
     }
     let step = Step::Element {
-        index: value.expr,
+        index: value.core(),
         kind,
     };
     let part = checker.step(array, step, kind, array.state)?;

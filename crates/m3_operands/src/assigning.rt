@@ -9,7 +9,7 @@ impl<'a> Checker<'_, 'a> {
     /// A value as one of a type that it is assignable to, with the check that this needs.
     pub fn converted(&self, value: &Valued<'a>, to: TypeId) -> Result<Valued<'a>, NoMemory> {
         if matches!(self.assign(value.kind, to)?, Assign::Yes) {
-            return Ok(*value);
+            return self.nil_as(value, to);
         }
         let check = if self.is_ordinal(to) {
             Conversion::Range
@@ -18,7 +18,25 @@ impl<'a> Checker<'_, 'a> {
         } else {
             Conversion::Narrow
         };
-        self.checked(value.expr.pos(), value, to, check)
+        self.checked(value.core().pos(), value, to, check)
+    }
+
+    /// A value, which is NIL of a type where it is NIL.
+    pub fn nil_as(&self, value: &Valued<'a>, to: TypeId) -> Result<Valued<'a>, NoMemory> {
+        match value.core() {
+            CoreExpr::Nil { pos, .. } => {
+                let nil = CoreExpr::Nil {
+                    pos: *pos,
+                    kind: to,
+                };
+                Ok(Valued {
+                    kept: self.box_up(nil)?,
+                    kind: to,
+                    may_be_inner: false,
+                })
+            }
+            _ => Ok(*value),
+        }
     }
 
     /// A value with a check that faults at a place.
@@ -33,10 +51,10 @@ impl<'a> Checker<'_, 'a> {
             pos,
             kind: to,
             check,
-            operand: value.expr,
+            operand: value.core(),
         };
         Ok(Valued {
-            expr: self.keep(expr)?,
+            kept: self.box_up(expr)?,
             kind: to,
             may_be_inner: false,
         })
@@ -61,7 +79,7 @@ impl<'a> Checker<'_, 'a> {
         }
         if value.may_be_inner && self.is_procedure(value.kind) {
             let kind = value.kind;
-            return Ok(Some(self.checked(value.expr.pos(), &value, kind, Conversion::Nested)?));
+            return Ok(Some(self.checked(value.core().pos(), &value, kind, Conversion::Nested)?));
         }
         Ok(Some(self.converted(&value, to)?))
     }

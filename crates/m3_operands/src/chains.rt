@@ -113,7 +113,7 @@ impl<'a> Checker<'_, 'a> {
         };
         let chain = self.finish_with(draft, last, Some(kind))?;
         Ok(Valued {
-            expr: self.keep(CoreExpr::Chain(chain))?,
+            kept: self.box_up(CoreExpr::Chain(chain))?,
             kind,
             may_be_inner: draft.may_be_inner,
         })
@@ -146,7 +146,7 @@ impl<'a> Checker<'_, 'a> {
 
     /// A value as the beginning of a chain.
     pub fn begin(&self, pos: Pos, value: &Valued<'a>) -> Result<Draft<'a>, NoMemory> {
-        let draft = self.draft(pos, Base::Value(value.expr), value.kind, State::Value)?;
+        let draft = self.draft(pos, Base::Value(value.core()), value.kind, State::Value)?;
         Ok(Draft {
             may_be_inner: value.may_be_inner,
             ..draft

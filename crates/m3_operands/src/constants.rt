@@ -8,7 +8,7 @@ impl<'a> Checker<'_, 'a> {
     /// An expression as a value of a type.
     pub fn value(&self, expr: CoreExpr<'a>, kind: TypeId) -> Result<Thing<'a>, NoMemory> {
         Ok(Thing::Value(Valued {
-            expr: self.keep(expr)?,
+            kept: self.box_up(expr)?,
             kind,
             may_be_inner: false,
         }))

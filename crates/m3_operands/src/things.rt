@@ -7,10 +7,17 @@ use m3_types::TypeId;
 /// A value: its expression and its type.
 #[derive(Clone, Copy)]
 pub struct Valued<'a> {
-    pub expr: &'a CoreExpr<'a>,
+    pub kept: Kept<'a, CoreExpr<'a>>,
     pub kind: TypeId,
     /// Whether it is what a formal or a name of WITH holds, which may be a procedure inside another.
     pub may_be_inner: bool,
+}
+
+impl<'a> Valued<'a> {
+    /// The expression.
+    pub fn core(&self) -> &'a CoreExpr<'a> {
+        &**self.kept
+    }
 }
 
 /// A chain in the making: its steps are those of the checker's list from `start` to `end`.
@@ -65,7 +72,7 @@ pub enum Thing<'a> {
     Exception,
     /// A call without result.
     Call(Draft<'a>),
-    Builtin(&'a BuiltinCall<'a>),
+    Builtin(Kept<'a, BuiltinCall<'a>>),
     /// INC or DEC.
     Change(Pos, Kept<'a, CoreStmt<'a>>),
 }

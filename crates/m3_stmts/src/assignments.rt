@@ -56,13 +56,13 @@ pub fn stored<'a>(
     kind: TypeId,
     value: &Valued<'a>,
 ) -> CoreStmt<'a> {
-    let (value, is_checked) = match value.expr {
+    let (value, is_checked) = match value.core() {
         CoreExpr::Convert {
             check: Conversion::Shape,
             operand,
             ..
         } => (*operand, true),
-        _ => (value.expr, false),
+        _ => (value.core(), false),
     };
     CoreStmt::Assign {
         pos,
@@ -177,7 +177,10 @@ pub fn call_statement<'a>(
             let call = checker.finish(&draft, None)?;
             Ok(Some(CoreStmt::Call { pos, call }))
         }
-        Thing::Builtin(call) => Ok(Some(CoreStmt::Builtin { pos, call })),
+        Thing::Builtin(call) => Ok(Some(CoreStmt::Builtin {
+            pos,
+            call: &**call,
+        })),
         Thing::Change(_, statement) => Ok(Some(**statement)),
         _ => {
             checker.note(pos, 70);
@@ -200,7 +203,7 @@ pub fn eval<'a>(
     match checker.value_of(value.pos(), &thing)? {
         Some(value) => Ok(Some(CoreStmt::Eval {
             pos,
-            value: value.expr,
+            value: value.core(),
         })),
         None => Ok(None),
     }
@@ -229,7 +232,7 @@ pub fn give_back<'a>(
     match checker.assigned(&value, due)? {
         Some(value) => Ok(Some(CoreStmt::Return {
             pos,
-            value: Some(value.expr),
+            value: Some(value.core()),
         })),
         None => Ok(None),
     }

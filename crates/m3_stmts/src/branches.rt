@@ -79,7 +79,7 @@ pub fn choice<'a>(
     match value {
         Some(value) => Ok(Some(CoreStmt::Case {
             pos: *pos,
-            value: value.expr,
+            value: value.core(),
             branches: into_bump_slice(checked),
             otherwise,
         })),
@@ -128,7 +128,7 @@ pub fn type_choice<'a>(
     match value {
         Some(value) => Ok(Some(CoreStmt::TypeCase {
             pos: *pos,
-            value: value.expr,
+            value: value.core(),
             branches: into_bump_slice(checked),
             otherwise,
         })),

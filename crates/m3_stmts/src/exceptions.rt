@@ -78,7 +78,7 @@ fn argument_of<'a>(
     };
     match kind {
         Some(kind) if checker.fits(value.kind, kind)? => {
-            Ok(Some(Some(checker.converted(&value, kind)?.expr)))
+            Ok(Some(Some(checker.converted(&value, kind)?.core())))
         }
         _ => {
             checker.note(argument.pos(), 79);

@@ -20,7 +20,7 @@ pub fn condition<'a>(
         checker.note(value.pos(), 76);
         return Ok(None);
     }
-    Ok(Some(found.expr))
+    Ok(Some(found.core()))
 }
 
 /// The statements of a loop.
@@ -156,8 +156,8 @@ fn bounds_of<'a>(
     step: Option<Option<&'a CoreExpr<'a>>>,
 ) -> Option<Bounds<'a>> {
     Some(Bounds {
-        first: first?.expr,
-        last: last?.expr,
+        first: first?.core(),
+        last: last?.core(),
         step: step?,
     })
 }
@@ -194,7 +194,7 @@ fn step_of<'a>(
         return Ok(None);
     };
     if checker.is_integer(found.kind) {
-        Ok(Some(Some(found.expr)))
+        Ok(Some(Some(found.core())))
     } else {
         checker.note(pos, 75);
         Ok(None)

@@ -37,7 +37,7 @@ pub fn target<'a>(
     }
     match checker.value_of(value.pos(), &thing)? {
         Some(value) => Ok(Some(Target {
-            bound: Bound::Value(value.expr),
+            bound: Bound::Value(value.core()),
             kind: VarKind::Variable(value.kind),
             is_read_only: true,
         })),
