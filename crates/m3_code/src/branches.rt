@@ -37,26 +37,29 @@ impl<'a> Emitter<'a> {
         right: Operand,
         fork: Fork,
     ) -> Result<(), NoMemory> {
-        if fork.yes == fork.no {
-            return self.put_goto(fork.yes, fork.next);
+        let next = fork.next;
+        let yes = fork.yes;
+        let no = fork.no;
+        if yes == no {
+            return self.put_goto(yes, next);
         }
         let to_yes = branch_for(relation, left, right, true);
         let to_no = branch_for(relation, left, right, false);
-        let prefers_no = fork.next == Some(fork.yes);
+        let prefers_no = next == Some(yes);
         match (to_yes, to_no) {
             (Some(branch), None) => {
-                self.put_branch(branch, Target::Block(fork.yes))?;
-                self.put_goto(fork.no, fork.next)
+                self.put_branch(branch, Target::Block(yes))?;
+                self.put_goto(no, next)
             }
             (Some(branch), Some(_)) if !prefers_no => {
-                self.put_branch(branch, Target::Block(fork.yes))?;
-                self.put_goto(fork.no, fork.next)
+                self.put_branch(branch, Target::Block(yes))?;
+                self.put_goto(no, next)
             }
             (_, Some(branch)) => {
-                self.put_branch(branch, Target::Block(fork.no))?;
-                self.put_goto(fork.yes, fork.next)
+                self.put_branch(branch, Target::Block(no))?;
+                self.put_goto(yes, next)
             }
-            (None, None) => self.put_goto(fork.yes, fork.next),
+            (None, None) => self.put_goto(yes, next),
         }
     }
 }

@@ -53,6 +53,14 @@ pub struct Emitter<'a> {
     pub stubs: Vec<(u8, u32)>,
 }
 
+/// A number as an instruction holds it.
+pub fn imm_of(number: u32) -> Result<i32, NoMemory> {
+    match i32::try_from(number) {
+        Ok(imm) => Ok(imm),
+        Err(_) => Err(gap()),
+    }
+}
+
 /// The first register that no temporary has.
 pub const FIRST: u8 = 12;
 
@@ -106,7 +114,7 @@ impl<'a> Emitter<'a> {
 
     /// An instruction with a word of the frame.
     pub fn put_word(&mut self, op: Op, a: u8, word: u32) -> Result<(), NoMemory> {
-        let imm = i32::try_from(word).map_err(|_| gap())?;
+        let imm = imm_of(word)?;
         self.put_imm(op, a, 0, imm)
     }
 

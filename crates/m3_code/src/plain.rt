@@ -1,4 +1,4 @@
-use crate::emitter::{Emitter, Fold};
+use crate::emitter::{Emitter, Fold, imm_of};
 use m3_base::{NoMemory, gap};
 use m3_isa::{Instr, Op};
 use m3_mid::{MemoryWord, MidOp, Operand, WordOperator};
@@ -136,7 +136,7 @@ impl<'a> Emitter<'a> {
             MemoryWord::Environment => self.put_address(Op::Lds, to, 2),
             MemoryWord::Global(word) => {
                 let base = self.globals()?;
-                self.put_indirect(to, base, i32::try_from(word).map_err(|_| gap())?)
+                self.put_indirect(to, base, imm_of(word)?)
             }
             MemoryWord::At { base, offset } => {
                 let (register, offset) = self.address(base, offset)?;
@@ -162,7 +162,7 @@ impl<'a> Emitter<'a> {
             MemoryWord::Environment => self.put_word(Op::Sts, register, 2),
             MemoryWord::Global(word) => {
                 let base = self.globals()?;
-                let offset = i32::try_from(word).map_err(|_| gap())?;
+                let offset = imm_of(word)?;
                 self.put_imm(Op::St, register, base, offset)
             }
             MemoryWord::At { base, offset } => {
@@ -339,7 +339,7 @@ impl<'a> Emitter<'a> {
     ) -> Result<(), NoMemory> {
         let b = self.temp(from)?;
         let goal = self.goal(to)?;
-        let imm = i32::try_from(number).map_err(|_| gap())?;
+        let imm = imm_of(number)?;
         self.put(Instr {
             op,
             a: goal.register,

@@ -173,6 +173,18 @@ impl<'a> Writer<'a> {
         Ok(())
     }
 
+    /// Goes on at a block; a return that stands there alone takes no jump.
+    fn put_next(&mut self, to: u32, next: Option<u32>) -> Result<(), NoMemory> {
+        let p = self.emitter.placed.derived.proc;
+        if next != Some(to)
+            && m3_flow::ops_of(&p, to).is_empty()
+            && let End::Return { value } = m3_flow::end_of(&p, to)
+        {
+            return self.put_return(value);
+        }
+        self.emitter.put_goto(to, next)
+    }
+
     /// The end of a block, behind which the code of another one follows.
     pub(crate) fn put_end(
         &mut self,
@@ -182,7 +194,7 @@ impl<'a> Writer<'a> {
         places: &mut Places,
     ) -> Result<(), NoMemory> {
         match end {
-            End::Goto(to) => self.emitter.put_goto(target(targets, to), next),
+            End::Goto(to) => self.put_next(target(targets, to), next),
             End::If {
                 relation,
                 left,

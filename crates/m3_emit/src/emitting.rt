@@ -1,6 +1,6 @@
 use crate::blocks::target;
 use crate::writer::Writer;
-use m3_code::{Emitter, Target};
+use m3_code::{Emitter, Target, imm_of};
 use crate::part::Part;
 use m3_code::{Links, Places};
 use m3_code::word_of;
@@ -149,7 +149,7 @@ impl<'a> Writer<'a> {
                 Target::Block(block) => map.fronts.get(block as usize).copied(),
                 Target::Stub(stub) => map.stubs.get(stub as usize).copied(),
             };
-            let imm = i32::try_from(at.ok_or(gap())?).map_err(|_| gap())?;
+            let imm = imm_of(at.ok_or(gap())?)?;
             if let Some(item) = self.emitter.code.get_mut(*instr as usize) {
                 item.imm = imm;
             }

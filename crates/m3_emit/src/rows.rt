@@ -95,9 +95,13 @@ impl<'a> Writer<'a> {
             let way = self.way(*way)?;
             ways.push(way)?;
         }
+        let path = match derivation.path {
+            None => None,
+            Some(path) => Some(self.emitter.place_of(path)),
+        };
         Ok(DerivedPlain {
             location,
-            path: derivation.path.map(|path| self.emitter.place_of(path)),
+            path,
             ways,
         })
     }

@@ -1,6 +1,6 @@
 use crate::plans::Base;
 use crate::relevance::{from_temps, has_flag, set_flag};
-use crate::rows::kind_of;
+use crate::plans::kind_of;
 use crate::shapes::{Shape, Shapes};
 use crate::sources::{Setting, Term};
 use m3_base::{NoMemory, gap, place_number};

@@ -1,6 +1,6 @@
 use crate::plans::Base;
 use crate::relevance::{from_temps, has_flag};
-use crate::rows::kind_of;
+use crate::plans::kind_of;
 use crate::shapes::{Said, Shape, Shapes, moves_on, set_item};
 use crate::sources::{Setting, Source, Term};
 use bumpalo::Bump;

@@ -1,6 +1,6 @@
 use crate::plans::Base;
 use crate::relevance::has_flag;
-use crate::rows::kind_of;
+use crate::plans::kind_of;
 use crate::sources::{Setting, Source, Term};
 use bumpalo::Bump;
 use m3_base::{NoMemory, gap};
