@@ -1,4 +1,4 @@
-use crate::expressions::{expression, operand};
+use crate::expressions::{expression, operand_thing};
 use m3_base::{NoMemory, Pos};
 use m3_fold::WordRoutine;
 use m3_operate::{
@@ -48,7 +48,7 @@ pub fn call<'a>(
 
 /// What an actual is worth as a value.
 #[cycle(expressions)]
-fn actual<'a>(eval: &mut Evaluator<'_, 'a>, actual: &Actual<'a>) -> Result<Option<Worth<'a>>, NoMemory> {
+fn actual_worth<'a>(eval: &mut Evaluator<'_, 'a>, actual: &Actual<'a>) -> Result<Option<Worth<'a>>, NoMemory> {
     let at = actual_pos(actual);
     let thing = argument(eval, actual)?;
     Ok(eval.value_of(at, thing))
@@ -58,7 +58,7 @@ fn actual<'a>(eval: &mut Evaluator<'_, 'a>, actual: &Actual<'a>) -> Result<Optio
 #[cycle(expressions)]
 fn argument<'a>(eval: &mut Evaluator<'_, 'a>, actual: &Actual<'a>) -> Result<Thing<'a>, NoMemory> {
     match actual {
-        Actual::Value(value) | Actual::Named(_, value) => operand(eval, value),
+        Actual::Value(value) | Actual::Named(_, value) => operand_thing(eval, value),
         Actual::Type(kind) => match eval.type_of(kind) {
             Some(kind) => Ok(Thing::Type(kind)),
             None => Ok(Thing::Bad),
@@ -83,7 +83,7 @@ fn word_call<'a>(
     };
     let mut is_named = false;
     for (place, actual) in actuals.iter().enumerate() {
-        let worth = actual(eval, actual)?;
+        let worth = actual_worth(eval, actual)?;
         let Some(worth) = worth else {
             given.is_wrong = true;
             continue;
@@ -149,7 +149,7 @@ fn new_call<'a>(eval: &mut Evaluator<'_, 'a>, selector: &Selector<'a>, pos: Pos)
         if place == 0 {
             kind = argument(eval, actual)?;
         } else {
-            actual(eval, actual)?;
+            actual_worth(eval, actual)?;
         }
     }
     match kind {

@@ -3,7 +3,7 @@ use m3_base::{NoMemory, Pos};
 use m3_core::Value;
 use m3_operate::{
     Index, MOST_MEMBERS, Operands, Part, add_part, dereference, dot, element, negated, operate,
-    parts_for, whole,
+    parts_for, truth, whole,
 };
 use m3_syntax::{Element, Expr, Selector};
 use m3_types::TypeNode;
@@ -12,13 +12,13 @@ use m3_worth::{Evaluator, Known, Thing, Worth};
 /// What an expression is worth as a value.
 #[cycle(expressions)]
 pub fn expression<'a>(eval: &mut Evaluator<'_, 'a>, value: &Expr<'a>) -> Result<Option<Worth<'a>>, NoMemory> {
-    let thing = operand(eval, value)?;
+    let thing = operand_thing(eval, value)?;
     Ok(eval.value_of(value.pos(), thing))
 }
 
 /// What an expression is.
 #[cycle(expressions)]
-pub fn operand<'a>(eval: &mut Evaluator<'_, 'a>, value: &Expr<'a>) -> Result<Thing<'a>, NoMemory> {
+pub fn operand_thing<'a>(eval: &mut Evaluator<'_, 'a>, value: &Expr<'a>) -> Result<Thing<'a>, NoMemory> {
     let basic = eval.declared.basic;
     match value {
         Expr::Name(name) => eval.name(*name),
@@ -28,7 +28,7 @@ pub fn operand<'a>(eval: &mut Evaluator<'_, 'a>, value: &Expr<'a>) -> Result<Thi
             Some(cell) => Ok(eval.known(basic.text, Value::Text(cell))),
             None => Ok(Thing::Bad),
         },
-        Expr::Parenthesis { inner, .. } => operand(eval, inner),
+        Expr::Parenthesis { inner, .. } => operand_thing(eval, inner),
         Expr::Operations { .. } => operations(eval, value),
         Expr::Not { .. } => nots(eval, value),
         Expr::Signed { .. } => signed(eval, value),
@@ -127,7 +127,7 @@ pub fn selected<'a>(eval: &mut Evaluator<'_, 'a>, value: &Expr<'a>) -> Result<Th
     else {
         return Ok(Thing::Bad);
     };
-    let mut thing = operand(eval, operand)?;
+    let mut thing = operand_thing(eval, operand)?;
     for selector in *selectors {
         thing = select(eval, selector, *pos, thing)?;
     }

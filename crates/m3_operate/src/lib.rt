@@ -7,7 +7,7 @@ mod places;
 mod routines;
 mod words;
 
-pub use operators::{Operands, negated, operate};
+pub use operators::{Operands, negated, operate, truth};
 pub use parts::{MOST_MEMBERS, Part, Parts, add_part, parts_for, whole};
 pub use places::{Index, dereference, dot, element};
 pub use routines::{Given, has_name, limits, made, routine_result, take};

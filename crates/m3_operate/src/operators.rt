@@ -8,7 +8,7 @@ use m3_syntax::Operator;
 use m3_types::{TypeId, TypeNode};
 use m3_worth::{Evaluator, Known, Reason, Worth, both};
 
-fn truth<'a>(test: bool) -> Value<'a> {
+pub fn truth<'a>(test: bool) -> Value<'a> {
     Value::Number(if test { 1 } else { 0 })
 }
 
@@ -165,7 +165,7 @@ fn concatenation<'a>(eval: &mut Evaluator<'_, 'a>, operands: &Operands<'a>) -> R
         return Ok(None);
     }
     let value = match both(operands.left.value, operands.right.value) {
-        Ok((Value::Text(x), Value::Text(y))) => concatenated(eval, x, y)?,
+        Ok((Value::Text(x), Value::Text(y))) => new_text(eval, x, y)?,
         Ok((Value::Nil, _)) => Known::Varies(Reason {
             pos: operands.pos,
             rule: 43,
@@ -180,7 +180,7 @@ fn concatenation<'a>(eval: &mut Evaluator<'_, 'a>, operands: &Operands<'a>) -> R
 }
 
 /// A new cell with the bytes of two texts.
-fn concatenated<'a>(eval: &mut Evaluator<'_, 'a>, x: u32, y: u32) -> Result<Known<'a>, NoMemory> {
+fn new_text<'a>(eval: &mut Evaluator<'_, 'a>, x: u32, y: u32) -> Result<Known<'a>, NoMemory> {
     let left = eval.text(x);
     let right = eval.text(y);
     let bytes = concatenated(eval.arena, left, right)?;

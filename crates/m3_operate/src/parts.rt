@@ -26,9 +26,9 @@ pub struct Parts<'a> {
     pub is_named: bool,
 }
 
-impl<'a> Parts<'a> {
-    fn varies<'a>(eval: &mut Evaluator<'_, 'a>, reason: Reason) {
-        eval.reason = Some(match eval.reason {
+impl Parts<'_> {
+    fn varies(&mut self, reason: Reason) {
+        self.reason = Some(match self.reason {
             Some(other) => other.first(reason),
             None => reason,
         });

@@ -1,4 +1,5 @@
 use crate::places::is_reference;
+use bumpalo::Bump;
 use bumpalo::collections::into_bump_slice;
 use m3_base::{NoMemory, Pos};
 use m3_core::Value;
@@ -329,7 +330,15 @@ pub fn made<'a>(
     if overrides.is_empty() {
         return Ok(kind);
     }
-    let node = TypeNode::Object(None, kind, &[], &[], into_bump_slice(overrides));
+    let fields: Vec<Field<'a>, &'a Bump> = Vec::new(eval.arena);
+    let methods: Vec<Method<'a>, &'a Bump> = Vec::new(eval.arena);
+    let node = TypeNode::Object(
+        None,
+        kind,
+        into_bump_slice(fields),
+        into_bump_slice(methods),
+        into_bump_slice(overrides),
+    );
     Ok(eval.declared.types.push(node)?)
 }
 
@@ -361,11 +370,22 @@ fn procedure_named<'a>(eval: &Evaluator<'_, 'a>, value: &Expr<'a>) -> Option<u32
             _ => break 'parentheses,
         }
     }
-    let name = match value {
-        Expr::Name(name) => *name,
-        Expr::Selected { selectors: [Selector::Member(name)], .. } => *name,
+    let pos = match value {
+        Expr::Name(name) => name.pos,
+        Expr::Selected { selectors, .. } => member_pos(selectors)?,
         _ => return None,
     };
-    let id = eval.program.binds.at(eval.unit, name.pos)?;
+    let id = eval.program.binds.at(eval.unit, pos)?;
     eval.declared.procedure_number(id)
+}
+
+/// The place of the name behind the one dot of a row of selectors.
+fn member_pos(selectors: &[Selector<'_>]) -> Option<Pos> {
+    if selectors.len() != 1 {
+        return None;
+    }
+    match selectors.first() {
+        Some(Selector::Member(name)) => Some(name.pos),
+        _ => None,
+    }
 }

@@ -360,7 +360,9 @@ fn part_node<'a>(
     let brand = brand_of(declarer, part.brand)?;
     let fields = field_row(declarer, part.fields)?;
     let methods = method_row(declarer, part)?;
-    Ok(Some(TypeNode::Object(brand, parent, fields, methods, &[])))
+    let overrides: Vec<Override<'a>, &'a Bump> = Vec::new(declarer.eval.arena);
+    let overrides = into_bump_slice(overrides);
+    Ok(Some(TypeNode::Object(brand, parent, fields, methods, overrides)))
 }
 
 /// The methods of a part, without what is bound to them.

@@ -43,7 +43,7 @@ impl<'a> Evaluator<'_, 'a> {
         match self.definition(kind) {
             TypeNode::Boolean => (0, 1),
             TypeNode::Character => (0, 255),
-            TypeNode::Enumeration(names) => (0, names.len() as i64 - 1),
+            TypeNode::Enumeration(names) => (0, last_place(names.len())),
             TypeNode::Subrange(_, first, last) => (first, last),
             _ => (i64::MIN, i64::MAX),
         }
@@ -201,5 +201,13 @@ impl<'a> Evaluator<'_, 'a> {
             is_wanted: false,
         })?;
         Ok(true)
+    }
+}
+
+/// The last place of a list, -1 where it is empty.
+fn last_place(count: usize) -> i64 {
+    match i64::try_from(count) {
+        Ok(count) => count.wrapping_sub(1),
+        Err(_) => i64::MAX,
     }
 }
