@@ -117,6 +117,9 @@ fn judge_fit<'a>(
 
 /// Whether an object type is a subtype of another type, which mostly stands among its ancestors.
 fn is_object_below<'a>(declarer: &Declarer<'_, 'a>, object: TypeId, above: TypeId) -> Result<bool, NoMemory> {
+    if above == declarer.eval.declared.basic.root {
+        return declarer.eval.is_subtype(object, above);
+    }
     let mut at = object;
     'ancestors: for _ in 0..declarer.eval.declared.types.nodes.len() {
         if at == above {
