@@ -114,7 +114,7 @@ impl<'a> Evaluator<'_, 'a> {
     }
 
     /// The type of a field, by the type that declares it.
-    pub(crate) fn field_kind(&self, owner: TypeId, field: u32) -> Option<TypeId> {
+    pub fn field_kind(&self, owner: TypeId, field: u32) -> Option<TypeId> {
         match self.definition(owner) {
             TypeNode::Fields(fields) | TypeNode::Object(_, _, fields, _, _) => {
                 match fields.get(field as usize) {

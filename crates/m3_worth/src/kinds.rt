@@ -13,7 +13,7 @@ impl<'a> Evaluator<'_, 'a> {
     }
 
     /// The definition of a type that NIL doesn't belong to; of another nothing is lacking.
-    pub(crate) fn plain(&mut self, kind: TypeId) -> Result<TypeNode<'a>, NoMemory> {
+    pub fn plain(&mut self, kind: TypeId) -> Result<TypeNode<'a>, NoMemory> {
         if self.nilable.contains(&kind) {
             return Ok(TypeNode::Reserved);
         }
@@ -43,19 +43,19 @@ impl<'a> Evaluator<'_, 'a> {
         match self.definition(kind) {
             TypeNode::Boolean => (0, 1),
             TypeNode::Character => (0, 255),
-            TypeNode::Enumeration(names) => (0, names.len() as i64 - 1),
+            TypeNode::Enumeration(names) => (0, last_place(names.len())),
             TypeNode::Subrange(_, first, last) => (first, last),
             _ => (i64::MIN, i64::MAX),
         }
     }
 
     /// Whether a type's base is INTEGER.
-    pub(crate) fn is_integer(&mut self, kind: TypeId) -> Result<bool, NoMemory> {
+    pub fn is_integer(&mut self, kind: TypeId) -> Result<bool, NoMemory> {
         self.plain(kind)?;
         Ok(self.base_of(kind) == self.declared.basic.integer)
     }
 
-    pub(crate) fn is_boolean(&mut self, kind: TypeId) -> Result<bool, NoMemory> {
+    pub fn is_boolean(&mut self, kind: TypeId) -> Result<bool, NoMemory> {
         self.plain(kind)?;
         Ok(self.base_of(kind) == self.declared.basic.boolean)
     }
@@ -76,7 +76,7 @@ impl<'a> Evaluator<'_, 'a> {
     }
 
     /// Whether both are set types, and the same.
-    pub(crate) fn are_sets(&mut self, a: TypeId, b: TypeId) -> Result<bool, NoMemory> {
+    pub fn are_sets(&mut self, a: TypeId, b: TypeId) -> Result<bool, NoMemory> {
         let left = self.plain(a)?;
         let right = self.plain(b)?;
         if let (TypeNode::SetOf(base), TypeNode::SetOf(other)) = (left, right) {
@@ -172,7 +172,7 @@ impl<'a> Evaluator<'_, 'a> {
     }
 
     /// Whether values of two types can be compared: one can be assigned to the other.
-    pub(crate) fn are_comparable(
+    pub fn are_comparable(
         &mut self,
         pos: Pos,
         a: TypeId,
@@ -201,5 +201,13 @@ impl<'a> Evaluator<'_, 'a> {
             is_wanted: false,
         })?;
         Ok(true)
+    }
+}
+
+/// The last place of a list, -1 where it is empty.
+fn last_place(count: usize) -> i64 {
+    match i64::try_from(count) {
+        Ok(count) => count.wrapping_sub(1),
+        Err(_) => i64::MAX,
     }
 }

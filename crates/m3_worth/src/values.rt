@@ -53,7 +53,7 @@ impl Compared {
 
 impl<'a> Evaluator<'_, 'a> {
     /// The bytes of a text, by its cell.
-    pub(crate) fn text(&self, cell: u32) -> &'a [u8] {
+    pub fn text(&self, cell: u32) -> &'a [u8] {
         match self.declared.texts.get(cell as usize) {
             Some(text) => *text,
             None => &[],

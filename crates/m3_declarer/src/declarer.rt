@@ -2,7 +2,8 @@ use indexmap::IndexMap;
 use m3_base::{Least, NoMemory, Pos, Refusal};
 use m3_core::{Value, ValueId};
 use m3_declared::Doubtful;
-use m3_evaluate::{Assumed, Evaluator, Known, Need, Reason, Worth};
+use m3_worth::{Assumed, Evaluator, Known, Need, Reason, Worth};
+use m3_evaluate::expression;
 use m3_gather::Gathered;
 use m3_scopes::EntityId;
 use m3_syntax::{Expr, Signature, TypeExp};
@@ -172,7 +173,7 @@ impl<'p, 'a> Declarer<'p, 'a> {
         self.eval.is_constant = is_constant;
         self.eval.flaw = None;
         self.eval.assumed.clear();
-        let worth = self.eval.expression(value)?;
+        let worth = expression(&mut self.eval, value)?;
         self.assume(value)?;
         if self.eval.lacks.len() > lacking {
             return Ok(None);
@@ -261,6 +262,20 @@ impl<'p, 'a> Declarer<'p, 'a> {
     fn was_refused(&self, kind: TypeId) -> bool {
         matches!(self.eval.definition(kind), TypeNode::Reserved)
             && self.eval.settled.contains(&Need::Node(kind))
+    }
+
+    /// Whether what was written has no definition, since it was refused.
+    pub fn is_refused(&self, kind: TypeId) -> bool {
+        matches!(self.eval.definition(kind), TypeNode::Reserved)
+    }
+
+    /// The type that fully reveals an opaque type.
+    pub fn revealed(&self, kind: TypeId) -> Option<TypeId> {
+        if (kind.0 as usize) < self.eval.declared.types.nodes.len() {
+            self.eval.declared.types.full_reveal(kind)
+        } else {
+            None
+        }
     }
 
     /// The text of a constant.

@@ -8,7 +8,7 @@ use m3_types::TypeId;
 
 impl<'a> Evaluator<'_, 'a> {
     /// What a name stands for where it is used.
-    pub(crate) fn name(&mut self, name: Name<'a>) -> Result<Thing<'a>, NoMemory> {
+    pub fn name(&mut self, name: Name<'a>) -> Result<Thing<'a>, NoMemory> {
         match self.program.binds.at(self.unit, name.pos) {
             Some(id) => self.entity(id, name.pos),
             None => Ok(Thing::Bad),
@@ -16,7 +16,7 @@ impl<'a> Evaluator<'_, 'a> {
     }
 
     /// What an entity is as an operand that begins at a place.
-    pub(crate) fn entity(&mut self, id: EntityId, pos: Pos) -> Result<Thing<'a>, NoMemory> {
+    pub fn entity(&mut self, id: EntityId, pos: Pos) -> Result<Thing<'a>, NoMemory> {
         let Some(entity) = self.program.binds.entity(id) else {
             return Ok(Thing::Bad);
         };

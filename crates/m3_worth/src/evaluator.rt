@@ -61,10 +61,10 @@ pub struct Evaluator<'p, 'a> {
     /// The reveals of opaque types by view, a full one where there is one.
     pub early: IndexMap<(u32, TypeId), Reveal>,
     /// The fields, methods and formals of the types that were asked for one, by name.
-    pub(crate) members: IndexMap<(TypeId, &'a [u8]), Member>,
-    pub(crate) listed: IndexSet<TypeId>,
+    pub members: IndexMap<(TypeId, &'a [u8]), Member>,
+    pub listed: IndexSet<TypeId>,
     /// Members of object types that were found, by view.
-    pub(crate) found: IndexMap<(u32, TypeId, &'a [u8]), Option<Found>>,
+    pub found: IndexMap<(u32, TypeId, &'a [u8]), Option<Found>>,
 }
 
 impl<'p, 'a> Evaluator<'p, 'a> {
@@ -150,7 +150,7 @@ impl<'p, 'a> Evaluator<'p, 'a> {
     }
 
     /// A value that is known.
-    pub(crate) fn known(&self, kind: TypeId, value: Value<'a>) -> Thing<'a> {
+    pub fn known(&self, kind: TypeId, value: Value<'a>) -> Thing<'a> {
         Thing::Value(Worth {
             kind,
             value: Known::Value(value),
@@ -158,12 +158,12 @@ impl<'p, 'a> Evaluator<'p, 'a> {
         })
     }
 
-    pub(crate) fn number(&self, kind: TypeId, value: i64) -> Thing<'a> {
+    pub fn number(&self, kind: TypeId, value: i64) -> Thing<'a> {
         self.known(kind, Value::Number(value))
     }
 
     /// A value that is no constant, for a reason.
-    pub(crate) fn varies(&self, kind: TypeId, pos: Pos, rule: u16) -> Thing<'a> {
+    pub fn varies(&self, kind: TypeId, pos: Pos, rule: u16) -> Thing<'a> {
         Thing::Value(Worth {
             kind,
             value: Known::Varies(Reason { pos, rule }),
@@ -172,7 +172,7 @@ impl<'p, 'a> Evaluator<'p, 'a> {
     }
 
     /// What an operand is worth as a value. What is no value has no worth, and is no constant either.
-    pub(crate) fn value_of(&mut self, pos: Pos, thing: Thing<'a>) -> Option<Worth<'a>> {
+    pub fn value_of(&mut self, pos: Pos, thing: Thing<'a>) -> Option<Worth<'a>> {
         match thing {
             Thing::Value(worth) => Some(worth),
             Thing::Bad => None,
@@ -187,7 +187,7 @@ impl<'p, 'a> Evaluator<'p, 'a> {
 }
 
 /// The reason why a value that is made of two has none: the first of theirs.
-pub(crate) fn both<'a>(a: Known<'a>, b: Known<'a>) -> Result<(Value<'a>, Value<'a>), Reason> {
+pub fn both<'a>(a: Known<'a>, b: Known<'a>) -> Result<(Value<'a>, Value<'a>), Reason> {
     match a {
         Known::Value(x) => match b {
             Known::Value(y) => Ok((x, y)),

@@ -1,6 +1,6 @@
 use crate::declarer::{Declarer, Plan, Written};
 use m3_base::{NoMemory, Pos, place_number};
-use m3_evaluate::Need;
+use m3_worth::Need;
 use m3_gather::TypeAt;
 use m3_scopes::{EntityId, EntityKind};
 use m3_syntax::{Decl, ObjectPart, TypeExp};

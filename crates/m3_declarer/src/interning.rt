@@ -68,7 +68,7 @@ impl<'a> Declarer<'_, 'a> {
     fn places_of(&self, members: &[i64]) -> Result<&'a [u8], NoMemory> {
         let mut row: Vec<u8, &'a Bump> = Vec::new(self.eval.arena);
         for member in members {
-            row.push(member.cast_unsigned().to_le_bytes()[0])?;
+            row.push((member.cast_unsigned() % 256) as u8)?;
         }
         row.sort_unstable();
         Ok(into_bump_slice(row))

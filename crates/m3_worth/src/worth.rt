@@ -50,3 +50,13 @@ pub enum Thing<'a> {
     /// An exception, or a call without result.
     Other,
 }
+
+impl Known<'_> {
+    /// The reason why it is no constant, or one that is given.
+    pub fn reason_or(self, pos: Pos, rule: u16) -> Reason {
+        match self {
+            Known::Varies(reason) => reason,
+            Known::Value(_) => Reason { pos, rule },
+        }
+    }
+}
