@@ -35,7 +35,7 @@ pub struct Machine<'a, S: Store> {
     ghost small: { stack ≤ 1048576 },
     ghost counted: { memory.threads.forks + memory.threads.waits ≤ made },
     ghost words: { length memory.outside.globals.items ≡ (image_of image).program.globals.words },
-    ghost fitting: { stuck ≡ false → S.fits memory.outside.heap.store (map shape_of (image_of image).program.types) } by { Prim.hlevel (S.fits_once memory.outside.heap.store (map shape_of (image_of image).program.types)) },
+    ghost fitting: { stuck ≡ false → ∥ S.fits memory.outside.heap.store (map shape_of (image_of image).program.types) ∥₁ },
 }
 
 // No run carries out more forks and waits: each of them passes a point.
