@@ -150,6 +150,7 @@ fn whole_command<'a>(alloc: Global) -> Result<Command<'a>, NoMemory> {
     let run = run_command(alloc)?;
     let dump = dump_command(alloc)?;
     Ok(Command::new(alloc, "m3c")
+        .no_binary_name(true)
         .disable_help_flag(true)
         .disable_version_flag(true)
         .disable_help_subcommand(true)

@@ -9,7 +9,7 @@ use crate::memory::Memory;
 use m3_decoded::Decoded;
 use m3_heap::Store;
 use m3_image::ImageView;
-use m3_isa::Regs;
+use m3_isa::{Regs, Words};
 use m3_roots::Room;
 use m3_threads::{Status, Threads};
 
@@ -91,6 +91,11 @@ impl<'a, S: Store> Machine<'a, S> {
                 fp: 0,
             },
         }
+    }
+
+    /// Sets the word at an address, if it can be set.
+    pub(crate) fn set_word(&mut self, at: u64, word: u64) {
+        let _is_set = self.memory.store(at, word);
     }
 
     /// Whether the running thread is there and awake.

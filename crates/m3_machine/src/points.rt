@@ -3,7 +3,6 @@ ghost use Rattle.std.specs.Prelude.{◌≡◌};
 use crate::machine::Machine;
 use m3_base::{Entry, Outcome};
 use m3_heap::{Steps, Store};
-use m3_roots::collect;
 use std::marker::Brand;
 use std::sync::ledger::{Blank, Ledger};
 
@@ -17,10 +16,8 @@ impl<'a, S: Store> Machine<'a, S> {
             return false;
         }
         let mut steps = Steps::<L>::new(blank);
-        let done = collect(
+        let done = self.memory.outside.collect(
             &mut self.memory.threads,
-            &mut self.memory.outside.globals,
-            &mut self.memory.outside.heap.store,
             &self.image,
             &mut self.room,
             &mut steps,
