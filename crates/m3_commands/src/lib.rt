@@ -9,4 +9,4 @@ mod running;
 mod words;
 
 pub use answers::command_of_image;
-pub use words::{Request, read_words};
+pub use words::{Limits, Request, RunWords, read_words};

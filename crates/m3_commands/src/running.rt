@@ -1,7 +1,7 @@
 use crate::fetching::{NO_MEMORY, Refusal, fetch, fetch_named};
 use crate::line::{LINE_ROOM, add, add_long_number, add_number, add_outcome, longest_name};
-use crate::words::RunWords;
-use m3_base::{Entry, Options, ScheduleRefusal, read_schedule};
+use crate::words::{Limits, RunWords};
+use m3_base::{Entry, ScheduleRefusal, read_schedule};
 use m3_heap::{SemiSpace, Store};
 use m3_image::{ImageRefusal, ImageView};
 use m3_machine::Machine;
@@ -77,7 +77,7 @@ fn add_counts<S: Store>(line: &mut Vec<u8>, machine: &Machine<'_, S>, collection
 fn run_machine<O: Sink>(
     alloc: Global,
     image: ImageView<'_>,
-    options: Options,
+    limits: Limits,
     schedule: &[Entry],
     collections: bool,
     input: &[u8],
@@ -87,14 +87,14 @@ fn run_machine<O: Sink>(
     let Ok(mut line) = Vec::with_capacity(alloc, room) else {
         return want_of_memory(alloc);
     };
-    let Ok(store) = SemiSpace::new(alloc, options.heap) else {
+    let Ok(store) = SemiSpace::new(alloc, limits.heap) else {
         return want_of_memory(alloc);
     };
-    let made = Machine::new(alloc, image, input, store, options.stack, options.threads);
+    let made = Machine::new(alloc, image, input, store, limits.stack, limits.threads);
     let Ok(mut machine) = made else {
         return want_of_memory(alloc);
     };
-    match machine.run(schedule, options.points, out) {
+    match machine.run(schedule, limits.points, out) {
         Ok(outcome) => {
             let status = add_outcome(&mut line, machine.image(), outcome);
             add_counts(&mut line, &machine, collections);
@@ -125,7 +125,7 @@ fn run_bytes<O: Sink>(
         Ok(schedule) => run_machine(
             alloc,
             image,
-            words.options,
+            words.limits,
             &schedule,
             collections,
             input,

@@ -1,7 +1,9 @@
 //! The words of the commands over images.
+ghost use Rattle.std.specs.Prelude.{◌≤◌, IfSome};
+
 use clap::error::ErrorKind;
 use clap::{Arg, ArgAction, ArgMatches, Command, Error};
-use m3_base::{NoMemory, Options};
+use m3_base::NoMemory;
 use std::alloc::Global;
 
 /// What the words ask for.
@@ -17,7 +19,20 @@ pub struct RunWords<'a> {
     pub image: &'a str,
     pub switches: Option<&'a str>,
     pub input: Option<&'a str>,
-    pub options: Options,
+    pub limits: Limits,
+}
+
+/// What a run may do and use: points that it may pass, words of one half of the heap and of each thread's stack,
+/// and threads that have not ended.
+#[derive(Clone, Copy)]
+pub struct Limits {
+    pub points: u64,
+    pub heap: u64,
+    pub stack: u64,
+    pub threads: u32,
+    pub ghost heap_fits: { (64 ≤ heap) × (heap ≤ 67108864) },
+    pub ghost stack_fits: { (1024 ≤ stack) × (stack ≤ 1048576) },
+    pub ghost threads_fit: { (1 ≤ threads) × (threads ≤ 64) },
 }
 
 /// The smallest value of an option, its largest, and the one that it has where it isn't given.
@@ -71,7 +86,10 @@ fn number_in(digits: &[u8]) -> Option<u64> {
 }
 
 /// The value of an option. None exactly where it is given and no number in its range.
-fn value_of(matches: &ArgMatches<'_>, name: &str, range: Range) -> Option<u64> {
+fn value_of(matches: &ArgMatches<'_>, name: &str, range: Range) -> Option<u64>
+    requires usual { (range.least ≤ range.usual) × (range.usual ≤ range.most) }
+    ensures { IfSome result (λ n. (range.least ≤ n) × (n ≤ range.most)) }
+{
     let Some(text) = matches.get_str(name) else {
         return Some(range.usual);
     };
@@ -91,6 +109,19 @@ fn is_named(name: Option<&str>) -> bool {
     }
 }
 
+fn limits_of(matches: &ArgMatches<'_>) -> Option<Limits> {
+    let points = value_of(matches, "points", POINTS)?;
+    let heap = value_of(matches, "heap", HEAP)?;
+    let stack = value_of(matches, "stack", STACK)?;
+    let threads = value_of(matches, "threads", THREADS)?;
+    Some(Limits {
+        points,
+        heap,
+        stack,
+        threads: threads as u32,
+    })
+}
+
 fn run_words<'a>(matches: &ArgMatches<'a>) -> Option<RunWords<'a>> {
     let image = matches.get_str("IMAGE")?;
     let switches = matches.get_str("switches");
@@ -98,20 +129,11 @@ fn run_words<'a>(matches: &ArgMatches<'a>) -> Option<RunWords<'a>> {
     if image.is_empty() || !is_named(switches) || !is_named(input) {
         return None;
     }
-    let points = value_of(matches, "points", POINTS)?;
-    let heap = value_of(matches, "heap", HEAP)?;
-    let stack = value_of(matches, "stack", STACK)?;
-    let threads = value_of(matches, "threads", THREADS)?;
     Some(RunWords {
         image,
         switches,
         input,
-        options: Options {
-            points,
-            heap,
-            stack,
-            threads: u32::try_from(threads).ok()?,
-        },
+        limits: limits_of(matches)?,
     })
 }
 

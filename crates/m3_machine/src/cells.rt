@@ -10,7 +10,7 @@ impl<'a, S: Store> Machine<'a, S> {
     fn allocate(&mut self, kind: u32, words: u64) -> Option<u64>
         requires { 1 ≤ words }
     {
-        self.memory.outside.heap.allocate(kind, words)
+        self.memory.outside.allocate(kind, words)
     }
 
     /// A new cell, after one collection where it doesn't fit at once.

@@ -1,4 +1,5 @@
-ghost use Rattle.std.specs.Prelude.{◌<◌, ◌≡◌, true, map, length};
+ghost use Rattle.std.specs.Prelude.{◌<◌, ◌≤◌, ◌≡◌, true, List, map, length};
+ghost use Rattle.m3_heap.specs.Shapes.{Shape};
 ghost use Rattle.m3_sections.specs.Shapes.{shape_of};
 ghost use Rattle.m3_decoded.specs.Ready.{image_of};
 
@@ -46,6 +47,15 @@ fn collect_in<S: Store, L: Ledger>(
 }
 
 impl<S: Store> Outside<S> {
+    /// A new cell, zero after its header. None comes exactly where the words exceed the free ones.
+    pub(crate) fn allocate(&mut self, kind: u32, words: u64) -> Option<u64>
+        requires { 1 ≤ words }
+        ensures words { length self.new.globals.items ≡ length self.old.globals.items }
+        ensures fitting { (shapes : List Shape) → S.fits self.old.heap.store shapes → S.fits self.new.heap.store shapes }
+    {
+        self.heap.allocate(kind, words)
+    }
+
     /// A collection over the threads and this memory. False comes exactly where it ends in trap 9.
     pub(crate) fn collect<L: Ledger>(
         &mut self,

@@ -95,3 +95,23 @@ returns-clause-ran g c = λ q base t found.
     let end = seen (counted base c.loop-count.count) (at_hand c.loop-count.r c.loop-count.pc c.args.fp) m.threads m.outside.globals.items (g.S.Store.heap m.outside.heap.store) in
     let all : c.loop-count.count ≡ c.args.most = omega arith in
     subst (λ most. Ran p most Used c.loop-count.count start end) all (used start end (inv.2 q base t found))
+
+pub returns-in-Other-clause-keeps : goal.returns-in-Other-clause-keeps
+returns-in-Other-clause-keeps g c =
+    let old = c.args.memory.now in
+    let m = c.loop-count.memory in
+    let n = c.carry_out.new.mem in
+    keeps_on old.threads m.threads n.threads old.outside.globals.items m.outside.globals.items n.outside.globals.items old.outside.constants.items m.outside.constants.items n.outside.constants.items (g.S.Store.heap old.outside.heap.store) (g.S.Store.heap m.outside.heap.store) (g.S.Store.heap n.outside.heap.store) c.loop-count.invariant.1.0 c.in-Other.ensures.keeps.0
+
+pub returns-in-Other-clause-fitting : goal.returns-in-Other-clause-fitting
+returns-in-Other-clause-fitting g c = λ shapes f. c.in-Other.ensures.keeps.1 shapes (c.loop-count.invariant.1.1 shapes f)
+
+pub returns-in-Trapped-clause-keeps : goal.returns-in-Trapped-clause-keeps
+returns-in-Trapped-clause-keeps g c =
+    let old = c.args.memory.now in
+    let m = c.loop-count.memory in
+    let n = c.carry_out.new.mem in
+    keeps_on old.threads m.threads n.threads old.outside.globals.items m.outside.globals.items n.outside.globals.items old.outside.constants.items m.outside.constants.items n.outside.constants.items (g.S.Store.heap old.outside.heap.store) (g.S.Store.heap m.outside.heap.store) (g.S.Store.heap n.outside.heap.store) c.loop-count.invariant.1.0 c.in-Trapped.ensures.keeps.0
+
+pub returns-in-Trapped-clause-fitting : goal.returns-in-Trapped-clause-fitting
+returns-in-Trapped-clause-fitting g c = λ shapes f. c.in-Trapped.ensures.keeps.1 shapes (c.loop-count.invariant.1.1 shapes f)
