@@ -2,6 +2,7 @@ use m3_code::Fork;
 use crate::calls::Passed;
 use crate::writer::Writer;
 use m3_code::Places;
+use m3_alloc::Idle;
 use m3_base::NoMemory;
 use m3_isa::Op;
 use m3_mid::{End, MidOp};
@@ -151,23 +152,52 @@ impl<'a> Writer<'a> {
         }
     }
 
-    /// The operations of a block. What one leaves to the next, the next takes.
+    /// Whether an operation is the next of those that need no code; then the one behind it is.
+    fn is_idle(&mut self, block: u32, op: u32) -> bool {
+        let next = self.emitter.placed.idle.get(self.idle).copied();
+        if next == Some(Idle { block, op }) {
+            self.idle = self.idle.saturating_add(1);
+            return true;
+        }
+        false
+    }
+
+    /// An operation of a block. It takes what the one before left to it.
+    fn put_next_op(
+        &mut self,
+        op: MidOp<'a>,
+        next: Option<MidOp<'a>>,
+        places: &mut Places,
+    ) -> Result<(), NoMemory> {
+        let fold = self.emitter.fold;
+        self.emitter.unpin();
+        if let Some(fold) = fold {
+            self.emitter.pin_register(fold.register);
+        }
+        self.put_op(op, next, places)?;
+        if fold.is_some() {
+            self.emitter.fold = None;
+        }
+        Ok(())
+    }
+
+    /// The operations of a block.
     pub(crate) fn put_ops(
         &mut self,
+        block: u32,
         ops: &'a [MidOp<'a>],
         places: &mut Places,
     ) -> Result<(), NoMemory> {
-        for (at, op) in ops.iter().enumerate() {
-            let fold = self.emitter.fold;
-            self.emitter.unpin();
-            if let Some(fold) = fold {
-                self.emitter.pin_register(fold.register);
-            }
-            let next = ops.get(at.saturating_add(1)).copied();
-            self.put_op(*op, next, places)?;
-            if fold.is_some() {
+        let mut number = 0u32;
+        for op in ops {
+            let at = number as usize;
+            if self.is_idle(block, number) {
                 self.emitter.fold = None;
+            } else {
+                let next = ops.get(at.saturating_add(1)).copied();
+                self.put_next_op(*op, next, places)?;
             }
+            number = number.saturating_add(1);
         }
         self.emitter.unpin();
         Ok(())

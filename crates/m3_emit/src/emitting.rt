@@ -64,6 +64,7 @@ fn writer_of<'a>(
         tidy_words: words_of_kind(alloc, p, Kind::Tidy)?,
         passed_words: words_of_kind(alloc, p, Kind::Address)?,
         row: 0,
+        idle: 0,
     })
 }
 
@@ -123,7 +124,7 @@ impl<'a> Writer<'a> {
             if let Some(front) = map.fronts.get_mut(number as usize) {
                 *front = here;
             }
-            self.put_ops(block.ops, places)?;
+            self.put_ops(number, block.ops, places)?;
             let next = next_of(map, at);
             self.put_end(block.end, &map.targets, next, places)?;
             falls = leads_to(&map.targets, block.end, next);
@@ -199,6 +200,7 @@ pub fn emit<'a>(
         tidy_words: _,
         passed_words: _,
         row: _,
+        idle: _,
     } = writer;
     Ok(Part {
         code: emitter.into_code(),

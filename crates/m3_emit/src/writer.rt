@@ -13,4 +13,6 @@ pub(crate) struct Writer<'a> {
     pub(crate) passed_words: Vec<u32>,
     /// How many rows are made.
     pub(crate) row: usize,
+    /// How many operations were left out that need no code.
+    pub(crate) idle: usize,
 }
