@@ -83,13 +83,7 @@ impl Needs {
     }
 
     /// What an operation at a place sets for nobody, and the calls.
-    fn add_op(
-        &mut self,
-        op: MidOp,
-        place: u32,
-        live: &LiveSets,
-        at: Idle,
-    ) -> Result<(), NoMemory> {
+    fn add_op(&mut self, op: MidOp, place: u32, live: &LiveSets, at: Idle) -> Result<(), NoMemory> {
         let next = place.saturating_add(1);
         for setting in settings_of(op) {
             if let Some(temp) = setting

@@ -199,14 +199,18 @@ impl<'a> Emitter<'a> {
             return None;
         }
         match next {
-            Some(MidOp::Load {
-                to: _,
-                from: MemoryWord::At { base, offset },
-            })
-            | Some(MidOp::Store {
-                at: MemoryWord::At { base, offset },
-                from: _,
-            }) if base == to => Some(offset),
+            Some(
+                MidOp::Load {
+                    to: _,
+                    from: MemoryWord::At { base, offset },
+                },
+            )
+            | Some(
+                MidOp::Store {
+                    at: MemoryWord::At { base, offset },
+                    from: _,
+                },
+            ) if base == to => Some(offset),
             _ => None,
         }
     }
@@ -222,9 +226,7 @@ impl<'a> Emitter<'a> {
     ) -> Result<(), NoMemory> {
         let (to, array) = to_array;
         if let Operand::Number(value) = index {
-            let sum = value
-                .wrapping_mul(words.cast_signed())
-                .wrapping_add(offset);
+            let sum = value.wrapping_mul(words.cast_signed()).wrapping_add(offset);
             let from = self.temp(array)?;
             if self.fold_next(to, from, sum, next) {
                 return Ok(());
@@ -301,12 +303,7 @@ impl<'a> Emitter<'a> {
         self.put_abc(Op::Copy, a, b, c)
     }
 
-    pub fn put_fill(
-        &mut self,
-        at: u32,
-        words: Operand,
-        distance: Operand,
-    ) -> Result<(), NoMemory> {
+    pub fn put_fill(&mut self, at: u32, words: Operand, distance: Operand) -> Result<(), NoMemory> {
         let a = self.temp(at)?;
         let b = self.operand(words)?;
         let c = self.operand(distance)?;
@@ -330,13 +327,7 @@ impl<'a> Emitter<'a> {
     }
 
     /// An instruction with an operand, a number and a result.
-    pub fn put_test(
-        &mut self,
-        op: Op,
-        to: u32,
-        from: u32,
-        number: u32,
-    ) -> Result<(), NoMemory> {
+    pub fn put_test(&mut self, op: Op, to: u32, from: u32, number: u32) -> Result<(), NoMemory> {
         let b = self.temp(from)?;
         let goal = self.goal(to)?;
         let imm = imm_of(number)?;

@@ -1,7 +1,6 @@
 use crate::writer::Writer;
-use m3_code::FIRST;
-use m3_code::word_of;
 use m3_base::{NoMemory, gap};
+use m3_code::{FIRST, word_of};
 use m3_isa::Op;
 use m3_mid::{Actual, Callee, Kind, MidOp, Operand, Raised};
 use m3_tables::Location;
@@ -61,8 +60,10 @@ impl<'a> Writer<'a> {
             for at in 0..count {
                 self.emitter.unpin();
                 let register = self.emitter.scratch()?;
-                self.emitter.put_word(Op::Lds, register, word_of(first).saturating_add(at))?;
-                self.emitter.put_word(Op::Sts, register, word.saturating_add(at))?;
+                self.emitter
+                    .put_word(Op::Lds, register, word_of(first).saturating_add(at))?;
+                self.emitter
+                    .put_word(Op::Sts, register, word.saturating_add(at))?;
             }
             return Ok(());
         }
@@ -169,7 +170,12 @@ impl<'a> Writer<'a> {
         self.take_results(outcome, raised)
     }
 
-    fn add_transfer(&mut self, list: &mut Vec<Transfer>, from: u8, to: u32) -> Result<(), NoMemory> {
+    fn add_transfer(
+        &mut self,
+        list: &mut Vec<Transfer>,
+        from: u8,
+        to: u32,
+    ) -> Result<(), NoMemory> {
         match self.emitter.place_of(to) {
             Location::Register(register) => {
                 if register != from {

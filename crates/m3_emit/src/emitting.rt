@@ -1,13 +1,11 @@
 use crate::blocks::target;
-use crate::writer::Writer;
-use m3_code::{Emitter, Target, imm_of};
 use crate::part::Part;
-use m3_code::{Links, Places};
-use m3_code::word_of;
 use crate::starts::unset_words;
 use crate::targets::{entries_of, laid_of, targets_of};
+use crate::writer::Writer;
 use m3_alloc::Placed;
 use m3_base::{NoMemory, gap, place_number};
+use m3_code::{Emitter, Links, Places, Target, imm_of, word_of};
 use m3_flow::{block_order, end_operands, temp_of, uses_of};
 use m3_isa::Op;
 use m3_mid::{Kind, Proc};
@@ -107,7 +105,8 @@ impl<'a> Writer<'a> {
             let Some(number) = map.laid.get(at).copied() else {
                 return Ok(());
             };
-            let Some(block) = self.emitter
+            let Some(block) = self
+                .emitter
                 .placed
                 .derived
                 .proc

@@ -49,11 +49,7 @@ pub(crate) fn targets_of(alloc: Global, p: &Proc, order: &Order) -> Result<Vec<u
 }
 
 /// The blocks that get code, in their order: those that are reached and that no jump passes by.
-pub(crate) fn laid_of(
-    alloc: Global,
-    order: &Order,
-    targets: &[u32],
-) -> Result<Vec<u32>, NoMemory> {
+pub(crate) fn laid_of(alloc: Global, order: &Order, targets: &[u32]) -> Result<Vec<u32>, NoMemory> {
     let mut laid = Vec::new(alloc);
     for block in order.blocks.iter().take(order.reached) {
         if next_of(targets, *block) == *block {

@@ -4,9 +4,7 @@ use m3_alloc::allocate;
 use m3_base::{NoMemory, Pos, place_number};
 use m3_derive::derive;
 use m3_emit::{Links, Places, emit};
-use m3_mid::{
-    Block, End, Kind, MidOp, Operand, Proc, Relation, Service, WordOperator,
-};
+use m3_mid::{Block, End, Kind, MidOp, Operand, Proc, Relation, Service, WordOperator};
 use std::alloc::Global;
 
 const AT: Pos = Pos {
