@@ -55,8 +55,8 @@ impl<'a> Emitter<'a> {
         self.settle(goal)
     }
 
-    /// The sum of a register and a number; without an instruction where the number is 0 and the place is the
-    /// same.
+    /// The sum of a register and a number; without an instruction where the number is 0 and the
+    /// place is the same.
     fn put_sum(&mut self, to: u32, from: u8, by: i32) -> Result<(), NoMemory> {
         if by == 0 {
             return self.give(to, from);
@@ -192,8 +192,8 @@ impl<'a> Emitter<'a> {
         Ok(product)
     }
 
-    /// Whether the next operation alone uses an address, as that of the word that it loads or stores: then by
-    /// how much it goes on from there.
+    /// Whether the next operation alone uses an address, as that of the word that it loads or
+    /// stores: then by how much it goes on from there.
     fn folded_offset(&self, to: u32, next: Option<MidOp<'a>>) -> Option<i32> {
         if self.counts.get(to as usize).copied() != Some(1) {
             return None;

@@ -5,7 +5,8 @@ use m3_isa::Op;
 use m3_mid::{Actual, Callee, Kind, MidOp, Operand, Raised};
 use m3_tables::Location;
 
-/// The words of a callee's formals that are tidy, and those that are derived, each with its temporary.
+/// The words of a callee's formals that are tidy, and those that are derived, each with its
+/// temporary.
 #[derive(Drop)]
 pub(crate) struct Passed {
     pub(crate) tidy: Vec<u32>,
@@ -93,7 +94,8 @@ impl<'a> Writer<'a> {
         Ok(())
     }
 
-    /// Stores an actual in the words of the callee's frame from one on, and gives the one behind it.
+    /// Stores an actual in the words of the callee's frame from one on, and gives the one behind
+    /// it.
     fn put_actual(
         &mut self,
         actual: Actual,

@@ -97,8 +97,8 @@ fn next_of(map: &Map, at: usize) -> Option<u32> {
 }
 
 impl<'a> Writer<'a> {
-    /// The code of all blocks. What registers hold is known at the front of a block that is entered from the
-    /// one before it alone.
+    /// The code of all blocks. What registers hold is known at the front of a block that is entered
+    /// from the one before it alone.
     fn put_blocks(&mut self, map: &mut Map, places: &mut Places) -> Result<(), NoMemory> {
         let mut falls = false;
         for at in 0..map.laid.len() {
@@ -181,8 +181,8 @@ fn leads_to(targets: &[u32], end: m3_mid::End, next: Option<u32>) -> bool {
     false
 }
 
-/// The instructions of a procedure, with the rows and spans of its points. The places that its faults name
-/// are added to those of the program.
+/// The instructions of a procedure, with the rows and spans of its points. The places that its
+/// faults name are added to those of the program.
 pub fn emit<'a>(
     alloc: Global,
     placed: &'a Placed<'a>,

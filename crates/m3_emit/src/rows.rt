@@ -144,8 +144,8 @@ impl<'a> Writer<'a> {
         Ok(())
     }
 
-    /// The row of the point that is the next instruction, and what is shown there. `listed` are the registers
-    /// without a temporary that hold tidy operands.
+    /// The row of the point that is the next instruction, and what is shown there. `listed` are the
+    /// registers without a temporary that hold tidy operands.
     pub(crate) fn add_row(
         &mut self,
         op: MidOp,

@@ -74,8 +74,8 @@ fn instr_of(op: Op, form: Form, registers: Registers) -> Instr {
 }
 
 impl<'a> Writer<'a> {
-    /// The register of an operand of a service; where a tidy one isn't in the register of its temporary, the
-    /// row of the point names it.
+    /// The register of an operand of a service; where a tidy one isn't in the register of its
+    /// temporary, the row of the point names it.
     fn service_operand(&mut self, operand: Operand, listed: &mut Vec<u8>) -> Result<u8, NoMemory> {
         let register = self.emitter.operand(operand)?;
         if let Operand::Temp(temp) = operand
@@ -114,8 +114,8 @@ impl<'a> Writer<'a> {
         }
     }
 
-    /// The goals of a service. Whether Alerted was raised comes into a register of its own, since AJOIN writes
-    /// it before it reads its operand.
+    /// The goals of a service. Whether Alerted was raised comes into a register of its own, since
+    /// AJOIN writes it before it reads its operand.
     fn service_goals(
         &mut self,
         form: Form,

@@ -7,8 +7,8 @@ use m3_mid::{Block, MemoryWord, MidOp, Proc};
 use m3_tables::Location;
 use std::alloc::Global;
 
-/// Whether the operations behind one can't be told from before it: it passes a point, or reads words of the
-/// frame that it doesn't name.
+/// Whether the operations behind one can't be told from before it: it passes a point, or reads
+/// words of the frame that it doesn't name.
 fn may_read_frame(op: MidOp) -> bool {
     is_point(op)
         || matches!(

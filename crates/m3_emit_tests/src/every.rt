@@ -2163,7 +2163,8 @@ pub const EVERY: &[Proc] = &[
     SUM_OR_RAISE,
 ];
 
-/// The sum of five formals and of a word of the frame around, or an exception where the last formal is 0.
+/// The sum of five formals and of a word of the frame around, or an exception where the last formal
+/// is 0.
 const SUM_OR_RAISE: Proc = Proc {
     temps: &[Kind::Number, Kind::Number, Kind::Number, Kind::Tidy],
     slots: &[NUMBER, NUMBER, NUMBER, NUMBER, NUMBER],

@@ -92,8 +92,8 @@ pub fn one_block(alloc: Global, count: u32) -> Result<Measured, NoMemory> {
     measure(alloc, &arena, &p)
 }
 
-/// So many variables that are set first, so many choices one after the other, each with a temporary of its own
-/// and with a point, and the sum of all variables at the end.
+/// So many variables that are set first, so many choices one after the other, each with a temporary
+/// of its own and with a point, and the sum of all variables at the end.
 pub fn choices(
     alloc: Global,
     variables: u32,

@@ -1,5 +1,6 @@
-//! Prints the code and the rows of procedures of middle code that are written here by hand, and sizes of
-//! large ones. The argument `every` stands for a procedure that uses each kind of operation.
+//! Prints the code and the rows of procedures of middle code that are written here by hand, and
+//! sizes of large ones. The argument `every` stands for a procedure that uses each kind of
+//! operation.
 #![tactic(auto)]
 
 use bumpalo::Bump;

@@ -42,8 +42,8 @@ const NIL_CHECK: MidOp = MidOp::Check {
     pos: AT,
 };
 
-/// A module's body that makes an array of four numbers, sets two of them, and puts the sum; and the procedure
-/// that gives the sum of an array.
+/// A module's body that makes an array of four numbers, sets two of them, and puts the sum; and the
+/// procedure that gives the sum of an array.
 pub const SUM: &[Proc] = &[
     Proc {
         temps: &[Kind::Tidy, Kind::Number],
