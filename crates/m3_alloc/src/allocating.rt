@@ -1,6 +1,6 @@
 use crate::choosing::{choose_registers, give, wishes_of};
 use crate::homes::homes_of;
-use crate::needs::{Needs, needs_of};
+use crate::needs::{Idle, Needs, needs_of};
 use crate::sharing::share_words;
 use crate::slots::give_slots;
 use m3_base::{NoMemory, place_number};
@@ -20,6 +20,8 @@ pub struct Placed<'a> {
     pub frame: u32,
     /// The temporaries that are live at the start: what is read or listed of them there is 0.
     pub at_start: Vec<u32>,
+    /// The operations that need no code, in the order in which the blocks lie.
+    pub idle: Vec<Idle>,
 }
 
 /// The words of a callee's formals that a call stores.
@@ -117,5 +119,6 @@ pub fn allocate<'a>(alloc: Global, d: &Derived<'a>) -> Result<Placed<'a>, NoMemo
         body,
         frame: body.saturating_add(outgoing_of(d, &order)),
         at_start,
+        idle: Vec::from_slice(alloc, &needs.idle)?,
     })
 }

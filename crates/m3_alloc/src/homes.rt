@@ -37,7 +37,8 @@ impl Counts {
             // Words behind it can be reached from an address too.
             MidOp::SlotAddress { to: _, slot } => self.name(slot, u32::MAX),
             MidOp::Make {
-                sizes: Some(slot), ..
+                sizes: Some(slot),
+                ..
             } => self.name(slot, 1),
             _ => {}
         }

@@ -10,3 +10,4 @@ mod sharing;
 mod slots;
 
 pub use allocating::{Placed, allocate, outgoing_words};
+pub use needs::Idle;

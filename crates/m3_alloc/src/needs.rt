@@ -1,7 +1,7 @@
 use m3_base::{NoMemory, place_number};
 use m3_derive::Derived;
 use m3_flow::{Groups, LiveRange, LiveSets, Order, Pair, is_call, ops_of, settings_of, shown_at};
-use m3_mid::{Held, MidOp};
+use m3_mid::{Held, MemoryWord, MidOp};
 use std::alloc::Global;
 
 /// What is known of the temporaries of a procedure before they get their places.
@@ -11,8 +11,35 @@ pub(crate) struct Needs {
     pub(crate) in_slot: Vec<bool>,
     /// A temporary, and a place at which it is set though it isn't live there.
     pub(crate) lost: Vec<(u32, u32)>,
+    /// The operations that do nothing but set a temporary which isn't live behind them.
+    pub(crate) idle: Vec<Idle>,
     /// The places of the calls, rising.
     calls: Vec<u32>,
+}
+
+/// An operation of a block that needs no code.
+#[derive(Clone, Copy, Debug, PartialEq, Eq)]
+pub struct Idle {
+    pub block: u32,
+    pub op: u32,
+}
+
+/// Whether an operation does nothing but set a temporary.
+fn only_sets(op: MidOp) -> bool {
+    match op {
+        MidOp::Number { .. }
+        | MidOp::Move { .. }
+        | MidOp::Arith { .. }
+        | MidOp::Compare { .. }
+        | MidOp::SlotAddress { .. }
+        | MidOp::FrameAddress { .. }
+        | MidOp::GlobalAddress { .. }
+        | MidOp::TextCell { .. }
+        | MidOp::ConstantAddress { .. }
+        | MidOp::Index { .. } => true,
+        MidOp::Load { to: _, from } => !matches!(from, MemoryWord::At { .. }),
+        _ => false,
+    }
 }
 
 /// The operation of a block at a place.
@@ -56,13 +83,16 @@ impl Needs {
     }
 
     /// What an operation at a place sets for nobody, and the calls.
-    fn add_op(&mut self, op: MidOp, place: u32, live: &LiveSets) -> Result<(), NoMemory> {
+    fn add_op(&mut self, op: MidOp, place: u32, live: &LiveSets, at: Idle) -> Result<(), NoMemory> {
         let next = place.saturating_add(1);
         for setting in settings_of(op) {
             if let Some(temp) = setting
                 && !live.is_live(next, temp)
             {
                 self.lost.push((temp, next))?;
+                if only_sets(op) {
+                    self.idle.push(at)?;
+                }
             }
         }
         if is_call(op) {
@@ -78,9 +108,14 @@ impl Needs {
 
     fn add_ops(&mut self, d: &Derived, order: &Order, live: &LiveSets) -> Result<(), NoMemory> {
         for number in order.blocks.iter().take(order.reached) {
-            let mut place = live.place(*number, 0);
+            let front = live.place(*number, 0);
+            let mut place = front;
             for op in ops_of(&d.proc, *number) {
-                self.add_op(*op, place, live)?;
+                let at = Idle {
+                    block: *number,
+                    op: place.saturating_sub(front),
+                };
+                self.add_op(*op, place, live, at)?;
                 place = place.saturating_add(1);
             }
         }
@@ -142,6 +177,7 @@ pub(crate) fn needs_of(
     let mut needs = Needs {
         in_slot: vec![in alloc; false; temps]?,
         lost: Vec::new(alloc),
+        idle: Vec::new(alloc),
         calls: Vec::new(alloc),
     };
     needs.add_ops(d, order, live)?;

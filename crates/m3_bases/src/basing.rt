@@ -12,11 +12,7 @@ use m3_flow::{block_order, live_with};
 use m3_mid::{Kind, Proc};
 use std::alloc::Global;
 
-fn bases_of<'a>(
-    arena: &'a Bump,
-    terms: &[Term],
-    is_taken: bool,
-) -> Result<&'a [Base], NoMemory> {
+fn bases_of<'a>(arena: &'a Bump, terms: &[Term], is_taken: bool) -> Result<&'a [Base], NoMemory> {
     let mut bases = Vec::new(arena);
     for term in terms {
         if term.is_taken == is_taken {

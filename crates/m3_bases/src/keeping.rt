@@ -1,6 +1,5 @@
-use crate::plans::Base;
+use crate::plans::{Base, kind_of};
 use crate::relevance::{from_temps, has_flag};
-use crate::plans::kind_of;
 use crate::shapes::{Said, Shape, Shapes, moves_on, set_item};
 use crate::sources::{Setting, Source, Term};
 use bumpalo::Bump;
@@ -23,10 +22,7 @@ pub(crate) enum Keep<'a> {
     /// In these temporaries, wherever it was set; those that aren't needed are 0.
     Shared(&'a [Term]),
     /// By ways, whose number is in a temporary. The copies of the other ways are 0.
-    Ways {
-        path: u32,
-        ways: &'a [KeptWay<'a>],
-    },
+    Ways { path: u32, ways: &'a [KeptWay<'a>] },
 }
 
 /// The temporaries that are added, while it is found out what each derived temporary keeps.

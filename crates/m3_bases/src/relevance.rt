@@ -1,5 +1,4 @@
-use crate::plans::Base;
-use crate::plans::kind_of;
+use crate::plans::{Base, kind_of};
 use crate::sources::{Setting, Source};
 use m3_base::{NoMemory, gap, place_number};
 use m3_flow::{LiveRange, LiveSets, Order, actuals_of, is_call, is_point, ops_of};

@@ -1,6 +1,5 @@
 use crate::keeping::{Keep, Keeper, way_of};
-use crate::plans::Base;
-use crate::plans::kind_of;
+use crate::plans::{Base, kind_of};
 use crate::shapes::{Said, Shape, Shapes, moves_on};
 use crate::sources::{Setting, Source, Term};
 use bumpalo::Bump;

@@ -1,6 +1,5 @@
-use crate::plans::Base;
+use crate::plans::{Base, kind_of};
 use crate::relevance::has_flag;
-use crate::plans::kind_of;
 use crate::sources::{Setting, Source, Term};
 use bumpalo::Bump;
 use m3_base::{NoMemory, gap};

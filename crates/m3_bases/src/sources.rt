@@ -1,5 +1,4 @@
-use crate::plans::Base;
-use crate::plans::kind_of;
+use crate::plans::{Base, kind_of};
 use m3_base::NoMemory;
 use m3_flow::{Order, ops_of, settings_of};
 use m3_mid::{Kind, MemoryWord, MidOp, Operand, Proc, WordOperator};

@@ -1,6 +1,5 @@
-use crate::plans::Base;
+use crate::plans::{Base, kind_of};
 use crate::relevance::{from_temps, has_flag, set_flag};
-use crate::plans::kind_of;
 use crate::shapes::{Shape, Shapes};
 use crate::sources::{Setting, Term};
 use m3_base::{NoMemory, gap, place_number};
@@ -8,12 +7,7 @@ use m3_flow::{Groups, LiveRange, LiveSets, Order, Pair, ops_of, settings_of};
 use m3_mid::{Kind, MidOp, Proc};
 use std::alloc::Global;
 
-fn add_places(
-    p: &Proc,
-    ops: &[MidOp],
-    front: u32,
-    pairs: &mut Vec<Pair>,
-) -> Result<(), NoMemory> {
+fn add_places(p: &Proc, ops: &[MidOp], front: u32, pairs: &mut Vec<Pair>) -> Result<(), NoMemory> {
     let mut place = front;
     for op in ops {
         place = place.saturating_add(1);

@@ -22,7 +22,8 @@ fn test(op: Op, left: Operand, right: Operand, is_negated: bool) -> Test {
     }
 }
 
-/// left <= right: with a number on one side there is the next one, else it is the opposite of right < left.
+/// left <= right: with a number on one side there is the next one, else it is the opposite of right
+/// < left.
 fn at_most(op: Op, left: Operand, right: Operand) -> Test {
     if let Operand::Number(bound) = right
         && let Some(next) = bound.checked_add(1)

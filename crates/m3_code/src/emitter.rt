@@ -24,7 +24,8 @@ pub enum Target {
     Stub(u32),
 }
 
-/// An address that the next operation alone uses: instead of the temporary it takes a register and a number.
+/// An address that the next operation alone uses: instead of the temporary it takes a register and
+/// a number.
 #[derive(Clone, Copy, Debug)]
 pub struct Fold {
     pub temp: u32,

@@ -4,7 +4,8 @@ use m3_isa::Op;
 use m3_mid::Operand;
 use m3_tables::Location;
 
-/// The lower and the upper 32 bits of a number, each as the signed number that an instruction holds.
+/// The lower and the upper 32 bits of a number, each as the signed number that an instruction
+/// holds.
 fn halves_of(value: i64) -> (i32, i32) {
     let bytes = value.to_le_bytes();
     let low = i32::from_le_bytes([bytes[0], bytes[1], bytes[2], bytes[3]]);
@@ -12,8 +13,8 @@ fn halves_of(value: i64) -> (i32, i32) {
     (low, high)
 }
 
-/// Where the result of an operation goes: into a register, and from there to a word of the frame where that is
-/// its place.
+/// Where the result of an operation goes: into a register, and from there to a word of the frame
+/// where that is its place.
 #[derive(Clone, Copy, Debug)]
 pub struct Goal {
     pub register: u8,
@@ -99,8 +100,8 @@ impl<'a> Emitter<'a> {
         }
     }
 
-    /// The register in which the result for a temporary is to come about, by one instruction, which reads all
-    /// its registers before.
+    /// The register in which the result for a temporary is to come about, by one instruction, which
+    /// reads all its registers before.
     pub fn goal(&mut self, to: u32) -> Result<Goal, NoMemory> {
         match self.place_of(to) {
             Location::Register(register) => Ok(Goal {

@@ -3,7 +3,8 @@ use m3_isa::Op;
 use std::alloc::Global;
 use std::collections::BTreeMap;
 
-/// Where the constants and the cells of the texts of a program begin among the words of an image's constants.
+/// Where the constants and the cells of the texts of a program begin among the words of an image's
+/// constants.
 #[derive(Clone, Copy)]
 pub struct Links<'a> {
     pub constants: &'a [u32],

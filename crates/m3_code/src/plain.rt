@@ -55,8 +55,8 @@ impl<'a> Emitter<'a> {
         self.settle(goal)
     }
 
-    /// The sum of a register and a number; without an instruction where the number is 0 and the place is the
-    /// same.
+    /// The sum of a register and a number; without an instruction where the number is 0 and the
+    /// place is the same.
     fn put_sum(&mut self, to: u32, from: u8, by: i32) -> Result<(), NoMemory> {
         if by == 0 {
             return self.give(to, from);
@@ -192,21 +192,25 @@ impl<'a> Emitter<'a> {
         Ok(product)
     }
 
-    /// Whether the next operation alone uses an address, as that of the word that it loads or stores: then by
-    /// how much it goes on from there.
+    /// Whether the next operation alone uses an address, as that of the word that it loads or
+    /// stores: then by how much it goes on from there.
     fn folded_offset(&self, to: u32, next: Option<MidOp<'a>>) -> Option<i32> {
         if self.counts.get(to as usize).copied() != Some(1) {
             return None;
         }
         match next {
-            Some(MidOp::Load {
-                to: _,
-                from: MemoryWord::At { base, offset },
-            })
-            | Some(MidOp::Store {
-                at: MemoryWord::At { base, offset },
-                from: _,
-            }) if base == to => Some(offset),
+            Some(
+                MidOp::Load {
+                    to: _,
+                    from: MemoryWord::At { base, offset },
+                },
+            )
+            | Some(
+                MidOp::Store {
+                    at: MemoryWord::At { base, offset },
+                    from: _,
+                },
+            ) if base == to => Some(offset),
             _ => None,
         }
     }
@@ -222,9 +226,7 @@ impl<'a> Emitter<'a> {
     ) -> Result<(), NoMemory> {
         let (to, array) = to_array;
         if let Operand::Number(value) = index {
-            let sum = value
-                .wrapping_mul(words.cast_signed())
-                .wrapping_add(offset);
+            let sum = value.wrapping_mul(words.cast_signed()).wrapping_add(offset);
             let from = self.temp(array)?;
             if self.fold_next(to, from, sum, next) {
                 return Ok(());
@@ -301,12 +303,7 @@ impl<'a> Emitter<'a> {
         self.put_abc(Op::Copy, a, b, c)
     }
 
-    pub fn put_fill(
-        &mut self,
-        at: u32,
-        words: Operand,
-        distance: Operand,
-    ) -> Result<(), NoMemory> {
+    pub fn put_fill(&mut self, at: u32, words: Operand, distance: Operand) -> Result<(), NoMemory> {
         let a = self.temp(at)?;
         let b = self.operand(words)?;
         let c = self.operand(distance)?;
@@ -330,13 +327,7 @@ impl<'a> Emitter<'a> {
     }
 
     /// An instruction with an operand, a number and a result.
-    pub fn put_test(
-        &mut self,
-        op: Op,
-        to: u32,
-        from: u32,
-        number: u32,
-    ) -> Result<(), NoMemory> {
+    pub fn put_test(&mut self, op: Op, to: u32, from: u32, number: u32) -> Result<(), NoMemory> {
         let b = self.temp(from)?;
         let goal = self.goal(to)?;
         let imm = imm_of(number)?;

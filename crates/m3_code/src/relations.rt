@@ -62,7 +62,8 @@ fn unsigned_at_most(left: Operand, right: Operand) -> Option<Branch> {
     None
 }
 
-/// The branch that is taken exactly where a relation holds, or exactly where it doesn't, if there is one.
+/// The branch that is taken exactly where a relation holds, or exactly where it doesn't, if there
+/// is one.
 pub(crate) fn branch_for(
     relation: Relation,
     left: Operand,

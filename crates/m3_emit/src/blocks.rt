@@ -1,8 +1,8 @@
-use m3_code::Fork;
 use crate::calls::Passed;
 use crate::writer::Writer;
-use m3_code::Places;
+use m3_alloc::Idle;
 use m3_base::NoMemory;
+use m3_code::{Fork, Places};
 use m3_isa::Op;
 use m3_mid::{End, MidOp};
 
@@ -32,7 +32,9 @@ impl<'a> Writer<'a> {
                 index,
                 words,
                 offset,
-            } => self.emitter.put_index((to, array), index, words, offset, next),
+            } => self
+                .emitter
+                .put_index((to, array), index, words, offset, next),
             _ => self.put_rest(op),
         }
     }
@@ -41,16 +43,24 @@ impl<'a> Writer<'a> {
     fn put_rest(&mut self, op: MidOp<'a>) -> Result<(), NoMemory> {
         match op {
             MidOp::SlotAddress { to, slot } => {
-                self.emitter.put_address(Op::Slot, to, m3_code::word_of(slot))
+                self.emitter
+                    .put_address(Op::Slot, to, m3_code::word_of(slot))
             }
             MidOp::FrameAddress { to } => self.emitter.put_address(Op::Slot, to, 0),
             MidOp::GlobalAddress { to, word } => self.emitter.put_address(Op::Glb, to, word),
             MidOp::TextCell { to, text } => {
-                let at = self.emitter.links.texts.get(text as usize).copied().unwrap_or(0);
+                let at = self
+                    .emitter
+                    .links
+                    .texts
+                    .get(text as usize)
+                    .copied()
+                    .unwrap_or(0);
                 self.emitter.put_address(Op::Con, to, at)
             }
             MidOp::ConstantAddress { to, constant } => {
-                let at = self.emitter
+                let at = self
+                    .emitter
                     .links
                     .constants
                     .get(constant as usize)
@@ -82,13 +92,19 @@ impl<'a> Writer<'a> {
                 right,
                 words,
             } => self.emitter.put_equal_words(to, left, right, words),
-            MidOp::TypeTest { to, cell, tested } => self.emitter.put_test(Op::Subt, to, cell, tested),
-            MidOp::MethodOf { to, object, method } => self.emitter.put_test(Op::Meth, to, object, method),
+            MidOp::TypeTest { to, cell, tested } => self
+                .emitter
+                .put_test(Op::Subt, to, cell, tested),
+            MidOp::MethodOf { to, object, method } => self
+                .emitter
+                .put_test(Op::Meth, to, object, method),
             MidOp::TextByte { to, text, index } => {
-                self.emitter.put_binary(Op::Tget, to, Operand::Temp(text), index)
+                self.emitter
+                    .put_binary(Op::Tget, to, Operand::Temp(text), index)
             }
             MidOp::EqualTexts { to, left, right } => {
-                self.emitter.put_binary(Op::Teq, to, Operand::Temp(left), Operand::Temp(right))
+                self.emitter
+                    .put_binary(Op::Teq, to, Operand::Temp(left), Operand::Temp(right))
             }
             _ => Ok(()),
         }
@@ -111,7 +127,10 @@ impl<'a> Writer<'a> {
                 self.put_call(op, callee, actuals, outcome, raised, &mut passed)
             }
             MidOp::Make {
-                to, cell, sizes, ..
+                to,
+                cell,
+                sizes,
+                ..
             } => self.put_make(op, to, cell, sizes),
             MidOp::Service {
                 service,
@@ -120,7 +139,7 @@ impl<'a> Writer<'a> {
                 raised,
                 pos,
                 shown: _,
-            } => self.put_service(op, service, operands, (to, raised), (pos, places)),
+            } => self.put_service(op, service, operands, (to, raised), pos, places),
             _ => self.put_point(op),
         }
     }
@@ -138,36 +157,69 @@ impl<'a> Writer<'a> {
                 left,
                 right,
                 pos,
-            } => self.emitter.put_checked(to, operator, (left, right), pos, places),
+            } => self
+                .emitter
+                .put_checked(to, operator, (left, right), pos, places),
             MidOp::Check {
                 relation,
                 left,
                 right,
                 fault,
                 pos,
-            } => self.emitter.put_check(relation, left, right, (fault, pos), places),
+            } => self
+                .emitter
+                .put_check(relation, left, right, (fault, pos), places),
             _ if m3_flow::is_point(op) => self.put_pointed(op, places),
             _ => self.put_plain(op, next),
         }
     }
 
-    /// The operations of a block. What one leaves to the next, the next takes.
+    /// Whether an operation is the next of those that need no code; then the one behind it is.
+    fn is_idle(&mut self, block: u32, op: u32) -> bool {
+        let next = self.emitter.placed.idle.get(self.idle).copied();
+        if next == Some(Idle { block, op }) {
+            self.idle = self.idle.saturating_add(1);
+            return true;
+        }
+        false
+    }
+
+    /// An operation of a block. It takes what the one before left to it.
+    fn put_next_op(
+        &mut self,
+        op: MidOp<'a>,
+        next: Option<MidOp<'a>>,
+        places: &mut Places,
+    ) -> Result<(), NoMemory> {
+        let fold = self.emitter.fold;
+        self.emitter.unpin();
+        if let Some(fold) = fold {
+            self.emitter.pin_register(fold.register);
+        }
+        self.put_op(op, next, places)?;
+        if fold.is_some() {
+            self.emitter.fold = None;
+        }
+        Ok(())
+    }
+
+    /// The operations of a block.
     pub(crate) fn put_ops(
         &mut self,
+        block: u32,
         ops: &'a [MidOp<'a>],
         places: &mut Places,
     ) -> Result<(), NoMemory> {
-        for (at, op) in ops.iter().enumerate() {
-            let fold = self.emitter.fold;
-            self.emitter.unpin();
-            if let Some(fold) = fold {
-                self.emitter.pin_register(fold.register);
-            }
-            let next = ops.get(at.saturating_add(1)).copied();
-            self.put_op(*op, next, places)?;
-            if fold.is_some() {
+        let mut number = 0u32;
+        for op in ops {
+            let at = number as usize;
+            if self.is_idle(block, number) {
                 self.emitter.fold = None;
+            } else {
+                let next = ops.get(at.saturating_add(1)).copied();
+                self.put_next_op(*op, next, places)?;
             }
+            number = number.saturating_add(1);
         }
         self.emitter.unpin();
         Ok(())

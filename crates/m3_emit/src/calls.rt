@@ -1,12 +1,12 @@
 use crate::writer::Writer;
-use m3_code::FIRST;
-use m3_code::word_of;
 use m3_base::{NoMemory, gap};
+use m3_code::{FIRST, word_of};
 use m3_isa::Op;
 use m3_mid::{Actual, Callee, Kind, MidOp, Operand, Raised};
 use m3_tables::Location;
 
-/// The words of a callee's formals that are tidy, and those that are derived, each with its temporary.
+/// The words of a callee's formals that are tidy, and those that are derived, each with its
+/// temporary.
 #[derive(Drop)]
 pub(crate) struct Passed {
     pub(crate) tidy: Vec<u32>,
@@ -61,8 +61,10 @@ impl<'a> Writer<'a> {
             for at in 0..count {
                 self.emitter.unpin();
                 let register = self.emitter.scratch()?;
-                self.emitter.put_word(Op::Lds, register, word_of(first).saturating_add(at))?;
-                self.emitter.put_word(Op::Sts, register, word.saturating_add(at))?;
+                self.emitter
+                    .put_word(Op::Lds, register, word_of(first).saturating_add(at))?;
+                self.emitter
+                    .put_word(Op::Sts, register, word.saturating_add(at))?;
             }
             return Ok(());
         }
@@ -92,7 +94,8 @@ impl<'a> Writer<'a> {
         Ok(())
     }
 
-    /// Stores an actual in the words of the callee's frame from one on, and gives the one behind it.
+    /// Stores an actual in the words of the callee's frame from one on, and gives the one behind
+    /// it.
     fn put_actual(
         &mut self,
         actual: Actual,
@@ -169,7 +172,12 @@ impl<'a> Writer<'a> {
         self.take_results(outcome, raised)
     }
 
-    fn add_transfer(&mut self, list: &mut Vec<Transfer>, from: u8, to: u32) -> Result<(), NoMemory> {
+    fn add_transfer(
+        &mut self,
+        list: &mut Vec<Transfer>,
+        from: u8,
+        to: u32,
+    ) -> Result<(), NoMemory> {
         match self.emitter.place_of(to) {
             Location::Register(register) => {
                 if register != from {

@@ -1,13 +1,11 @@
 use crate::blocks::target;
-use crate::writer::Writer;
-use m3_code::{Emitter, Target, imm_of};
 use crate::part::Part;
-use m3_code::{Links, Places};
-use m3_code::word_of;
 use crate::starts::unset_words;
 use crate::targets::{entries_of, laid_of, targets_of};
+use crate::writer::Writer;
 use m3_alloc::Placed;
 use m3_base::{NoMemory, gap, place_number};
+use m3_code::{Emitter, Links, Places, Target, imm_of, word_of};
 use m3_flow::{block_order, end_operands, temp_of, uses_of};
 use m3_isa::Op;
 use m3_mid::{Kind, Proc};
@@ -64,6 +62,7 @@ fn writer_of<'a>(
         tidy_words: words_of_kind(alloc, p, Kind::Tidy)?,
         passed_words: words_of_kind(alloc, p, Kind::Address)?,
         row: 0,
+        idle: 0,
     })
 }
 
@@ -98,15 +97,16 @@ fn next_of(map: &Map, at: usize) -> Option<u32> {
 }
 
 impl<'a> Writer<'a> {
-    /// The code of all blocks. What registers hold is known at the front of a block that is entered from the
-    /// one before it alone.
+    /// The code of all blocks. What registers hold is known at the front of a block that is entered
+    /// from the one before it alone.
     fn put_blocks(&mut self, map: &mut Map, places: &mut Places) -> Result<(), NoMemory> {
         let mut falls = false;
         for at in 0..map.laid.len() {
             let Some(number) = map.laid.get(at).copied() else {
                 return Ok(());
             };
-            let Some(block) = self.emitter
+            let Some(block) = self
+                .emitter
                 .placed
                 .derived
                 .proc
@@ -123,7 +123,7 @@ impl<'a> Writer<'a> {
             if let Some(front) = map.fronts.get_mut(number as usize) {
                 *front = here;
             }
-            self.put_ops(block.ops, places)?;
+            self.put_ops(number, block.ops, places)?;
             let next = next_of(map, at);
             self.put_end(block.end, &map.targets, next, places)?;
             falls = leads_to(&map.targets, block.end, next);
@@ -181,8 +181,8 @@ fn leads_to(targets: &[u32], end: m3_mid::End, next: Option<u32>) -> bool {
     false
 }
 
-/// The instructions of a procedure, with the rows and spans of its points. The places that its faults name
-/// are added to those of the program.
+/// The instructions of a procedure, with the rows and spans of its points. The places that its
+/// faults name are added to those of the program.
 pub fn emit<'a>(
     alloc: Global,
     placed: &'a Placed<'a>,
@@ -199,6 +199,7 @@ pub fn emit<'a>(
         tidy_words: _,
         passed_words: _,
         row: _,
+        idle: _,
     } = writer;
     Ok(Part {
         code: emitter.into_code(),

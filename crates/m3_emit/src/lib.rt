@@ -1,4 +1,5 @@
-//! From a procedure with places to instructions, with the rows of its points and with what is shown there.
+//! From a procedure with places to instructions, with the rows of its points and with what is shown
+//! there.
 #![tactic(auto)]
 
 mod blocks;

@@ -11,8 +11,8 @@ pub struct SpanPart {
     pub location: Location,
 }
 
-/// The code of a procedure, the rows of its points, and what is shown at them. Instructions are counted from
-/// the procedure's first one.
+/// The code of a procedure, the rows of its points, and what is shown at them. Instructions are
+/// counted from the procedure's first one.
 #[derive(Drop)]
 pub struct Part {
     pub code: Vec<Instr>,

@@ -1,8 +1,8 @@
 use crate::calls::Passed;
-use crate::writer::Writer;
 use crate::part::SpanPart;
-use m3_code::word_of;
+use crate::writer::Writer;
 use m3_base::{NoMemory, gap};
+use m3_code::word_of;
 use m3_derive::{Base, Derivation, RowPlan, WayPlan};
 use m3_flow::shown_at;
 use m3_mid::{Held, MidOp};
@@ -49,11 +49,7 @@ impl<'a> Writer<'a> {
         places_of(self.emitter.alloc, &mut numbers)
     }
 
-    fn argument_places(
-        &self,
-        listed: &[u8],
-        passed: &Passed,
-    ) -> Result<Vec<Location>, NoMemory> {
+    fn argument_places(&self, listed: &[u8], passed: &Passed) -> Result<Vec<Location>, NoMemory> {
         let mut numbers = Vec::new(self.emitter.alloc);
         for register in listed {
             numbers.push(u32::from(*register))?;
@@ -107,7 +103,8 @@ impl<'a> Writer<'a> {
     }
 
     fn derivation(&self, temp: u32) -> Result<Derivation<'a>, NoMemory> {
-        self.emitter.placed
+        self.emitter
+            .placed
             .derived
             .derivations
             .get(temp as usize)
@@ -147,8 +144,8 @@ impl<'a> Writer<'a> {
         Ok(())
     }
 
-    /// The row of the point that is the next instruction, and what is shown there. `listed` are the registers
-    /// without a temporary that hold tidy operands.
+    /// The row of the point that is the next instruction, and what is shown there. `listed` are the
+    /// registers without a temporary that hold tidy operands.
     pub(crate) fn add_row(
         &mut self,
         op: MidOp,
@@ -156,7 +153,8 @@ impl<'a> Writer<'a> {
         passed: &Passed,
     ) -> Result<(), NoMemory> {
         let instr = self.emitter.here()?;
-        let row = self.emitter
+        let row = self
+            .emitter
             .placed
             .derived
             .rows

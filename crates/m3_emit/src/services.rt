@@ -1,9 +1,7 @@
 use crate::calls::Passed;
 use crate::writer::Writer;
-use m3_code::{FIRST, Target};
-use m3_code::Goal;
-use m3_code::Places;
 use m3_base::{FaultKind, NoMemory, Pos};
+use m3_code::{FIRST, Goal, Places};
 use m3_isa::{Instr, Op};
 use m3_mid::{Kind, MidOp, Operand, Service};
 
@@ -76,13 +74,9 @@ fn instr_of(op: Op, form: Form, registers: Registers) -> Instr {
 }
 
 impl<'a> Writer<'a> {
-    /// The register of an operand of a service; where a tidy one isn't in the register of its temporary, the
-    /// row of the point names it.
-    fn service_operand(
-        &mut self,
-        operand: Operand,
-        listed: &mut Vec<u8>,
-    ) -> Result<u8, NoMemory> {
+    /// The register of an operand of a service; where a tidy one isn't in the register of its
+    /// temporary, the row of the point names it.
+    fn service_operand(&mut self, operand: Operand, listed: &mut Vec<u8>) -> Result<u8, NoMemory> {
         let register = self.emitter.operand(operand)?;
         if let Operand::Temp(temp) = operand
             && self.emitter.kind_of(temp) == Kind::Tidy
@@ -120,8 +114,8 @@ impl<'a> Writer<'a> {
         }
     }
 
-    /// The goals of a service. Whether Alerted was raised comes into a register of its own, since AJOIN writes
-    /// it before it reads its operand.
+    /// The goals of a service. Whether Alerted was raised comes into a register of its own, since
+    /// AJOIN writes it before it reads its operand.
     fn service_goals(
         &mut self,
         form: Form,
@@ -148,7 +142,7 @@ impl<'a> Writer<'a> {
         match fault {
             None => self.emitter.put(instr),
             Some(kind) => {
-                let target: Target = self.emitter.fault(kind, pos, places)?;
+                let target = self.emitter.fault(kind, pos, places)?;
                 self.emitter.put_jump(instr, target)
             }
         }
@@ -161,10 +155,10 @@ impl<'a> Writer<'a> {
         service: Service,
         operands: &[Operand],
         goals: (Option<u32>, Option<u32>),
-        fault: (Pos, &mut Places),
+        pos: Pos,
+        places: &mut Places,
     ) -> Result<(), NoMemory> {
         let (to, raised_to) = goals;
-        let (pos, places) = fault;
         let (instr, form, kind) = form_of(service);
         let mut listed = Vec::new(self.emitter.alloc);
         let registers = self.service_operands(operands, &mut listed)?;

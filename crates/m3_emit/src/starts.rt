@@ -1,14 +1,14 @@
 use crate::writer::Writer;
-use m3_code::word_of;
 use m3_base::{NoMemory, place_number};
+use m3_code::word_of;
 use m3_flow::is_point;
 use m3_isa::Op;
 use m3_mid::{Block, MemoryWord, MidOp, Proc};
 use m3_tables::Location;
 use std::alloc::Global;
 
-/// Whether the operations behind one can't be told from before it: it passes a point, or reads words of the
-/// frame that it doesn't name.
+/// Whether the operations behind one can't be told from before it: it passes a point, or reads
+/// words of the frame that it doesn't name.
 fn may_read_frame(op: MidOp) -> bool {
     is_point(op)
         || matches!(
@@ -78,7 +78,8 @@ impl<'a> Writer<'a> {
         let zero = self.emitter.number(0)?;
         if count < 6 {
             for at in 0..count {
-                self.emitter.put_word(Op::Sts, zero, first.saturating_add(at))?;
+                self.emitter
+                    .put_word(Op::Sts, zero, first.saturating_add(at))?;
             }
             return Ok(());
         }
@@ -113,17 +114,11 @@ impl<'a> Writer<'a> {
 
     /// Makes 0 what is read or listed before it is set.
     pub(crate) fn put_start(&mut self, words: &mut Vec<u32>) -> Result<(), NoMemory> {
-        for temp in &self.emitter.placed.at_start {
+        let placed = self.emitter.placed;
+        for temp in &placed.at_start {
             match self.emitter.place_of(*temp) {
                 Location::Register(register) => {
-                    let register = register;
-                    self.emitter.code.push(m3_isa::Instr {
-                        op: Op::Li,
-                        a: register,
-                        b: 0,
-                        c: 0,
-                        imm: 0,
-                    })?;
+                    self.emitter.put_imm(Op::Li, register, 0, 0)?;
                 }
                 Location::Slot(word) => words.push(word)?,
             }

@@ -34,7 +34,8 @@ fn pass_on(p: &Proc, order: &Order, targets: &mut Vec<u32>) -> bool {
     has_changed
 }
 
-/// For each block the one to which a jump to it goes: itself, or the one that follows blocks which do nothing.
+/// For each block the one to which a jump to it goes: itself, or the one that follows blocks which
+/// do nothing.
 pub(crate) fn targets_of(alloc: Global, p: &Proc, order: &Order) -> Result<Vec<u32>, NoMemory> {
     let mut targets = Vec::new(alloc);
     for at in 0..p.blocks.len() {
@@ -49,11 +50,7 @@ pub(crate) fn targets_of(alloc: Global, p: &Proc, order: &Order) -> Result<Vec<u
 }
 
 /// The blocks that get code, in their order: those that are reached and that no jump passes by.
-pub(crate) fn laid_of(
-    alloc: Global,
-    order: &Order,
-    targets: &[u32],
-) -> Result<Vec<u32>, NoMemory> {
+pub(crate) fn laid_of(alloc: Global, order: &Order, targets: &[u32]) -> Result<Vec<u32>, NoMemory> {
     let mut laid = Vec::new(alloc);
     for block in order.blocks.iter().take(order.reached) {
         if next_of(targets, *block) == *block {

@@ -9,13 +9,14 @@ const AT: Pos = Pos {
     line: 7,
     col: 1,
 };
-const N1: Operand = Operand::Number(1);
 
+const N1: Operand = Operand::Number(1);
 
 const ADDRESS: Slot = Slot {
     kind: Kind::Address,
     is_shared: false,
 };
+
 const TIDY: Slot = Slot {
     kind: Kind::Tidy,
     is_shared: false,
@@ -37,6 +38,7 @@ const MAKE_0: MidOp = MidOp::Make {
     sizes: None,
     shown: &[],
 };
+
 const MAKE_1: MidOp = MidOp::Make {
     to: 1,
     cell: 4,

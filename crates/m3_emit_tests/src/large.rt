@@ -4,9 +4,7 @@ use m3_alloc::allocate;
 use m3_base::{NoMemory, Pos, place_number};
 use m3_derive::derive;
 use m3_emit::{Links, Places, emit};
-use m3_mid::{
-    Block, End, Kind, MidOp, Operand, Proc, Relation, Service, WordOperator,
-};
+use m3_mid::{Block, End, Kind, MidOp, Operand, Proc, Relation, Service, WordOperator};
 use std::alloc::Global;
 
 const AT: Pos = Pos {
@@ -94,8 +92,8 @@ pub fn one_block(alloc: Global, count: u32) -> Result<Measured, NoMemory> {
     measure(alloc, &arena, &p)
 }
 
-/// So many variables that are set first, so many choices one after the other, each with a temporary of its own
-/// and with a point, and the sum of all variables at the end.
+/// So many variables that are set first, so many choices one after the other, each with a temporary
+/// of its own and with a point, and the sum of all variables at the end.
 pub fn choices(
     alloc: Global,
     variables: u32,

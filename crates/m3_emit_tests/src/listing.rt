@@ -93,7 +93,8 @@ fn no_memory(_e: NoMemory) -> io::Error {
     io::Error::from(io::ErrorKind::OutOfMemory)
 }
 
-/// Prints the code of a procedure that begins at an instruction, and gives the number of the next one.
+/// Prints the code of a procedure that begins at an instruction, and gives the number of the next
+/// one.
 pub fn print_proc<'a>(
     rt: &(impl Print + Alloc<A = Global>),
     arena: &'a Bump,

@@ -1,5 +1,6 @@
-//! Prints the code and the rows of procedures of middle code that are written here by hand, and sizes of
-//! large ones. The argument `every` stands for a procedure that uses each kind of operation.
+//! Prints the code and the rows of procedures of middle code that are written here by hand, and
+//! sizes of large ones. The argument `every` stands for a procedure that uses each kind of
+//! operation.
 #![tactic(auto)]
 
 use bumpalo::Bump;
@@ -22,11 +23,7 @@ const LINKS: Links = Links {
     texts: &[16, 20],
 };
 
-fn print_all(
-    rt: &(impl Print + Alloc<A = Global>),
-    name: &str,
-    procs: &[Proc],
-) -> io::Result<()> {
+fn print_all(rt: &(impl Print + Alloc<A = Global>), name: &str, procs: &[Proc]) -> io::Result<()> {
     println!(rt; "program {name}")?;
     let mut places = Places::new(rt.alloc());
     let mut first = 0u32;
@@ -54,7 +51,11 @@ fn print_measured(
 fn print_large(rt: &(impl Print + Alloc<A = Global>)) -> io::Result<()> {
     let alloc = rt.alloc();
     print_measured(rt, "one block of 200000", large::one_block(alloc, 200_000))?;
-    print_measured(rt, "100000 choices", large::choices(alloc, 8, 100_000, true))?;
+    print_measured(
+        rt,
+        "100000 choices",
+        large::choices(alloc, 8, 100_000, true),
+    )?;
     print_measured(
         rt,
         "300 variables over 20000 choices",

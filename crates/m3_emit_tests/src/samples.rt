@@ -9,17 +9,26 @@ const AT: Pos = Pos {
     line: 7,
     col: 1,
 };
+
 const T0: Operand = Operand::Temp(0);
+
 const T1: Operand = Operand::Temp(1);
+
 const T2: Operand = Operand::Temp(2);
+
 const T3: Operand = Operand::Temp(3);
+
 const T5: Operand = Operand::Temp(5);
+
 const N1: Operand = Operand::Number(1);
+
 const N2: Operand = Operand::Number(2);
+
 const NUMBER: Slot = Slot {
     kind: Kind::Number,
     is_shared: false,
 };
+
 const TIDY: Slot = Slot {
     kind: Kind::Tidy,
     is_shared: false,
@@ -33,8 +42,8 @@ const NIL_CHECK: MidOp = MidOp::Check {
     pos: AT,
 };
 
-/// A module's body that makes an array of four numbers, sets two of them, and puts the sum; and the procedure
-/// that gives the sum of an array.
+/// A module's body that makes an array of four numbers, sets two of them, and puts the sum; and the
+/// procedure that gives the sum of an array.
 pub const SUM: &[Proc] = &[
     Proc {
         temps: &[Kind::Tidy, Kind::Number],

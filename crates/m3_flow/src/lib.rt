@@ -3,8 +3,8 @@
 #![tactic(auto)]
 
 mod chains;
-mod groups;
 mod graph;
+mod groups;
 mod live;
 mod operations;
 mod order;
@@ -14,7 +14,7 @@ pub use graph::end_of;
 pub use groups::{Groups, Pair};
 pub use live::{LiveRange, LiveSets, RowUse, live_at, live_with, uses_of};
 pub use operations::{
-    actuals_of, end_operands, exits_of, is_call, is_point, operands_of, ops_of, service_operands, settings_of,
-    shown_at, temp_of,
+    actuals_of, end_operands, exits_of, is_call, is_point, operands_of, ops_of, service_operands,
+    settings_of, shown_at, temp_of,
 };
 pub use order::{Order, block_order};

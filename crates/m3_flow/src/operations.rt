@@ -48,7 +48,11 @@ pub fn operands_of(op: MidOp) -> [Operand; 3] {
             to_address,
             from_address,
             words,
-        } => [Operand::Temp(to_address), Operand::Temp(from_address), words],
+        } => [
+            Operand::Temp(to_address),
+            Operand::Temp(from_address),
+            words,
+        ],
         MidOp::Fill {
             at,
             words,
