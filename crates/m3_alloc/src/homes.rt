@@ -34,7 +34,8 @@ impl Counts {
         match op {
             MidOp::Load { to: _, from } => self.name_word(from),
             MidOp::Store { at, from: _ } => self.name_word(at),
-            MidOp::SlotAddress { to: _, slot } => self.name(slot, 1),
+            // Words behind it can be reached from an address too.
+            MidOp::SlotAddress { to: _, slot } => self.name(slot, u32::MAX),
             MidOp::Make {
                 sizes: Some(slot), ..
             } => self.name(slot, 1),

@@ -2,7 +2,7 @@ use crate::methods::Tables;
 use m3_base::{NoMemory, gap};
 use m3_image_writer::{GlobalPart, TypePart};
 use m3_layout::{cell_shape, has_cell};
-use m3_storage::Storage;
+use m3_storage::{Storage, number_of};
 use m3_types::TypeId;
 use std::alloc::Global;
 
@@ -36,7 +36,7 @@ pub fn type_parts(alloc: Global, storage: &Storage) -> Result<Vec<TypePart>, NoM
         pointers,
     })?;
     for (place, kind) in storage.cells.types().iter().enumerate() {
-        let number = (place as u32).saturating_add(2);
+        let number = number_of(place).saturating_add(2);
         let part = type_part(alloc, storage, &tables, *kind, number)?;
         parts.push(part)?;
     }
@@ -84,7 +84,7 @@ fn word_number(words: u64) -> Result<u32, NoMemory> {
 pub fn global_part(alloc: Global, storage: &Storage) -> Result<GlobalPart, NoMemory> {
     let mut pointers = Vec::new(alloc);
     for (place, global) in storage.core.globals.iter().enumerate() {
-        let start = storage.global(place as u32);
+        let start = storage.global(number_of(place));
         let shape = storage.shape(alloc, storage.type_of(global))?;
         for pointer in &shape.pointers {
             pointers.push(start.saturating_add(word_number(*pointer)?))?;

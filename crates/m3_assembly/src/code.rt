@@ -32,6 +32,10 @@ fn instr(op: Op, a: u8, b: u8, imm: i32) -> Instr {
     }
 }
 
+fn target(number: u32) -> i32 {
+    i32::try_from(number).unwrap_or(i32::MAX)
+}
+
 fn empty_row(alloc: Global, instr: u32) -> RowPlain {
     RowPlain {
         instr,
@@ -74,9 +78,9 @@ impl Code {
         let uncaught = place_number(order.len().saturating_mul(2).saturating_add(1))?;
         for number in order {
             self.rows.push(empty_row(alloc, self.next()?))?;
-            let callee = (*number as i32).wrapping_add(2);
+            let callee = target(number.saturating_add(2));
             self.code.push(instr(Op::Call, 0, 0, callee))?;
-            self.code.push(instr(Op::Bnz, 1, 0, uncaught as i32))?;
+            self.code.push(instr(Op::Bnz, 1, 0, target(uncaught)))?;
         }
         self.code.push(instr(Op::Endp, 0, 0, 0))?;
         self.code.push(instr(Op::Addi, 1, 1, -1))?;
@@ -84,10 +88,12 @@ impl Code {
         self.close(0, 3, 3)
     }
 
-    /// Procedure 1: a new thread calls `apply` of its closure, and ends with what that gives.
+    /// Procedure 1: a new thread calls `apply` of its closure, and ends with what that gives. Word 2 of its
+    /// frame is the thread's cell.
     fn add_thread(&mut self, alloc: Global) -> Result<(), NoMemory> {
         let first = self.next()?;
         let mut row = empty_row(alloc, first);
+        row.tidy.push(Location::Slot(2))?;
         row.arguments.push(Location::Slot(6))?;
         self.rows.push(row)?;
         self.code.push(instr(Op::Callm, 0, 0, 0))?;

@@ -1,6 +1,6 @@
 use m3_base::{NoMemory, place_number};
 use m3_core::{Value, ValueId};
-use m3_storage::{Form, Storage};
+use m3_storage::{Form, Storage, number_of};
 use m3_types::{TypeId, TypeNode};
 use std::alloc::Global;
 
@@ -53,7 +53,7 @@ impl Constants {
         for piece in text.chunks(8) {
             let mut word = 0u64;
             for (place, byte) in piece.iter().enumerate() {
-                word |= u64::from(*byte).wrapping_shl((place as u32).wrapping_mul(8));
+                word |= u64::from(*byte).wrapping_shl(number_of(place).wrapping_mul(8));
             }
             self.words.push(word)?;
         }
@@ -105,7 +105,7 @@ impl Constants {
         tasks: &mut Vec<Task>,
     ) -> Result<(), NoMemory> {
         match storage.core.values.get(value.0 as usize) {
-            Some(Value::Number(number)) => self.words.push(*number as u64)?,
+            Some(Value::Number(number)) => self.words.push(number.cast_unsigned())?,
             Some(Value::Text(text)) => {
                 let start = self.texts.get(*text as usize).copied().unwrap_or(0);
                 self.words.push(CONSTANTS.wrapping_add(u64::from(start)))?;
@@ -142,13 +142,11 @@ impl Constants {
             _ => 0,
         };
         for word in 0..storage.form(kind).words() {
-            let start = first.wrapping_add((word as i64).wrapping_mul(64));
+            let start = first.wrapping_add(word.cast_signed().wrapping_mul(64));
             let mut bits = 0u64;
             for member in members {
                 let place = member.wrapping_sub(start);
-                if (0..64).contains(&place) {
-                    bits |= 1u64.wrapping_shl(place as u32);
-                }
+                bits |= bit_of(place);
             }
             self.words.push(bits)?;
         }
@@ -163,6 +161,14 @@ impl Constants {
             self.words.push(word)?;
         }
         Ok(())
+    }
+}
+
+/// The bit at a place of a word, and 0 outside it.
+fn bit_of(place: i64) -> u64 {
+    match u32::try_from(place) {
+        Ok(place) if place < 64 => 1u64.wrapping_shl(place),
+        _ => 0,
     }
 }
 

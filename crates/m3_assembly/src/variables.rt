@@ -2,7 +2,7 @@ use m3_base::{Bytes, NoMemory, place_number};
 use m3_core::{ProcDef, VarDef};
 use m3_emit::SpanPart;
 use m3_image_writer::VarPart;
-use m3_storage::{Form, Storage, is_shown};
+use m3_storage::{Form, Storage, is_shown, number_of};
 use std::alloc::Global;
 
 /// The procedure of a global variable, in an image.
@@ -36,7 +36,7 @@ pub fn var_parts(
         if is_shown(&storage.core.types, global) {
             parts.push(VarPart {
                 proc: NO_PROCEDURE,
-                word: storage.global(place as u32),
+                word: storage.global(number_of(place)),
                 name: full_name(alloc, global.unit, global.name)?,
                 form: form_of(storage, global),
                 spans: Vec::new(alloc),

@@ -1,10 +1,12 @@
-use crate::declarer::Declarer;
+use crate::judging_values::judge_all;
 use bumpalo::Bump;
 use m3_base::{NoMemory, Refused};
 use m3_declared::{Basic, Declared};
-use m3_evaluate::Evaluator;
+use m3_declarer::Declarer;
+use m3_worth::Evaluator;
 use m3_gather::gather;
 use m3_scopes::Program;
+use m3_settle::settle_all;
 use m3_types::{TypeGraph, TypeNode};
 use std::alloc::Global;
 
@@ -42,8 +44,8 @@ pub fn declare<'a>(
     declarer.reserve_all()?;
     declarer.name_all()?;
     declarer.define_all()?;
-    declarer.settle_all()?;
-    declarer.judge_all()?;
+    settle_all(&mut declarer)?;
+    judge_all(&mut declarer)?;
     declarer.least.check()?;
     Ok(declarer.eval.declared)
 }

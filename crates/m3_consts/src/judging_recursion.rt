@@ -1,5 +1,5 @@
-use crate::declarer::Declarer;
 use m3_base::{NoMemory, place_number};
+use m3_declarer::Declarer;
 use m3_scopes::{EntityId, EntityKind};
 use m3_types::{TypeId, TypeNode};
 
@@ -82,113 +82,102 @@ fn set<T: Copy>(items: &mut [T], place: u32, item: T) {
     }
 }
 
-impl<'a> Declarer<'_, 'a> {
-    /// Rule 46 for types that contain themselves.
-    pub fn judge_recursion(&mut self) -> Result<(), NoMemory> {
-        let count = self.eval.declared.types.nodes.len();
-        let alloc = self.eval.alloc;
-        let mut search = Search {
-            numbers: vec![in alloc; 0; count]?,
-            lows: vec![in alloc; 0; count]?,
-            is_open: vec![in alloc; false; count]?,
-            is_cyclic: vec![in alloc; false; count]?,
-            open: Vec::new(alloc),
-            next: 1,
+/// Rule 46 for types that contain themselves.
+pub fn judge_recursion<'a>(declarer: &mut Declarer<'_, 'a>) -> Result<(), NoMemory> {
+    let count = declarer.eval.declared.types.nodes.len();
+    let alloc = declarer.eval.alloc;
+    let mut search = Search {
+        numbers: vec![in alloc; 0; count]?,
+        lows: vec![in alloc; 0; count]?,
+        is_open: vec![in alloc; false; count]?,
+        is_cyclic: vec![in alloc; false; count]?,
+        open: Vec::new(alloc),
+        next: 1,
+    };
+    for place in 0..count {
+        let place = place_number(place)?;
+        if search.number(place) == 0 {
+            search_from(declarer, &mut search, place)?;
+        }
+    }
+    refuse_cyclic(declarer, &search)
+}
+
+fn search_from<'a>(declarer: &Declarer<'_, 'a>, search: &mut Search, first: u32) -> Result<(), NoMemory> {
+    let mut work = Vec::new(declarer.eval.alloc);
+    search.enter(first)?;
+    work.push((first, 0usize))?;
+    for _ in 0..u64::MAX {
+        let Some((place, step)) = work.pop() else {
+            return Ok(());
         };
-        for place in 0..count {
-            let place = place_number(place)?;
-            if search.number(place) == 0 {
-                self.search_from(&mut search, place)?;
-            }
-        }
-        self.refuse_cyclic(&search)
-    }
-
-    fn search_from(&self, search: &mut Search, first: u32) -> Result<(), NoMemory> {
-        let mut work = Vec::new(self.eval.alloc);
-        search.enter(first)?;
-        work.push((first, 0usize))?;
-        for _ in 0..u64::MAX {
-            let Some((place, step)) = work.pop() else {
-                return Ok(());
-            };
-            match self.held(TypeId(place), step) {
-                Some(TypeId(held)) => {
-                    work.push((place, step.saturating_add(1)))?;
-                    if search.number(held) == 0 {
-                        search.enter(held)?;
-                        work.push((held, 0))?;
-                    } else {
-                        search.meet(place, held);
-                    }
+        match held(declarer, TypeId(place), step) {
+            Some(TypeId(held)) => {
+                work.push((place, step.saturating_add(1)))?;
+                if search.number(held) == 0 {
+                    search.enter(held)?;
+                    work.push((held, 0))?;
+                } else {
+                    search.meet(place, held);
                 }
-                None => {
-                    search.leave(place);
-                    if let Some((around, _)) = work.last().copied() {
-                        let low = search.low(place);
-                        search.lower(around, low);
-                    }
+            }
+            None => {
+                search.leave(place);
+                if let Some((around, _)) = work.last().copied() {
+                    let low = search.low(place);
+                    search.lower(around, low);
                 }
             }
         }
-        Ok(())
     }
+    Ok(())
+}
 
-    /// The types that a type contains without a reference between, one by one.
-    fn held(&self, kind: TypeId, step: usize) -> Option<TypeId> {
-        match (self.eval.definition(kind), step) {
-            (TypeNode::Fields(fields), _) => match fields.get(step) {
-                Some(field) => Some(field.kind),
-                None => None,
-            },
-            (TypeNode::FixedArray(index, _), 0) => Some(index),
-            (TypeNode::FixedArray(_, element), 1) => Some(element),
-            (TypeNode::OpenArray(inner), 0)
-            | (TypeNode::SetOf(inner), 0)
-            | (TypeNode::Subrange(inner, _, _), 0) => Some(inner),
-            (TypeNode::Object(_, parent, _, _, _), 0) => Some(self.parent_behind(parent)),
-            (TypeNode::Opaque(bound, _), 0) => match self.eval.definition(bound) {
-                TypeNode::Opaque(_, _) => Some(bound),
-                _ => None,
-            },
+/// The types that a type contains without a reference between, one by one.
+fn held<'a>(declarer: &Declarer<'_, 'a>, kind: TypeId, step: usize) -> Option<TypeId> {
+    match (declarer.eval.definition(kind), step) {
+        (TypeNode::Fields(fields), _) => match fields.get(step) {
+            Some(field) => Some(field.kind),
+            None => None,
+        },
+        (TypeNode::FixedArray(index, _), 0) => Some(index),
+        (TypeNode::FixedArray(_, element), 1) => Some(element),
+        (TypeNode::OpenArray(inner), 0)
+        | (TypeNode::SetOf(inner), 0)
+        | (TypeNode::Subrange(inner, _, _), 0) => Some(inner),
+        (TypeNode::Object(_, parent, _, _, _), 0) => Some(parent_behind(declarer, parent)),
+        (TypeNode::Opaque(bound, _), 0) => match declarer.eval.definition(bound) {
+            TypeNode::Opaque(_, _) => Some(bound),
             _ => None,
-        }
+        },
+        _ => None,
     }
+}
 
-    /// A parent; an opaque one counts as the type that fully reveals it.
-    fn parent_behind(&self, parent: TypeId) -> TypeId {
-        match self.eval.definition(parent) {
-            TypeNode::Opaque(_, _) => self.revealed(parent).unwrap_or(parent),
-            _ => parent,
-        }
+/// A parent; an opaque one counts as the type that fully reveals it.
+fn parent_behind<'a>(declarer: &Declarer<'_, 'a>, parent: TypeId) -> TypeId {
+    match declarer.eval.definition(parent) {
+        TypeNode::Opaque(_, _) => declarer.revealed(parent).unwrap_or(parent),
+        _ => parent,
     }
+}
 
-    /// The type that fully reveals an opaque type.
-    pub fn revealed(&self, kind: TypeId) -> Option<TypeId> {
-        if (kind.0 as usize) < self.eval.declared.types.nodes.len() {
-            self.eval.declared.types.full_reveal(kind)
-        } else {
-            None
-        }
-    }
-
-    fn refuse_cyclic(&mut self, search: &Search) -> Result<(), NoMemory> {
-        for (place, entity) in self.eval.program.binds.entities().iter().enumerate() {
-            if matches!(entity.kind, EntityKind::Type | EntityKind::Opaque) {
-                let id = EntityId(place_number(place)?);
-                let is_cyclic = match self.eval.declared.type_named(id) {
-                    Some(kind) => search
-                        .is_cyclic
-                        .get(kind.0 as usize)
-                        .copied()
-                        .unwrap_or(false),
-                    None => false,
-                };
-                if is_cyclic {
-                    self.note(entity.unit, entity.pos, 46);
-                }
+fn refuse_cyclic<'a>(declarer: &mut Declarer<'_, 'a>, search: &Search) -> Result<(), NoMemory> {
+    for (place, entity) in declarer.eval.program.binds.entities().iter().enumerate() {
+        if matches!(entity.kind, EntityKind::Type | EntityKind::Opaque) {
+            let id = EntityId(place_number(place)?);
+            let is_cyclic = match declarer.eval.declared.type_named(id) {
+                Some(kind) => search
+                    .is_cyclic
+                    .get(kind.0 as usize)
+                    .copied()
+                    .unwrap_or(false),
+                None => false,
+            };
+            if is_cyclic {
+                declarer.note(entity.unit, entity.pos, 46);
             }
         }
-        Ok(())
     }
+    Ok(())
 }

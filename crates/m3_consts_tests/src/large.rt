@@ -18,6 +18,7 @@ pub fn try_large(rt: &(impl Print + AllocGlobal)) -> io::Result<Tally> {
         ("constant records in constant records, 30,000 deep", values(alloc)?),
         ("variables by variables, 60,000 deep", variables(alloc)?),
         ("defaults by defaults, 20,000 deep", defaults(alloc)?),
+        ("parentheses and constructors 190 deep", nested(alloc)?),
     ];
     let mut tally = Tally {
         cases: 0,
@@ -194,5 +195,35 @@ fn defaults(alloc: Global) -> Result<String, AllocError> {
         text.push_str(row.as_str())?;
     }
     text.push_str("T20000=RECORD a := 1 END; CONST c = T0 {}.a; BEGIN END Main.")?;
+    of_one(alloc, &text)
+}
+
+/// Constants as deep as constructs may be nested.
+fn nested(alloc: Global) -> Result<String, AllocError> {
+    let mut text = String::from_str(alloc, "MODULE Main; CONST a = ")?;
+    for _ in 0..190u32 {
+        text.push('(')?;
+    }
+    text.push('1')?;
+    for _ in 0..190u32 {
+        text.push(')')?;
+    }
+    text.push_str("; b = ")?;
+    for _ in 0..95u32 {
+        text.push_str("MAX(1, ORD(")?;
+    }
+    text.push('a')?;
+    for _ in 0..95u32 {
+        text.push_str("))")?;
+    }
+    text.push_str("; c = ")?;
+    for _ in 0..190u32 {
+        text.push_str("- (")?;
+    }
+    text.push('b')?;
+    for _ in 0..190u32 {
+        text.push(')')?;
+    }
+    text.push_str("; VAR x: [c..1]; BEGIN END Main.")?;
     of_one(alloc, &text)
 }

@@ -3,15 +3,10 @@
 #![tactic(auto)]
 
 mod active;
-mod keeping;
 mod planning;
 mod plans;
-mod relevance;
-mod rewriting;
 mod rows;
-mod shapes;
-mod sources;
-mod stability;
 
+pub use m3_bases::{Base, Derivation, WayPlan};
 pub use planning::derive;
-pub use plans::{Base, Derivation, Derived, RowPlan, WayPlan};
+pub use plans::{Derived, RowPlan};

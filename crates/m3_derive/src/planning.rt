@@ -1,25 +1,20 @@
-use crate::keeping::{Keep, Keeper, keep_all};
-use crate::plans::{Base, Derivation, Derived, WayPlan};
-use crate::relevance::{has_flag, relevant_temps};
-use crate::rewriting::rewrite;
+use crate::plans::Derived;
 use crate::rows::plan_rows;
-use crate::shapes::{Shape, Shapes, shapes_of};
-use crate::sources::{Term, all_settings};
-use crate::stability::kept_temps;
 use bumpalo::Bump;
-use bumpalo::collections::into_bump_slice;
-use m3_base::{NoMemory, place_number};
+use m3_base::NoMemory;
+use m3_bases::{Based, find_bases};
 use m3_flow::{block_order, live_with};
-use m3_mid::{Kind, Proc};
+use m3_mid::Proc;
 use std::alloc::Global;
 
 /// The rows of a procedure whose derivations are known.
 fn with_rows<'a>(
     alloc: Global,
     arena: &'a Bump,
-    p: Proc<'a>,
-    derivations: &'a [Derivation<'a>],
+    based: Based<'a>,
 ) -> Result<Derived<'a>, NoMemory> {
+    let p = based.proc;
+    let derivations = based.derivations;
     let order = block_order(alloc, &p)?;
     let live = live_with(alloc, &p, &order, &[])?;
     let (rows, uses) = plan_rows(alloc, arena, &p, &order, &live, derivations)?;
@@ -42,144 +37,9 @@ fn with_rows<'a>(
     })
 }
 
-fn bases_of<'a>(
-    arena: &'a Bump,
-    terms: &[Term],
-    is_taken: bool,
-) -> Result<&'a [Base], NoMemory> {
-    let mut bases = Vec::new(arena);
-    for term in terms {
-        if term.is_taken == is_taken {
-            bases.push(term.base)?;
-        }
-    }
-    Ok(into_bump_slice(bases))
-}
-
-fn way_plan<'a>(arena: &'a Bump, terms: &[Term]) -> Result<WayPlan<'a>, NoMemory> {
-    let added = bases_of(arena, terms, false)?;
-    let subtracted = bases_of(arena, terms, true)?;
-    Ok(WayPlan { added, subtracted })
-}
-
-/// A derivation with one way.
-fn one_way<'a>(arena: &'a Bump, terms: &[Term]) -> Result<Derivation<'a>, NoMemory> {
-    let mut ways = Vec::new(arena);
-    ways.push(way_plan(arena, terms)?)?;
-    Ok(Derivation {
-        path: None,
-        ways: into_bump_slice(ways),
-    })
-}
-
-/// A derivation by ways: with one way there is nothing to tell.
-fn many_ways<'a>(
-    arena: &'a Bump,
-    path: u32,
-    kept: &[crate::keeping::KeptWay<'a>],
-) -> Result<Derivation<'a>, NoMemory> {
-    let mut ways = Vec::new(arena);
-    for way in kept {
-        ways.push(way_plan(arena, way.copies)?)?;
-    }
-    let path = if kept.len() < 2 { None } else { Some(path) };
-    Ok(Derivation {
-        path,
-        ways: into_bump_slice(ways),
-    })
-}
-
-fn derivation_of<'a>(
-    arena: &'a Bump,
-    shapes: &Shapes<'a>,
-    keeper: &Keeper<'a>,
-    temp: u32,
-) -> Result<Derivation<'a>, NoMemory> {
-    match keeper.keep(temp) {
-        Keep::Shared(copies) => one_way(arena, copies),
-        Keep::Ways { path, ways } => many_ways(arena, path, ways),
-        Keep::No => match shapes.shape(temp) {
-            Shape::Bases(terms) => one_way(arena, terms),
-            _ => one_way(arena, &[]),
-        },
-    }
-}
-
-const UNDERIVED: Derivation = Derivation {
-    path: None,
-    ways: &[],
-};
-
-/// For each temporary its derivation, where some row needs it.
-fn all_derivations<'a>(
-    arena: &'a Bump,
-    shapes: &Shapes<'a>,
-    keeper: &Keeper<'a>,
-    relevant: &[bool],
-) -> Result<&'a [Derivation<'a>], NoMemory> {
-    let mut derivations = Vec::new(arena);
-    for at in 0..keeper.kinds.len() {
-        let temp = place_number(at)?;
-        let derivation = if has_flag(relevant, temp) {
-            derivation_of(arena, shapes, keeper, temp)?
-        } else {
-            UNDERIVED
-        };
-        derivations.push(derivation)?;
-    }
-    Ok(into_bump_slice(derivations))
-}
-
-/// Whether there are derived temporaries.
-fn has_addresses(p: &Proc) -> bool {
-    for kind in p.temps {
-        if *kind == Kind::Address {
-            return true;
-        }
-    }
-    false
-}
-
-/// A procedure without derived temporaries that rows name.
-fn derive_none<'a>(
-    alloc: Global,
-    arena: &'a Bump,
-    p: Proc<'a>,
-) -> Result<Derived<'a>, NoMemory> {
-    let mut derivations = Vec::new(arena);
-    for _temp in p.temps {
-        derivations.push(UNDERIVED)?;
-    }
-    with_rows(alloc, arena, p, into_bump_slice(derivations))
-}
-
-/// What a collector has to know of a procedure at each of its points. A row names the tidy temporaries that are
-/// live, and for each derived one from what it comes: moves, sums and differences are followed back to tidy
-/// pointers. A base that may change while what comes from it is live is copied to a temporary of its own. Where
-/// a derived temporary has several lists of bases, a further temporary tells which one holds. The marks of
-/// loops, which name operations by their numbers, are left out.
+/// What a collector has to know of a procedure at each of its points: which temporaries hold references, and
+/// from which ones each derived pointer comes, copies of which are kept where they would be lost.
 pub fn derive<'a>(alloc: Global, arena: &'a Bump, p: &Proc<'a>) -> Result<Derived<'a>, NoMemory> {
-    let plain = Proc { loops: &[], ..*p };
-    if !has_addresses(p) {
-        return derive_none(alloc, arena, plain);
-    }
-    let order = block_order(alloc, p)?;
-    let live = live_with(alloc, p, &order, &[])?;
-    let settings = all_settings(alloc, p, &order)?;
-    let relevant = relevant_temps(alloc, p, &order, &live, &settings)?;
-    if !relevant.contains(&true) {
-        return derive_none(alloc, arena, plain);
-    }
-    let mut shapes = shapes_of(alloc, arena, p, &live, &settings, &relevant)?;
-    let kept = kept_temps(alloc, p, &order, &live, &settings, &relevant, &shapes)?;
-    let keeper = keep_all(alloc, arena, p, &mut shapes, &settings, &kept)?;
-    let blocks = rewrite(alloc, arena, p, &mut shapes, &keeper, &settings)?;
-    let derivations = all_derivations(arena, &shapes, &keeper, &relevant)?;
-    let temps = arena.try_alloc_slice_copy(&keeper.kinds)?;
-    let rewritten = Proc {
-        temps,
-        blocks,
-        ..plain
-    };
-    with_rows(alloc, arena, rewritten, derivations)
+    let based = find_bases(alloc, arena, p)?;
+    with_rows(alloc, arena, based)
 }

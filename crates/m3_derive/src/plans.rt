@@ -1,28 +1,6 @@
+use m3_bases::Derivation;
 use m3_flow::RowUse;
 use m3_mid::Proc;
-
-/// A base of a derived pointer: a tidy temporary, or the slot of a formal by reference, which the caller
-/// describes.
-#[derive(Clone, Copy, Debug, PartialEq, Eq)]
-pub enum Base {
-    Temp(u32),
-    Slot(u32),
-}
-
-/// The bases of a derived pointer on one way: those that were added up to it, and those that were taken away.
-#[derive(Clone, Copy)]
-pub struct WayPlan<'a> {
-    pub added: &'a [Base],
-    pub subtracted: &'a [Base],
-}
-
-/// What a derived temporary is derived from. Where it has more than one way, the temporary `path` tells which
-/// one holds, counted from 0.
-#[derive(Clone, Copy)]
-pub struct Derivation<'a> {
-    pub path: Option<u32>,
-    pub ways: &'a [WayPlan<'a>],
-}
 
 /// The row of a point: its operation, and the tidy and the derived temporaries that it names. It names every
 /// slot of Kind Tidy, the formals by reference, and what it passes to a callee beside.

@@ -1,16 +1,12 @@
 use crate::active::{Active, ActiveSet};
-use crate::plans::{Base, Derivation, RowPlan, WayPlan};
+use crate::plans::RowPlan;
 use bumpalo::Bump;
 use bumpalo::collections::into_bump_slice;
 use m3_base::{NoMemory, place_number};
+use m3_bases::{Base, Derivation, WayPlan, kind_of};
 use m3_flow::{LiveSets, Order, RowUse, actuals_of, is_call, is_point, ops_of, shown_at};
 use m3_mid::{Actual, Held, Kind, MidOp, Proc};
 use std::alloc::Global;
-
-/// The kind of a temporary.
-pub(crate) fn kind_of(p: &Proc, temp: u32) -> Kind {
-    p.temps.get(temp as usize).copied().unwrap_or(Kind::Number)
-}
 
 /// The derivation of a temporary; none where it isn't derived.
 pub(crate) fn derivation_of<'a>(

@@ -1,38 +1,38 @@
-use crate::branches::Fork;
+use m3_code::Fork;
 use crate::calls::Passed;
-use crate::emitter::Emitter;
-use crate::part::Places;
+use crate::writer::Writer;
+use m3_code::Places;
 use m3_base::NoMemory;
 use m3_isa::Op;
 use m3_mid::{End, MidOp};
 
-impl<'a> Emitter<'a> {
+impl<'a> Writer<'a> {
     /// An operation without a point.
     fn put_plain(&mut self, op: MidOp<'a>, next: Option<MidOp<'a>>) -> Result<(), NoMemory> {
         match op {
-            MidOp::Number { to, value } => self.put_constant(to, value),
-            MidOp::Move { to, from } => self.put_move(to, from),
+            MidOp::Number { to, value } => self.emitter.put_constant(to, value),
+            MidOp::Move { to, from } => self.emitter.put_move(to, from),
             MidOp::Arith {
                 to,
                 operator,
                 left,
                 right,
-            } => self.put_arith(to, operator, left, right),
+            } => self.emitter.put_arith(to, operator, left, right),
             MidOp::Compare {
                 to,
                 relation,
                 left,
                 right,
-            } => self.put_compare(to, relation, left, right),
-            MidOp::Load { to, from } => self.put_load(to, from),
-            MidOp::Store { at, from } => self.put_store(at, from),
+            } => self.emitter.put_compare(to, relation, left, right),
+            MidOp::Load { to, from } => self.emitter.put_load(to, from),
+            MidOp::Store { at, from } => self.emitter.put_store(at, from),
             MidOp::Index {
                 to,
                 array,
                 index,
                 words,
                 offset,
-            } => self.put_index((to, array), index, words, offset, next),
+            } => self.emitter.put_index((to, array), index, words, offset, next),
             _ => self.put_rest(op),
         }
     }
@@ -41,33 +41,33 @@ impl<'a> Emitter<'a> {
     fn put_rest(&mut self, op: MidOp<'a>) -> Result<(), NoMemory> {
         match op {
             MidOp::SlotAddress { to, slot } => {
-                self.put_address(Op::Slot, to, crate::plain::word_of(slot))
+                self.emitter.put_address(Op::Slot, to, m3_code::word_of(slot))
             }
-            MidOp::FrameAddress { to } => self.put_address(Op::Slot, to, 0),
-            MidOp::GlobalAddress { to, word } => self.put_address(Op::Glb, to, word),
+            MidOp::FrameAddress { to } => self.emitter.put_address(Op::Slot, to, 0),
+            MidOp::GlobalAddress { to, word } => self.emitter.put_address(Op::Glb, to, word),
             MidOp::TextCell { to, text } => {
-                let at = self.links.texts.get(text as usize).copied().unwrap_or(0);
-                self.put_address(Op::Con, to, at)
+                let at = self.emitter.links.texts.get(text as usize).copied().unwrap_or(0);
+                self.emitter.put_address(Op::Con, to, at)
             }
             MidOp::ConstantAddress { to, constant } => {
-                let at = self
+                let at = self.emitter
                     .links
                     .constants
                     .get(constant as usize)
                     .copied()
                     .unwrap_or(0);
-                self.put_address(Op::Con, to, at)
+                self.emitter.put_address(Op::Con, to, at)
             }
             MidOp::Copy {
                 to_address,
                 from_address,
                 words,
-            } => self.put_copy(to_address, from_address, words),
+            } => self.emitter.put_copy(to_address, from_address, words),
             MidOp::Fill {
                 at,
                 words,
                 distance,
-            } => self.put_fill(at, words, distance),
+            } => self.emitter.put_fill(at, words, distance),
             _ => self.put_cell_test(op),
         }
     }
@@ -81,14 +81,14 @@ impl<'a> Emitter<'a> {
                 left,
                 right,
                 words,
-            } => self.put_equal_words(to, left, right, words),
-            MidOp::TypeTest { to, cell, tested } => self.put_test(Op::Subt, to, cell, tested),
-            MidOp::MethodOf { to, object, method } => self.put_test(Op::Meth, to, object, method),
+            } => self.emitter.put_equal_words(to, left, right, words),
+            MidOp::TypeTest { to, cell, tested } => self.emitter.put_test(Op::Subt, to, cell, tested),
+            MidOp::MethodOf { to, object, method } => self.emitter.put_test(Op::Meth, to, object, method),
             MidOp::TextByte { to, text, index } => {
-                self.put_binary(Op::Tget, to, Operand::Temp(text), index)
+                self.emitter.put_binary(Op::Tget, to, Operand::Temp(text), index)
             }
             MidOp::EqualTexts { to, left, right } => {
-                self.put_binary(Op::Teq, to, Operand::Temp(left), Operand::Temp(right))
+                self.emitter.put_binary(Op::Teq, to, Operand::Temp(left), Operand::Temp(right))
             }
             _ => Ok(()),
         }
@@ -105,8 +105,8 @@ impl<'a> Emitter<'a> {
                 shown: _,
             } => {
                 let mut passed = Passed {
-                    tidy: Vec::new(self.alloc),
-                    derived: Vec::new(self.alloc),
+                    tidy: Vec::new(self.emitter.alloc),
+                    derived: Vec::new(self.emitter.alloc),
                 };
                 self.put_call(op, callee, actuals, outcome, raised, &mut passed)
             }
@@ -138,14 +138,14 @@ impl<'a> Emitter<'a> {
                 left,
                 right,
                 pos,
-            } => self.put_checked(to, operator, (left, right), pos, places),
+            } => self.emitter.put_checked(to, operator, (left, right), pos, places),
             MidOp::Check {
                 relation,
                 left,
                 right,
                 fault,
                 pos,
-            } => self.put_check(relation, left, right, (fault, pos), places),
+            } => self.emitter.put_check(relation, left, right, (fault, pos), places),
             _ if m3_flow::is_point(op) => self.put_pointed(op, places),
             _ => self.put_plain(op, next),
         }
@@ -158,19 +158,31 @@ impl<'a> Emitter<'a> {
         places: &mut Places,
     ) -> Result<(), NoMemory> {
         for (at, op) in ops.iter().enumerate() {
-            let fold = self.fold;
-            self.unpin();
+            let fold = self.emitter.fold;
+            self.emitter.unpin();
             if let Some(fold) = fold {
-                self.pin_register(fold.register);
+                self.emitter.pin_register(fold.register);
             }
             let next = ops.get(at.saturating_add(1)).copied();
             self.put_op(*op, next, places)?;
             if fold.is_some() {
-                self.fold = None;
+                self.emitter.fold = None;
             }
         }
-        self.unpin();
+        self.emitter.unpin();
         Ok(())
+    }
+
+    /// Goes on at a block; a return that stands there alone takes no jump.
+    fn put_next(&mut self, to: u32, next: Option<u32>) -> Result<(), NoMemory> {
+        let p = self.emitter.placed.derived.proc;
+        if next != Some(to)
+            && m3_flow::ops_of(&p, to).is_empty()
+            && let End::Return { value } = m3_flow::end_of(&p, to)
+        {
+            return self.put_return(value);
+        }
+        self.emitter.put_goto(to, next)
     }
 
     /// The end of a block, behind which the code of another one follows.
@@ -182,14 +194,14 @@ impl<'a> Emitter<'a> {
         places: &mut Places,
     ) -> Result<(), NoMemory> {
         match end {
-            End::Goto(to) => self.put_goto(target(targets, to), next),
+            End::Goto(to) => self.put_next(target(targets, to), next),
             End::If {
                 relation,
                 left,
                 right,
                 yes,
                 no,
-            } => self.put_if(
+            } => self.emitter.put_if(
                 relation,
                 left,
                 right,
@@ -200,7 +212,7 @@ impl<'a> Emitter<'a> {
                 },
             ),
             End::Return { value } => self.put_return(value),
-            End::FaultAt { kind, pos } => self.put_fault(kind, pos, places),
+            End::FaultAt { kind, pos } => self.emitter.put_fault(kind, pos, places),
             End::Raise {
                 exception,
                 number,

@@ -1,5 +1,6 @@
-use crate::emitter::{Emitter, FIRST};
-use crate::plain::word_of;
+use crate::writer::Writer;
+use m3_code::FIRST;
+use m3_code::word_of;
 use m3_base::{NoMemory, gap};
 use m3_isa::Op;
 use m3_mid::{Actual, Callee, Kind, MidOp, Operand, Raised};
@@ -19,19 +20,19 @@ struct Transfer {
     to: u8,
 }
 
-impl<'a> Emitter<'a> {
+impl<'a> Writer<'a> {
     fn is_tidy(&self, operand: Operand) -> bool {
         match operand {
-            Operand::Temp(temp) => self.kind_of(temp) == Kind::Tidy,
+            Operand::Temp(temp) => self.emitter.kind_of(temp) == Kind::Tidy,
             Operand::Number(_) => false,
         }
     }
 
     /// Stores an operand in a word of the frame.
     fn put_outgoing(&mut self, operand: Operand, word: u32) -> Result<(), NoMemory> {
-        self.unpin();
-        let register = self.operand(operand)?;
-        self.put_word(Op::Sts, register, word)
+        self.emitter.unpin();
+        let register = self.emitter.operand(operand)?;
+        self.emitter.put_word(Op::Sts, register, word)
     }
 
     fn put_tidy_word(
@@ -55,22 +56,22 @@ impl<'a> Emitter<'a> {
         passed: &mut Passed,
     ) -> Result<(), NoMemory> {
         self.note_slots(first, count, word, passed)?;
-        self.unpin();
+        self.emitter.unpin();
         if count < 5 {
             for at in 0..count {
-                self.unpin();
-                let register = self.scratch()?;
-                self.put_word(Op::Lds, register, word_of(first).saturating_add(at))?;
-                self.put_word(Op::Sts, register, word.saturating_add(at))?;
+                self.emitter.unpin();
+                let register = self.emitter.scratch()?;
+                self.emitter.put_word(Op::Lds, register, word_of(first).saturating_add(at))?;
+                self.emitter.put_word(Op::Sts, register, word.saturating_add(at))?;
             }
             return Ok(());
         }
-        let to = self.scratch()?;
-        self.put_word(Op::Slot, to, word)?;
-        let from = self.scratch()?;
-        self.put_word(Op::Slot, from, word_of(first))?;
-        let words = self.number(i64::from(count))?;
-        self.put_abc(Op::Copy, to, from, words)
+        let to = self.emitter.scratch()?;
+        self.emitter.put_word(Op::Slot, to, word)?;
+        let from = self.emitter.scratch()?;
+        self.emitter.put_word(Op::Slot, from, word_of(first))?;
+        let words = self.emitter.number(i64::from(count))?;
+        self.emitter.put_abc(Op::Copy, to, from, words)
     }
 
     fn note_slots(
@@ -82,7 +83,7 @@ impl<'a> Emitter<'a> {
     ) -> Result<(), NoMemory> {
         for at in 0..count {
             let slot = first.saturating_add(at);
-            if let Some(slot) = self.placed.derived.proc.slots.get(slot as usize)
+            if let Some(slot) = self.emitter.placed.derived.proc.slots.get(slot as usize)
                 && slot.kind == Kind::Tidy
             {
                 passed.tidy.push(word.saturating_add(at))?;
@@ -108,7 +109,7 @@ impl<'a> Emitter<'a> {
                 Ok(word.saturating_add(count))
             }
             Actual::Reference { address, base } => {
-                if self.kind_of(address) == Kind::Address {
+                if self.emitter.kind_of(address) == Kind::Address {
                     passed.derived.push((word, address))?;
                 }
                 self.put_outgoing(Operand::Temp(address), word)?;
@@ -120,7 +121,7 @@ impl<'a> Emitter<'a> {
     }
 
     fn put_actuals(&mut self, actuals: &[Actual], passed: &mut Passed) -> Result<(), NoMemory> {
-        let mut word = self.placed.body.saturating_add(3);
+        let mut word = self.emitter.placed.body.saturating_add(3);
         for actual in actuals {
             word = self.put_actual(*actual, word, passed)?;
         }
@@ -129,7 +130,7 @@ impl<'a> Emitter<'a> {
 
     /// Everything of a call up to its instruction, which is still to come.
     fn prepare(&mut self, callee: Callee) -> Result<(Op, u8, u32), NoMemory> {
-        let environment_word = self.placed.body.saturating_add(2);
+        let environment_word = self.emitter.placed.body.saturating_add(2);
         match callee {
             Callee::Outermost(procedure) => Ok((Op::Call, 0, procedure.saturating_add(2))),
             Callee::Inner {
@@ -141,8 +142,8 @@ impl<'a> Emitter<'a> {
             }
             Callee::Value { code, environment } => {
                 self.put_outgoing(Operand::Temp(environment), environment_word)?;
-                self.unpin();
-                let register = self.temp(code)?;
+                self.emitter.unpin();
+                let register = self.emitter.temp(code)?;
                 Ok((Op::Callr, register, 0))
             }
             Callee::Method(method) => Ok((Op::Callm, 0, method)),
@@ -162,21 +163,21 @@ impl<'a> Emitter<'a> {
         self.put_actuals(actuals, passed)?;
         let (call, register, number) = self.prepare(callee)?;
         self.add_row(op, &[], passed)?;
-        self.put_word(call, register, number)?;
-        self.forget_all();
-        self.unpin();
+        self.emitter.put_word(call, register, number)?;
+        self.emitter.forget_all();
+        self.emitter.unpin();
         self.take_results(outcome, raised)
     }
 
     fn add_transfer(&mut self, list: &mut Vec<Transfer>, from: u8, to: u32) -> Result<(), NoMemory> {
-        match self.place_of(to) {
+        match self.emitter.place_of(to) {
             Location::Register(register) => {
                 if register != from {
                     list.push(Transfer { from, to: register })?;
                 }
                 Ok(())
             }
-            Location::Slot(word) => self.put_word(Op::Sts, from, word),
+            Location::Slot(word) => self.emitter.put_word(Op::Sts, from, word),
         }
     }
 
@@ -186,7 +187,7 @@ impl<'a> Emitter<'a> {
         outcome: Option<u32>,
         raised: Option<Raised>,
     ) -> Result<(), NoMemory> {
-        let mut transfers = Vec::new(self.alloc);
+        let mut transfers = Vec::new(self.emitter.alloc);
         if let Some(to) = outcome {
             self.add_transfer(&mut transfers, 0, to)?;
         }
@@ -207,7 +208,7 @@ impl<'a> Emitter<'a> {
             match ready(list) {
                 Some(at) => {
                     if let Some(item) = list.get(at).copied() {
-                        self.put_abc(Op::Move, item.to, item.from, 0)?;
+                        self.emitter.put_abc(Op::Move, item.to, item.from, 0)?;
                     }
                     if at < list.len() {
                         let _moved = list.remove(at);
@@ -222,8 +223,8 @@ impl<'a> Emitter<'a> {
     /// Breaks a ring of moves: the word of the first goes through a register of its own.
     fn set_aside(&mut self, list: &mut Vec<Transfer>) -> Result<(), NoMemory> {
         if let Some(first) = list.first().copied() {
-            let register = self.scratch()?;
-            self.put_abc(Op::Move, register, first.from, 0)?;
+            let register = self.emitter.scratch()?;
+            self.emitter.put_abc(Op::Move, register, first.from, 0)?;
             for item in list.iter_mut() {
                 if item.from == first.from {
                     item.from = register;
@@ -235,10 +236,10 @@ impl<'a> Emitter<'a> {
 
     /// Puts operands into registers, as if all were read first.
     fn load_all(&mut self, goals: &[(u8, Operand)]) -> Result<(), NoMemory> {
-        let mut transfers = Vec::new(self.alloc);
+        let mut transfers = Vec::new(self.emitter.alloc);
         for (to, operand) in goals {
             if let Operand::Temp(temp) = operand
-                && let Location::Register(from) = self.place_of(*temp)
+                && let Location::Register(from) = self.emitter.place_of(*temp)
                 && from != *to
             {
                 transfers.push(Transfer { from, to: *to })?;
@@ -248,12 +249,12 @@ impl<'a> Emitter<'a> {
         for (to, operand) in goals {
             let is_moved = match operand {
                 Operand::Temp(temp) => {
-                    matches!(self.place_of(*temp), Location::Register(register) if register < FIRST)
+                    matches!(self.emitter.place_of(*temp), Location::Register(register) if register < FIRST)
                 }
                 Operand::Number(_) => false,
             };
             if !is_moved {
-                self.load_into(*to, *operand)?;
+                self.emitter.load_into(*to, *operand)?;
             }
         }
         Ok(())
@@ -262,10 +263,10 @@ impl<'a> Emitter<'a> {
     /// Returns, with the result in register 0 and 0 in register 1: no exception.
     pub(crate) fn put_return(&mut self, value: Option<Operand>) -> Result<(), NoMemory> {
         if let Some(value) = value {
-            self.load_into(0, value)?;
+            self.emitter.load_into(0, value)?;
         }
-        self.put_imm(Op::Li, 1, 0, 0)?;
-        self.put_abc(Op::Ret, 0, 0, 0)
+        self.emitter.put_imm(Op::Li, 1, 0, 0)?;
+        self.emitter.put_abc(Op::Ret, 0, 0, 0)
     }
 
     /// Leaves by an exception, with its number and 1 more in register 1 and its arguments behind.
@@ -276,7 +277,7 @@ impl<'a> Emitter<'a> {
         tidy: Operand,
     ) -> Result<(), NoMemory> {
         self.load_all(&[(1, exception), (2, number), (3, tidy)])?;
-        self.put_abc(Op::Ret, 0, 0, 0)
+        self.emitter.put_abc(Op::Ret, 0, 0, 0)
     }
 }
 

@@ -1,7 +1,9 @@
 use crate::blocks::target;
-use crate::emitter::{Content, Emitter, Target};
-use crate::part::{Links, Part, Places};
-use crate::plain::word_of;
+use crate::writer::Writer;
+use m3_code::{Emitter, Target, imm_of};
+use crate::part::Part;
+use m3_code::{Links, Places};
+use m3_code::word_of;
 use crate::starts::unset_words;
 use crate::targets::{entries_of, laid_of, targets_of};
 use m3_alloc::Placed;
@@ -49,24 +51,14 @@ fn words_of_kind(alloc: Global, p: &Proc, kind: Kind) -> Result<Vec<u32>, NoMemo
     Ok(words)
 }
 
-fn emitter_of<'a>(
+fn writer_of<'a>(
     alloc: Global,
     placed: &'a Placed<'a>,
     links: Links<'a>,
-) -> Result<Emitter<'a>, NoMemory> {
+) -> Result<Writer<'a>, NoMemory> {
     let p = &placed.derived.proc;
-    Ok(Emitter {
-        alloc,
-        placed,
-        links,
-        code: Vec::new(alloc),
-        contents: vec![in alloc; Content::Nothing; 4]?,
-        pins: vec![in alloc; false; 4]?,
-        turn: 0,
-        fold: None,
-        counts: counts_of(alloc, p)?,
-        jumps: Vec::new(alloc),
-        stubs: Vec::new(alloc),
+    Ok(Writer {
+        emitter: Emitter::new(alloc, placed, links, counts_of(alloc, p)?)?,
         rows: Vec::new(alloc),
         spans: Vec::new(alloc),
         tidy_words: words_of_kind(alloc, p, Kind::Tidy)?,
@@ -105,7 +97,7 @@ fn next_of(map: &Map, at: usize) -> Option<u32> {
     map.laid.get(at.saturating_add(1)).copied()
 }
 
-impl<'a> Emitter<'a> {
+impl<'a> Writer<'a> {
     /// The code of all blocks. What registers hold is known at the front of a block that is entered from the
     /// one before it alone.
     fn put_blocks(&mut self, map: &mut Map, places: &mut Places) -> Result<(), NoMemory> {
@@ -114,7 +106,7 @@ impl<'a> Emitter<'a> {
             let Some(number) = map.laid.get(at).copied() else {
                 return Ok(());
             };
-            let Some(block) = self
+            let Some(block) = self.emitter
                 .placed
                 .derived
                 .proc
@@ -125,9 +117,9 @@ impl<'a> Emitter<'a> {
                 return Ok(());
             };
             if !falls || map.entries.get(number as usize).copied() != Some(1) {
-                self.forget_all();
+                self.emitter.forget_all();
             }
-            let here = self.here()?;
+            let here = self.emitter.here()?;
             if let Some(front) = map.fronts.get_mut(number as usize) {
                 *front = here;
             }
@@ -141,10 +133,10 @@ impl<'a> Emitter<'a> {
 
     /// The faults, behind all other code.
     fn put_stubs(&mut self, map: &mut Map) -> Result<(), NoMemory> {
-        for at in 0..self.stubs.len() {
-            if let Some((kind, place)) = self.stubs.get(at).copied() {
-                map.stubs.push(self.here()?)?;
-                self.put_word(Op::Fault, kind, place)?;
+        for at in 0..self.emitter.stubs.len() {
+            if let Some((kind, place)) = self.emitter.stubs.get(at).copied() {
+                map.stubs.push(self.emitter.here()?)?;
+                self.emitter.put_word(Op::Fault, kind, place)?;
             }
         }
         Ok(())
@@ -152,13 +144,13 @@ impl<'a> Emitter<'a> {
 
     /// Lets the jumps go where their targets begin.
     fn set_jumps(&mut self, map: &Map) -> Result<(), NoMemory> {
-        for (instr, to) in &self.jumps {
+        for (instr, to) in &self.emitter.jumps {
             let at = match *to {
                 Target::Block(block) => map.fronts.get(block as usize).copied(),
                 Target::Stub(stub) => map.stubs.get(stub as usize).copied(),
             };
-            let imm = i32::try_from(at.ok_or(gap())?).map_err(|_| gap())?;
-            if let Some(item) = self.code.get_mut(*instr as usize) {
+            let imm = imm_of(at.ok_or(gap())?)?;
+            if let Some(item) = self.emitter.code.get_mut(*instr as usize) {
                 item.imm = imm;
             }
         }
@@ -166,11 +158,11 @@ impl<'a> Emitter<'a> {
     }
 
     fn put_all(&mut self, map: &mut Map, places: &mut Places) -> Result<(), NoMemory> {
-        let p = self.placed.derived.proc;
-        let mut words = unset_words(self.alloc, &p)?;
+        let p = self.emitter.placed.derived.proc;
+        let mut words = unset_words(self.emitter.alloc, &p)?;
         self.put_start(&mut words)?;
         let first = map.laid.first().copied();
-        self.put_goto(target(&map.targets, p.start), first)?;
+        self.emitter.put_goto(target(&map.targets, p.start), first)?;
         self.put_blocks(map, places)?;
         self.put_stubs(map)?;
         self.set_jumps(map)
@@ -198,25 +190,19 @@ pub fn emit<'a>(
     places: &mut Places,
 ) -> Result<Part, NoMemory> {
     let mut map = map_of(alloc, &placed.derived.proc)?;
-    let mut emitter = emitter_of(alloc, placed, links)?;
-    emitter.put_all(&mut map, places)?;
-    let Emitter {
-        alloc: _,
-        placed: _,
-        links: _,
-        code,
-        contents: _,
-        pins: _,
-        turn: _,
-        fold: _,
-        counts: _,
-        jumps: _,
-        stubs: _,
+    let mut writer = writer_of(alloc, placed, links)?;
+    writer.put_all(&mut map, places)?;
+    let Writer {
+        emitter,
         rows,
         spans,
         tidy_words: _,
         passed_words: _,
         row: _,
-    } = emitter;
-    Ok(Part { code, rows, spans })
+    } = writer;
+    Ok(Part {
+        code: emitter.into_code(),
+        rows,
+        spans,
+    })
 }

@@ -1,7 +1,7 @@
 use crate::calls::Passed;
-use crate::emitter::Emitter;
+use crate::writer::Writer;
 use crate::part::SpanPart;
-use crate::plain::word_of;
+use m3_code::word_of;
 use m3_base::{NoMemory, gap};
 use m3_derive::{Base, Derivation, RowPlan, WayPlan};
 use m3_flow::shown_at;
@@ -37,16 +37,16 @@ fn places_of_words(alloc: Global, words: &[u32]) -> Result<Vec<Location>, NoMemo
     places_of(alloc, &mut numbers)
 }
 
-impl<'a> Emitter<'a> {
+impl<'a> Writer<'a> {
     fn tidy_places(&self, row: &RowPlan<'a>) -> Result<Vec<Location>, NoMemory> {
-        let mut numbers = Vec::new(self.alloc);
+        let mut numbers = Vec::new(self.emitter.alloc);
         for word in &self.tidy_words {
             numbers.push(number_of(Location::Slot(*word))?)?;
         }
         for temp in row.tidy {
-            numbers.push(number_of(self.place_of(*temp))?)?;
+            numbers.push(number_of(self.emitter.place_of(*temp))?)?;
         }
-        places_of(self.alloc, &mut numbers)
+        places_of(self.emitter.alloc, &mut numbers)
     }
 
     fn argument_places(
@@ -54,25 +54,25 @@ impl<'a> Emitter<'a> {
         listed: &[u8],
         passed: &Passed,
     ) -> Result<Vec<Location>, NoMemory> {
-        let mut numbers = Vec::new(self.alloc);
+        let mut numbers = Vec::new(self.emitter.alloc);
         for register in listed {
             numbers.push(u32::from(*register))?;
         }
         for word in &passed.tidy {
             numbers.push(number_of(Location::Slot(*word))?)?;
         }
-        places_of(self.alloc, &mut numbers)
+        places_of(self.emitter.alloc, &mut numbers)
     }
 
     fn base_place(&self, base: Base) -> Location {
         match base {
-            Base::Temp(temp) => self.place_of(temp),
+            Base::Temp(temp) => self.emitter.place_of(temp),
             Base::Slot(slot) => Location::Slot(word_of(slot)),
         }
     }
 
     fn base_places(&self, bases: &[Base]) -> Result<Vec<Location>, NoMemory> {
-        let mut places = Vec::new(self.alloc);
+        let mut places = Vec::new(self.emitter.alloc);
         for base in bases {
             places.push(self.base_place(*base))?;
         }
@@ -90,20 +90,24 @@ impl<'a> Emitter<'a> {
         location: Location,
         derivation: Derivation<'a>,
     ) -> Result<DerivedPlain, NoMemory> {
-        let mut ways = Vec::new(self.alloc);
+        let mut ways = Vec::new(self.emitter.alloc);
         for way in derivation.ways {
             let way = self.way(*way)?;
             ways.push(way)?;
         }
+        let path = match derivation.path {
+            None => None,
+            Some(path) => Some(self.emitter.place_of(path)),
+        };
         Ok(DerivedPlain {
             location,
-            path: derivation.path.map(|path| self.place_of(path)),
+            path,
             ways,
         })
     }
 
     fn derivation(&self, temp: u32) -> Result<Derivation<'a>, NoMemory> {
-        self.placed
+        self.emitter.placed
             .derived
             .derivations
             .get(temp as usize)
@@ -116,9 +120,9 @@ impl<'a> Emitter<'a> {
         row: &RowPlan<'a>,
         passed: &Passed,
     ) -> Result<Vec<DerivedPlain>, NoMemory> {
-        let mut places = Vec::new(self.alloc);
+        let mut places = Vec::new(self.emitter.alloc);
         for temp in row.derived {
-            let place = self.derived_place(self.place_of(*temp), self.derivation(*temp)?)?;
+            let place = self.derived_place(self.emitter.place_of(*temp), self.derivation(*temp)?)?;
             places.push(place)?;
         }
         for (word, temp) in &passed.derived {
@@ -131,7 +135,7 @@ impl<'a> Emitter<'a> {
     fn add_spans(&mut self, op: MidOp, instr: u32) -> Result<(), NoMemory> {
         for shown in shown_at(op) {
             let location = match shown.at {
-                Held::Temp(temp) => self.place_of(temp),
+                Held::Temp(temp) => self.emitter.place_of(temp),
                 Held::Slot(slot) => Location::Slot(word_of(slot)),
             };
             self.spans.push(SpanPart {
@@ -151,8 +155,8 @@ impl<'a> Emitter<'a> {
         listed: &[u8],
         passed: &Passed,
     ) -> Result<(), NoMemory> {
-        let instr = self.here()?;
-        let row = self
+        let instr = self.emitter.here()?;
+        let row = self.emitter
             .placed
             .derived
             .rows
@@ -162,7 +166,7 @@ impl<'a> Emitter<'a> {
         self.row = self.row.saturating_add(1);
         let tidy = self.tidy_places(&row)?;
         let arguments = self.argument_places(listed, passed)?;
-        let own = places_of_words(self.alloc, &self.passed_words)?;
+        let own = places_of_words(self.emitter.alloc, &self.passed_words)?;
         let derived = self.derived_places(&row, passed)?;
         self.rows.push(RowPlain {
             instr,

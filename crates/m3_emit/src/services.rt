@@ -1,7 +1,8 @@
 use crate::calls::Passed;
-use crate::emitter::{Emitter, FIRST, Target};
-use crate::operands::Goal;
-use crate::part::Places;
+use crate::writer::Writer;
+use m3_code::{FIRST, Target};
+use m3_code::Goal;
+use m3_code::Places;
 use m3_base::{FaultKind, NoMemory, Pos};
 use m3_isa::{Instr, Op};
 use m3_mid::{Kind, MidOp, Operand, Service};
@@ -74,7 +75,7 @@ fn instr_of(op: Op, form: Form, registers: Registers) -> Instr {
     Instr { op, a, b, c, imm }
 }
 
-impl<'a> Emitter<'a> {
+impl<'a> Writer<'a> {
     /// The register of an operand of a service; where a tidy one isn't in the register of its temporary, the
     /// row of the point names it.
     fn service_operand(
@@ -82,9 +83,9 @@ impl<'a> Emitter<'a> {
         operand: Operand,
         listed: &mut Vec<u8>,
     ) -> Result<u8, NoMemory> {
-        let register = self.operand(operand)?;
+        let register = self.emitter.operand(operand)?;
         if let Operand::Temp(temp) = operand
-            && self.kind_of(temp) == Kind::Tidy
+            && self.emitter.kind_of(temp) == Kind::Tidy
             && FIRST <= register
             && !listed.contains(&register)
         {
@@ -111,9 +112,9 @@ impl<'a> Emitter<'a> {
     /// Where a result goes that nobody wants too.
     fn service_goal(&mut self, to: Option<u32>) -> Result<Goal, NoMemory> {
         match to {
-            Some(to) => self.goal(to),
+            Some(to) => self.emitter.goal(to),
             None => Ok(Goal {
-                register: self.scratch()?,
+                register: self.emitter.scratch()?,
                 word: None,
             }),
         }
@@ -145,10 +146,10 @@ impl<'a> Emitter<'a> {
         places: &mut Places,
     ) -> Result<(), NoMemory> {
         match fault {
-            None => self.put(instr),
+            None => self.emitter.put(instr),
             Some(kind) => {
-                let target: Target = self.fault(kind, pos, places)?;
-                self.put_jump(instr, target)
+                let target: Target = self.emitter.fault(kind, pos, places)?;
+                self.emitter.put_jump(instr, target)
             }
         }
     }
@@ -165,12 +166,12 @@ impl<'a> Emitter<'a> {
         let (to, raised_to) = goals;
         let (pos, places) = fault;
         let (instr, form, kind) = form_of(service);
-        let mut listed = Vec::new(self.alloc);
+        let mut listed = Vec::new(self.emitter.alloc);
         let registers = self.service_operands(operands, &mut listed)?;
         let (result, raised) = self.service_goals(form, to)?;
         let passed = Passed {
-            tidy: Vec::new(self.alloc),
-            derived: Vec::new(self.alloc),
+            tidy: Vec::new(self.emitter.alloc),
+            derived: Vec::new(self.emitter.alloc),
         };
         self.add_row(op, &listed, &passed)?;
         let instr = instr_of(
@@ -183,12 +184,12 @@ impl<'a> Emitter<'a> {
             },
         );
         self.put_service_instr(instr, kind, pos, places)?;
-        self.forget_words();
+        self.emitter.forget_words();
         if let Some(goal) = result {
-            self.settle(goal)?;
+            self.emitter.settle(goal)?;
         }
         match (raised, raised_to) {
-            (Some(goal), Some(to)) => self.give(to, goal.register),
+            (Some(goal), Some(to)) => self.emitter.give(to, goal.register),
             _ => Ok(()),
         }
     }
@@ -202,26 +203,26 @@ impl<'a> Emitter<'a> {
         sizes: Option<u32>,
     ) -> Result<(), NoMemory> {
         let passed = Passed {
-            tidy: Vec::new(self.alloc),
-            derived: Vec::new(self.alloc),
+            tidy: Vec::new(self.emitter.alloc),
+            derived: Vec::new(self.emitter.alloc),
         };
         let imm = i32::try_from(cell).unwrap_or(i32::MAX);
         match sizes {
             None => {
-                let goal = self.goal(to)?;
+                let goal = self.emitter.goal(to)?;
                 self.add_row(op, &[], &passed)?;
-                self.put_imm(Op::New, goal.register, 0, imm)?;
-                self.forget_words();
-                self.settle(goal)
+                self.emitter.put_imm(Op::New, goal.register, 0, imm)?;
+                self.emitter.forget_words();
+                self.emitter.settle(goal)
             }
             Some(slot) => {
-                let at = self.scratch()?;
-                self.put_word(Op::Slot, at, crate::plain::word_of(slot))?;
-                let goal = self.goal(to)?;
+                let at = self.emitter.scratch()?;
+                self.emitter.put_word(Op::Slot, at, m3_code::word_of(slot))?;
+                let goal = self.emitter.goal(to)?;
                 self.add_row(op, &[], &passed)?;
-                self.put_imm(Op::Newo, goal.register, at, imm)?;
-                self.forget_words();
-                self.settle(goal)
+                self.emitter.put_imm(Op::Newo, goal.register, at, imm)?;
+                self.emitter.forget_words();
+                self.emitter.settle(goal)
             }
         }
     }
@@ -229,12 +230,12 @@ impl<'a> Emitter<'a> {
     /// A point without an action, with its row.
     pub(crate) fn put_point(&mut self, op: MidOp<'a>) -> Result<(), NoMemory> {
         let passed = Passed {
-            tidy: Vec::new(self.alloc),
-            derived: Vec::new(self.alloc),
+            tidy: Vec::new(self.emitter.alloc),
+            derived: Vec::new(self.emitter.alloc),
         };
         self.add_row(op, &[], &passed)?;
-        self.put_abc(Op::Point, 0, 0, 0)?;
-        self.forget_words();
+        self.emitter.put_abc(Op::Point, 0, 0, 0)?;
+        self.emitter.forget_words();
         Ok(())
     }
 }

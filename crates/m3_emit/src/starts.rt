@@ -1,5 +1,5 @@
-use crate::emitter::Emitter;
-use crate::plain::word_of;
+use crate::writer::Writer;
+use m3_code::word_of;
 use m3_base::{NoMemory, place_number};
 use m3_flow::is_point;
 use m3_isa::Op;
@@ -71,23 +71,23 @@ pub(crate) fn unset_words(alloc: Global, p: &Proc) -> Result<Vec<u32>, NoMemory>
     Ok(words)
 }
 
-impl<'a> Emitter<'a> {
+impl<'a> Writer<'a> {
     /// Makes words in a row 0.
     fn clear_run(&mut self, first: u32, count: u32) -> Result<(), NoMemory> {
-        self.unpin();
-        let zero = self.number(0)?;
+        self.emitter.unpin();
+        let zero = self.emitter.number(0)?;
         if count < 6 {
             for at in 0..count {
-                self.put_word(Op::Sts, zero, first.saturating_add(at))?;
+                self.emitter.put_word(Op::Sts, zero, first.saturating_add(at))?;
             }
             return Ok(());
         }
-        self.put_word(Op::Sts, zero, first)?;
-        let at = self.scratch()?;
-        self.put_word(Op::Slot, at, first)?;
-        let rest = self.number(i64::from(count).saturating_sub(1))?;
-        let one = self.number(1)?;
-        self.put_abc(Op::Fill, at, rest, one)
+        self.emitter.put_word(Op::Sts, zero, first)?;
+        let at = self.emitter.scratch()?;
+        self.emitter.put_word(Op::Slot, at, first)?;
+        let rest = self.emitter.number(i64::from(count).saturating_sub(1))?;
+        let one = self.emitter.number(1)?;
+        self.emitter.put_abc(Op::Fill, at, rest, one)
     }
 
     /// Makes words 0 that rise.
@@ -113,11 +113,11 @@ impl<'a> Emitter<'a> {
 
     /// Makes 0 what is read or listed before it is set.
     pub(crate) fn put_start(&mut self, words: &mut Vec<u32>) -> Result<(), NoMemory> {
-        for temp in &self.placed.at_start {
-            match self.place_of(*temp) {
+        for temp in &self.emitter.placed.at_start {
+            match self.emitter.place_of(*temp) {
                 Location::Register(register) => {
                     let register = register;
-                    self.code.push(m3_isa::Instr {
+                    self.emitter.code.push(m3_isa::Instr {
                         op: Op::Li,
                         a: register,
                         b: 0,

@@ -1,28 +1,8 @@
-//! What expressions are worth before a program runs: their types, and the values of those that are
-//! constant.
-//!
-//! An expression is judged once, from its parts to the whole, on the syntax tree. What breaks a rule of
-//! expressions has no worth, silently: it is judged again with the expressions of bodies. What is well
-//! formed has a type, and either a value or the first reason why it has none (rules 40 to 43). Where a
-//! name or a type is needed that isn't worked out yet, the need is noted and the judging goes on, so that
-//! all needs of an expression are found together; whoever called works them out, and asks once more.
+//! What an expression is worth before a program runs: the walk over its tree. It is recursive, as deep as
+//! constructs are nested; what it makes of the parts is in `m3_operate`.
 #![tactic(auto)]
 
 mod calls;
-mod constructors;
-mod conversions;
-mod evaluator;
 mod expressions;
-mod kinds;
-mod members;
-mod names;
-mod operators;
-mod predeclared;
-mod routines;
-mod selectors;
-mod values;
-mod worth;
 
-pub use evaluator::{Assumed, Evaluator, Need};
-pub use members::{Found, Member};
-pub use worth::{Known, Reason, Thing, Worth};
+pub use expressions::expression;

@@ -10,7 +10,7 @@ use crate::structures::{
 use crate::values::{Value, emit_value, form_of, kind_of, plan_value};
 use m3_core::{Actual as CoreActual, Chain, CoreExpr};
 use m3_mid::{Actual, Kind, MemoryWord, MidOp, Operand};
-use m3_storage::Form;
+use m3_storage::{Form, number_of, word_number};
 use m3_types::{Formal, Mode, TypeId};
 
 /// How an actual is passed, before its code is made.
@@ -136,7 +136,7 @@ fn plan_by_value<'m>(b: &mut Builder<'m, '_>, kind: TypeId, value: &CoreExpr) ->
             Planned::Scalar(plan_value(b, value))
         }
         Form::Structure(words) => {
-            let words = words as u32;
+            let words = word_number(words);
             if is_made(value) {
                 let at = plan_structure(b, value);
                 return Planned::Copied {
@@ -224,7 +224,7 @@ fn places_of(b: &mut Builder, count: usize, actuals: &[CoreActual]) -> Vec<u32> 
     for (place, actual) in actuals.iter().enumerate() {
         let formal = formal_of(actual) as usize;
         if formal < places.len() {
-            places[formal] = place as u32;
+            places[formal] = number_of(place);
         }
     }
     places
@@ -356,7 +356,7 @@ pub fn make<'m>(
             shown: around.shown,
         });
     }
-    let first = b.result_slots(sizes.len() as u32);
+    let first = b.result_slots(number_of(sizes.len()));
     let mut code = rest.after(MidOp::Make {
         to,
         cell,
@@ -365,7 +365,7 @@ pub fn make<'m>(
     });
     for (dim, size) in sizes.iter().enumerate() {
         code = code.after(MidOp::Store {
-            at: MemoryWord::Slot(first.wrapping_add(dim as u32)),
+            at: MemoryWord::Slot(first.wrapping_add(number_of(dim))),
             from: *size,
         });
     }

@@ -4,7 +4,7 @@ use crate::values::Value;
 use bumpalo::Bump;
 use m3_base::{FaultKind, NoMemory, Pos};
 use m3_mid::{Actual, Block, End, Kind, MemoryWord, MidOp, Operand, Proc, Raised, Shown, Slot};
-use m3_storage::Storage;
+use m3_storage::{Storage, number_of};
 use m3_types::TypeId;
 use std::alloc::Global;
 
@@ -86,12 +86,12 @@ impl<'m, 's> Builder<'m, 's> {
             self.has_failed = true;
             return 0;
         }
-        place as u32
+        number_of(place)
     }
 
     /// So many new temporaries in a row, of which the first is told.
     pub fn temps(&mut self, kind: Kind, count: u32) -> u32 {
-        let first = self.temps.len() as u32;
+        let first = number_of(self.temps.len());
         for _ in 0..count {
             self.temp(kind);
         }
@@ -113,7 +113,7 @@ impl<'m, 's> Builder<'m, 's> {
             self.has_failed = true;
             return 0;
         }
-        place as u32
+        number_of(place)
     }
 
     /// Whether there are slots of variables other than the formals' words.
@@ -124,7 +124,7 @@ impl<'m, 's> Builder<'m, 's> {
 
     /// How many slots there are.
     pub fn slot_count(&self) -> u32 {
-        self.slots.len() as u32
+        number_of(self.slots.len())
     }
 
     pub fn slot_kind(&self, slot: u32) -> Kind {
@@ -141,7 +141,7 @@ impl<'m, 's> Builder<'m, 's> {
             self.has_failed = true;
             return 0;
         }
-        place as u32
+        number_of(place)
     }
 
     /// The size that was kept at a place.
@@ -153,7 +153,7 @@ impl<'m, 's> Builder<'m, 's> {
     }
 
     pub fn next_size(&self) -> u32 {
-        self.sizes.len() as u32
+        number_of(self.sizes.len())
     }
 
     /// Keeps what a stage of a chain gives.
@@ -298,12 +298,12 @@ impl<'m, 's> Builder<'m, 's> {
             self.has_failed = true;
             return 0;
         }
-        place as u32
+        number_of(place)
     }
 
     /// A block that is set later.
     pub fn reserve(&mut self) -> u32 {
-        let place = self.blocks.len() as u32;
+        let place = number_of(self.blocks.len());
         self.add(Block {
             ops: &[],
             end: End::Goto(place),

@@ -265,7 +265,7 @@ fn plan_step<'m>(
             Value::At(Place {
                 at: Location::Address {
                     temp: cell,
-                    offset: offset as i64,
+                    offset: offset.cast_signed(),
                 },
                 base: Operand::Temp(cell),
                 sizes: 0,

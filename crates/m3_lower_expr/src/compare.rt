@@ -8,6 +8,7 @@ use crate::structures::{element_words, shape_of, total_words};
 use crate::values::Value;
 use m3_core::{Compared, Relation as Comparison};
 use m3_mid::{Kind, MidOp, Operand, Relation, WordOperator};
+use m3_storage::word_number;
 use m3_types::TypeId;
 
 /// A comparison of numbers as a relation, with its operands in their order.
@@ -228,7 +229,7 @@ fn compare_places<'m>(
             Some(kind) => b.storage.words(kind),
             None => 0,
         };
-        return compare_words(b, x, y, Operand::Number(words as i64), is_negated, to, code);
+        return compare_words(b, x, y, Operand::Number(words.cast_signed()), is_negated, to, code);
     }
     let (Some(left_kind), Some(right_kind)) = kinds else {
         return code;
@@ -310,7 +311,7 @@ pub fn cleared_value<'m>(
         return rest;
     }
     let words = match kind {
-        Some(kind) => b.storage.words(kind) as u32,
+        Some(kind) => word_number(b.storage.words(kind)),
         None => 0,
     };
     match slots_of(place) {

@@ -53,8 +53,8 @@ pub fn holds(relation: Relation, x: i64, y: i64) -> bool {
         Relation::NotEqual => x != y,
         Relation::Less => x < y,
         Relation::LessEqual => x <= y,
-        Relation::LessUnsigned => (x as u64) < (y as u64),
-        Relation::LessEqualUnsigned => (x as u64) <= (y as u64),
+        Relation::LessUnsigned => x.cast_unsigned() < y.cast_unsigned(),
+        Relation::LessEqualUnsigned => x.cast_unsigned() <= y.cast_unsigned(),
     }
 }
 

@@ -17,11 +17,17 @@ pub fn set_word(b: &Builder, kind: TypeId, value: ValueId, word: u32) -> i64 {
     let mut bits = 0u64;
     for member in members {
         let place = member.wrapping_sub(start);
-        if (0..64).contains(&place) {
-            bits |= 1u64.wrapping_shl(place as u32);
-        }
+        bits |= bit_of(place);
     }
-    bits as i64
+    bits.cast_signed()
+}
+
+/// The bit at a place of a word, and 0 outside it.
+fn bit_of(place: i64) -> u64 {
+    match u32::try_from(place) {
+        Ok(place) if place < 64 => 1u64.wrapping_shl(place),
+        _ => 0,
+    }
 }
 
 /// Puts a constant of several words, a set, into temporaries in a row.

@@ -4,6 +4,7 @@ use crate::places::{
     Location, Place, address_kind, load_word, set_temp, store_word, take_address,
 };
 use m3_mid::{Kind, MemoryWord, MidOp, Operand};
+use m3_storage::word_number;
 
 /// How many words are copied one by one; more are copied as a row.
 const ONE_BY_ONE: u64 = 4;
@@ -58,9 +59,9 @@ pub fn copy_words<'m>(
         return rest;
     }
     if words <= ONE_BY_ONE {
-        return copy_one_by_one(b, to, from, words as u32, rest);
+        return copy_one_by_one(b, to, from, word_number(words), rest);
     }
-    copy_row(b, to, from, Operand::Number(words as i64), rest)
+    copy_row(b, to, from, Operand::Number(words.cast_signed()), rest)
 }
 
 fn copy_one_by_one<'m>(
@@ -110,7 +111,7 @@ pub fn zero_words<'m>(
     let at = b.temp(kind);
     let code = rest.after(MidOp::Fill {
         at,
-        words: Operand::Number((words as i64).wrapping_sub(1)),
+        words: Operand::Number(words.cast_signed().wrapping_sub(1)),
         distance: Operand::Number(1),
     });
     let code = code.after(MidOp::Store {

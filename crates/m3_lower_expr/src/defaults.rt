@@ -4,7 +4,7 @@ use crate::pending::Pending;
 use crate::places::{Location, Place, address_kind, store_word, take_address};
 use m3_core::{Value as Constant, ValueId};
 use m3_mid::{Kind, MidOp, Operand};
-use m3_storage::{Form, parent_of};
+use m3_storage::{Form, number_of, parent_of, word_number};
 use m3_types::{Field, TypeId, TypeNode};
 
 /// What is still to be given a default, by the word from the start of the place.
@@ -100,7 +100,7 @@ fn add_fields(
     start: u64,
 ) {
     for (place, field) in fields.iter().enumerate() {
-        let at = start.saturating_add(b.storage.objects.field(kind, place as u32));
+        let at = start.saturating_add(b.storage.objects.field(kind, number_of(place)));
         let task = match field.default {
             Some(default) => Task::Field {
                 at,
@@ -203,8 +203,8 @@ fn repeat<'m>(
     let further = count.wrapping_sub(1).wrapping_mul(words);
     let code = rest.after(MidOp::Fill {
         at,
-        words: Operand::Number(further as i64),
-        distance: Operand::Number(words as i64),
+        words: Operand::Number(further.cast_signed()),
+        distance: Operand::Number(words.cast_signed()),
     });
     take_address(at, place, code)
 }
@@ -255,7 +255,7 @@ fn store_set<'m>(
 ) -> Pending<'m> {
     let mut code = rest;
     for word in 0..b.storage.form(kind).words() {
-        let bits = crate::constants::set_word(b, kind, value, word as u32);
+        let bits = crate::constants::set_word(b, kind, value, word_number(word));
         code = store_word(b, place, word, Operand::Number(bits), code);
     }
     code

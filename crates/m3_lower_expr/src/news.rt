@@ -10,7 +10,7 @@ use crate::values::{Value, emit_value, fetch, form_of, kind_of, plan_value, sour
 use m3_base::FaultKind;
 use m3_core::{Binding, CoreExpr};
 use m3_mid::{Kind, MidOp, Operand, Relation};
-use m3_storage::Form;
+use m3_storage::{Form, number_of};
 use m3_types::{TypeId, TypeNode};
 
 /// Code for NEW: sizes or bindings, the point, the cell with its defaults, and the bindings stored.
@@ -132,7 +132,7 @@ fn store_bindings<'m>(
             let to = Place {
                 at: Location::Address {
                     temp: cell,
-                    offset: offset as i64,
+                    offset: offset.cast_signed(),
                 },
                 base: Operand::Temp(cell),
                 sizes: 0,
@@ -201,7 +201,7 @@ fn cell_defaults<'m>(
     let TypeNode::RefTo(_, target) = b.storage.node(made) else {
         return store_object_defaults(b, made, cell, rest);
     };
-    let dims = counts.len() as u32;
+    let dims = number_of(counts.len());
     let at = Place {
         at: Location::Address {
             temp: cell,
@@ -237,14 +237,14 @@ fn fill_default<'m>(
     let code = b.goto(next).after(MidOp::Fill {
         at: address,
         words: Operand::Temp(further),
-        distance: Operand::Number(words as i64),
+        distance: Operand::Number(words.cast_signed()),
     });
     let code = crate::places::take_address(address, at, code);
     let code = code.after(crate::operators::arith(
         further,
         m3_mid::WordOperator::Subtract,
         total,
-        Operand::Number(words as i64),
+        Operand::Number(words.cast_signed()),
     ));
     let code = store_default(b, element, at, true, code);
     let filled = b.seal(code);

@@ -1,6 +1,7 @@
 use crate::builder::Builder;
 use crate::pending::Pending;
 use m3_mid::{Kind, MemoryWord, MidOp, Operand, WordOperator};
+use m3_storage::word_number;
 
 /// Where words are, as far as it is known before the program runs.
 #[derive(Clone, Copy, Debug, PartialEq, Eq)]
@@ -40,11 +41,11 @@ impl Place {
 
     /// The place that begins so many words further on.
     pub fn further(self, words: u64) -> Place {
-        let by = words as i64;
+        let by = words.cast_signed();
         let at = match self.at {
-            Location::Temps(first) => Location::Temps(first.wrapping_add(words as u32)),
-            Location::Slots(first) => Location::Slots(first.wrapping_add(words as u32)),
-            Location::Globals(first) => Location::Globals(first.wrapping_add(words as u32)),
+            Location::Temps(first) => Location::Temps(first.wrapping_add(word_number(words))),
+            Location::Slots(first) => Location::Slots(first.wrapping_add(word_number(words))),
+            Location::Globals(first) => Location::Globals(first.wrapping_add(word_number(words))),
             Location::Address { temp, offset } => Location::Address {
                 temp,
                 offset: offset.wrapping_add(by),

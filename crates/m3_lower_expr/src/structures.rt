@@ -43,7 +43,7 @@ fn plan_constant(b: &mut Builder, kind: TypeId, value: ValueId) -> Place {
             },
             None => (0, None),
         };
-        b.size(Operand::Number(count as i64));
+        b.size(Operand::Number(count.cast_signed()));
         at = next;
     }
     Place {
@@ -57,14 +57,14 @@ fn plan_constant(b: &mut Builder, kind: TypeId, value: ValueId) -> Place {
 /// Slots for an open array of some elements. Rows that are open arrays have the shape of the first one.
 fn plan_open<'m>(b: &mut Builder<'m, '_>, element: TypeId, elements: &[CoreExpr]) -> Place {
     let sizes = b.next_size();
-    b.size(Operand::Number(elements.len() as i64));
+    b.size(Operand::Number((elements.len() as u64).cast_signed()));
     let dims = dims_of(b, element);
     let mut words = b.storage.words(inner_element(b, element, dims));
     let mut rows = elements.len() as u64;
     let mut row = elements.first().copied();
     for _ in 0..dims {
         let (count, next) = row_size(b, row);
-        b.size(Operand::Number(count as i64));
+        b.size(Operand::Number(count.cast_signed()));
         rows = rows.saturating_mul(count);
         row = next;
     }
@@ -129,7 +129,7 @@ pub fn shape_of(b: &Builder, place: Place, kind: TypeId, dims: u32) -> Vec<Opera
         let size = match b.storage.node(at) {
             TypeNode::FixedArray(index, element) => {
                 at = element;
-                Operand::Number(b.storage.members(index) as i64)
+                Operand::Number(b.storage.members(index).cast_signed())
             }
             TypeNode::OpenArray(element) => {
                 at = element;
@@ -163,7 +163,7 @@ impl Counting {
 
 /// The words of all elements below some sizes, with what computes them.
 pub fn total_words(b: &mut Builder, sizes: &[Operand], element: u64) -> (Operand, Counting) {
-    let mut known = element as i64;
+    let mut known = element.cast_signed();
     let mut unknown = None;
     let mut counting = Counting {
         products: Vec::new(b.alloc),
@@ -403,7 +403,7 @@ fn row_words(b: &Builder, to: Place, element: TypeId, inner: u32) -> u64 {
     let mut words = element_words(b, element, inner);
     for dim in 0..inner {
         if let Operand::Number(size) = b.size_at(to.sizes.wrapping_add(1).wrapping_add(dim)) {
-            words = words.wrapping_mul(size as u64);
+            words = words.wrapping_mul(size.cast_unsigned());
         }
     }
     words
@@ -465,8 +465,8 @@ fn filled<'m>(
     let at = b.temp(kind);
     let code = rest.after(MidOp::Fill {
         at,
-        words: Operand::Number(further.wrapping_mul(words) as i64),
-        distance: Operand::Number(words as i64),
+        words: Operand::Number(further.wrapping_mul(words).cast_signed()),
+        distance: Operand::Number(words.cast_signed()),
     });
     take_address(at, last, code)
 }
@@ -509,11 +509,11 @@ fn known_distance(
             if *value < first || *value > last {
                 return None;
             }
-            let place = value.wrapping_sub(first) as u64;
+            let place = value.wrapping_sub(first).cast_unsigned();
             Some(place.wrapping_mul(b.storage.words(element)))
         }
         TypeNode::OpenArray(element) if array.dims == 1 && *value >= 0 => {
-            Some((*value as u64).wrapping_mul(b.storage.words(element)))
+            Some(value.cast_unsigned().wrapping_mul(b.storage.words(element)))
         }
         _ => None,
     }
@@ -560,7 +560,7 @@ fn check_index<'m>(
             if is_within(b, index, first, last) {
                 return rest;
             }
-            let count = Operand::Number(b.storage.members(indexes) as i64);
+            let count = Operand::Number(b.storage.members(indexes).cast_signed());
             if first == 0 {
                 return rest.after(below(operand, count, pos));
             }
@@ -616,7 +616,7 @@ fn indexed<'m>(
         counting.put(code)
     } else {
         let words = element_words(b, kind, 1);
-        let first = first_index(b, kind).wrapping_mul(words as i64);
+        let first = first_index(b, kind).wrapping_mul(words.cast_signed());
         rest.after(MidOp::Index {
             to,
             array: at,
@@ -757,7 +757,7 @@ fn subarray_address<'m>(
             to,
             array: at,
             index: start,
-            words: words as u64,
+            words: words.cast_unsigned(),
             offset,
         }),
         Operand::Temp(_) => row_address(b, to, at, offset, start, row, rest),
@@ -830,7 +830,7 @@ fn limit_of<'m>(
         let value = match limit {
             ArrayLimit::First => first,
             ArrayLimit::Last => last,
-            ArrayLimit::Number => b.storage.members(index) as i64,
+            ArrayLimit::Number => b.storage.members(index).cast_signed(),
         };
         return set(to, Operand::Number(value), rest);
     }

@@ -1,6 +1,6 @@
 use m3_core::{CoreStmt, WithBinding};
 use m3_lower_expr::{Builder, Pending, clear};
-use m3_storage::{VarPlace, words_of_variable};
+use m3_storage::{VarPlace, word_number, words_of_variable};
 
 /// The slots of variables: from the first to before the last.
 #[derive(Clone, Copy)]
@@ -31,7 +31,7 @@ fn range_of(b: &Builder, variable: u32) -> Range {
     match b.storage.place(b.number, variable) {
         VarPlace::Slots(first) if words > 0 => Range {
             first,
-            end: first.saturating_add(words as u32),
+            end: first.saturating_add(word_number(words)),
         },
         _ => NOTHING,
     }

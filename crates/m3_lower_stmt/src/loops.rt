@@ -162,7 +162,7 @@ fn turned<'m>(b: &mut Builder<'m, '_>, course: Course) -> Pending<'m> {
         }
         Pace::Known(step) => {
             let next = stepped(b, course, Operand::Number(step));
-            let width = Operand::Number((step as i64).wrapping_abs());
+            let width = Operand::Number(step.wrapping_abs());
             further(b, course, step >= 0, width, next)
         }
         Pace::Temp(step) => turned_by(b, course, step),

@@ -9,7 +9,9 @@ use m3_lower_expr::{
     plan_value, store_default, store_value,
 };
 use m3_mid::{End, Kind, MemoryWord, MidOp, Operand, Proc, Raised, Relation};
-use m3_storage::{Form, Storage, VarPlace, stores_result, words_of_variable};
+use m3_storage::{
+    Form, Storage, VarPlace, number_of, stores_result, word_number, words_of_variable,
+};
 use std::alloc::Global;
 
 /// The middle code of a procedure of the program, by its number. The module body that runs first gives
@@ -140,8 +142,8 @@ fn entry<'m>(b: &Builder<'m, '_>, proc: &ProcDef, rest: Pending<'m>) -> Pending<
     let mut code = rest;
     let mut slot = 0u32;
     for (variable, formal) in proc.formals.iter().enumerate() {
-        let words = words_of_variable(&b.storage.core.types, formal.kind) as u32;
-        if let VarPlace::Temps(first) = b.storage.place(b.number, variable as u32) {
+        let words = word_number(words_of_variable(&b.storage.core.types, formal.kind));
+        if let VarPlace::Temps(first) = b.storage.place(b.number, number_of(variable)) {
             for word in 0..words {
                 code = code.after(MidOp::Load {
                     to: first.wrapping_add(word),
@@ -169,7 +171,7 @@ fn exits_of<'m>(b: &mut Builder<'m, '_>, proc: &ProcDef) -> Exits<'m> {
     };
     let mut formals = Vec::new(b.alloc);
     for variable in 0..proc.formals.len() {
-        if formals.push(variable as u32).is_err() {
+        if formals.push(number_of(variable)).is_err() {
             b.fail();
         }
     }
@@ -234,12 +236,12 @@ fn globals<'m>(b: &mut Builder<'m, '_>, around: Around<'m>, rest: Pending<'m>) -
     let core = b.storage.core;
     for (variable, global) in core.globals.iter().enumerate().rev() {
         if let Some(initial) = global.initial {
-            let place = global_place(b, variable as u32);
+            let place = global_place(b, number_of(variable));
             code = stored(b, around, initial, place, code);
         }
     }
     for (variable, global) in core.globals.iter().enumerate().rev() {
-        let place = global_place(b, variable as u32);
+        let place = global_place(b, number_of(variable));
         let kind = b.storage.type_of(global);
         code = store_default(b, kind, place, true, code);
     }

@@ -21,8 +21,8 @@ impl<'a, S: Store> Machine<'a, S> {
         if stack - place < u64::from(callee.frame) {
             return Progress::Ends(Outcome::StackFull);
         }
-        self.memory.store(frame, u64::from(regs.pc) + 1);
-        self.memory.store(frame.wrapping_add(1), regs.fp);
+        self.set_word(frame, u64::from(regs.pc) + 1);
+        self.set_word(frame.wrapping_add(1), regs.fp);
         regs.pc = callee.first;
         regs.fp = frame;
         self.set_regs(regs);
@@ -78,7 +78,7 @@ impl<'a, S: Store> Machine<'a, S> {
         let Some(fp) = self.memory.load(regs.fp.wrapping_add(1)) else {
             return Progress::trap(2);
         };
-        if pc >= self.image.code().len() as u64 {
+        if pc >= u64::from(self.image.image().code_len()) {
             return Progress::trap(1);
         }
         regs.pc = pc as u32;

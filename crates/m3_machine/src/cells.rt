@@ -7,17 +7,23 @@ use m3_heap::Store;
 use m3_isa::{Instr, Words};
 
 impl<'a, S: Store> Machine<'a, S> {
+    fn allocate(&mut self, kind: u32, words: u64) -> Option<u64>
+        requires { 1 ≤ words }
+    {
+        self.memory.outside.allocate(kind, words)
+    }
+
     /// A new cell, after one collection where it doesn't fit at once.
     pub(crate) fn make_cell(&mut self, kind: u32, words: u64) -> Result<u64, Outcome>
         requires { 1 ≤ words }
     {
-        if let Some(cell) = self.memory.outside.heap.store.allocate(kind, words) {
+        if let Some(cell) = self.allocate(kind, words) {
             return Ok(cell);
         }
         if !self.collect() {
             return Err(Outcome::Trap(9));
         }
-        match self.memory.outside.heap.store.allocate(kind, words) {
+        match self.allocate(kind, words) {
             Some(cell) => Ok(cell),
             None => Err(Outcome::HeapFull),
         }
@@ -58,8 +64,11 @@ impl<'a, S: Store> Machine<'a, S> {
     /// Writes the sizes behind the header of a new cell.
     fn write_sizes(&mut self, cell: u64) {
         for n in 0..self.sizes.len() {
+            if n >= self.sizes.len() {
+                break;
+            }
             let size = self.sizes[n];
-            self.memory.store(cell.wrapping_add(1).wrapping_add(n as u64), size);
+            self.set_word(cell.wrapping_add(1).wrapping_add(n as u64), size);
         }
     }
 

@@ -9,7 +9,7 @@ use crate::memory::Memory;
 use m3_decoded::Decoded;
 use m3_heap::Store;
 use m3_image::ImageView;
-use m3_isa::Regs;
+use m3_isa::{Regs, Words};
 use m3_roots::Room;
 use m3_threads::{Status, Threads};
 
@@ -35,7 +35,7 @@ pub struct Machine<'a, S: Store> {
     ghost small: { stack ≤ 1048576 },
     ghost counted: { memory.threads.forks + memory.threads.waits ≤ made },
     ghost words: { length memory.outside.globals.items ≡ (image_of image).program.globals.words },
-    ghost fitting: { stuck ≡ false → S.fits memory.outside.heap.store (map shape_of (image_of image).program.types) } by { Prim.hlevel (S.fits_once memory.outside.heap.store (map shape_of (image_of image).program.types)) },
+    ghost fitting: { stuck ≡ false → ∥ S.fits memory.outside.heap.store (map shape_of (image_of image).program.types) ∥₁ },
 }
 
 // No run carries out more forks and waits: each of them passes a point.
@@ -91,6 +91,11 @@ impl<'a, S: Store> Machine<'a, S> {
                 fp: 0,
             },
         }
+    }
+
+    /// Sets the word at an address, if it can be set.
+    pub(crate) fn set_word(&mut self, at: u64, word: u64) {
+        let _is_set = self.memory.store(at, word);
     }
 
     /// Whether the running thread is there and awake.

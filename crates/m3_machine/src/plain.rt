@@ -1,4 +1,4 @@
-ghost use Rattle.std.specs.Prelude.{◌≡◌, ◌≤◌, ◌+◌, ℕ, Some, slice_get};
+ghost use Rattle.std.specs.Prelude.{◌≡◌, ◌≤◌, ◌+◌, ℕ, Some, List, slice_get};
 ghost use Rattle.m3_isa.specs.declared.instructions.Instr.{Instr as Instruction};
 ghost use Rattle.m3_isa.specs.Instructions.{IsInstruction};
 ghost use Rattle.m3_isa.specs.Effects.{at_hand};
@@ -6,6 +6,8 @@ ghost use Rattle.m3_threads.specs.declared.status.Thread.{Thread};
 ghost use Rattle.m3_threads.specs.All.{thread_named};
 ghost use Rattle.m3_sections.specs.Parts.{Program};
 ghost use Rattle.m3_machine.specs.State.{State};
+ghost use Rattle.m3_machine.specs.Kept.{KeepsMemory};
+ghost use Rattle.m3_heap.specs.Shapes.{Shape};
 ghost use Rattle.m3_machine.specs.Plain.{seen, counted, with_code, Ran};
 
 use crate::memory::Memory;
@@ -34,7 +36,9 @@ pub fn run_plain<S: Store>(
     most: u64,
 ) -> (Halt, u64)
     requires { (k : ℕ) (i : Instruction) → slice_get code.now k ≡ Some i → IsInstruction i }
-    ensures { (q : Program) (base : State) (t : Thread) → thread_named memory.old.threads base.running ≡ Some t
+    ensures keeps { KeepsMemory memory.old.threads memory.new.threads memory.old.outside.globals.items memory.new.outside.globals.items memory.old.outside.constants.items memory.new.outside.constants.items (S.heap memory.old.outside.heap.store) (S.heap memory.new.outside.heap.store) }
+    ensures fitting { (shapes : List Shape) → S.fits memory.old.outside.heap.store shapes → S.fits memory.new.outside.heap.store shapes }
+    ensures ran { (q : Program) (base : State) (t : Thread) → thread_named memory.old.threads base.running ≡ Some t
         → Ran (with_code q code.now memory.old.outside.constants.items) most result.0 result.1
         (seen base (at_hand r.old pc.old fp) memory.old.threads memory.old.outside.globals.items (S.heap memory.old.outside.heap.store))
         (seen (counted base result.1) (at_hand r.new pc.new fp) memory.new.threads memory.new.outside.globals.items (S.heap memory.new.outside.heap.store)) }

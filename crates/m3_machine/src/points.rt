@@ -1,41 +1,72 @@
-ghost use Rattle.std.specs.Prelude.{◌≡◌};
+ghost use Rattle.std.specs.Prelude.{◌≡◌, true, map, length};
+ghost use Rattle.m3_sections.specs.Shapes.{shape_of};
+ghost use Rattle.m3_decoded.specs.Ready.{image_of};
 
 use crate::machine::Machine;
+use crate::outside::Outside;
 use m3_base::{Entry, Outcome};
+use m3_decoded::Decoded;
 use m3_heap::{Steps, Store};
-use m3_roots::collect;
+use m3_roots::Room;
+use m3_threads::Threads;
 use std::marker::Brand;
 use std::sync::ledger::{Blank, Ledger};
 
+/// A collection whose steps are counted by a ledger of its own.
+fn collect_by<S: Store, L: Ledger>(
+    outside: &mut Outside<S>,
+    threads: &mut Threads,
+    image: &Decoded<'_>,
+    room: &mut Room,
+    blank: Blank,
+) -> bool
+    requires name { blank.name ≡ L.name }
+    requires parts { blank.parts ≡ L.parts }
+    requires whole { blank.parts ≡ 1 }
+    requires fitting { ∥ S.fits outside.old.heap.store (map shape_of (image_of image.now).program.types) ∥₁ }
+    requires words { length outside.old.globals.items ≡ (image_of image.now).program.globals.words }
+    ensures fitting { result ≡ true → ∥ S.fits outside.new.heap.store (map shape_of (image_of image.now).program.types) ∥₁ }
+    ensures words { length outside.new.globals.items ≡ length outside.old.globals.items }
+    ensures forks { threads.new.forks ≡ threads.old.forks }
+    ensures waits { threads.new.waits ≡ threads.old.waits }
+{
+    let mut steps = Steps::<L>::new(blank);
+    outside.collect(threads, image, room, &mut steps)
+}
+
+fn collect_now<S: Store>(
+    outside: &mut Outside<S>,
+    threads: &mut Threads,
+    image: &Decoded<'_>,
+    room: &mut Room,
+) -> bool
+    requires fitting { ∥ S.fits outside.old.heap.store (map shape_of (image_of image.now).program.types) ∥₁ }
+    requires words { length outside.old.globals.items ≡ (image_of image.now).program.globals.words }
+    ensures fitting { result ≡ true → ∥ S.fits outside.new.heap.store (map shape_of (image_of image.now).program.types) ∥₁ }
+    ensures words { length outside.new.globals.items ≡ length outside.old.globals.items }
+    ensures forks { threads.new.forks ≡ threads.old.forks }
+    ensures waits { threads.new.waits ≡ threads.old.waits }
+{
+    collect_by::<S, Brand>(outside, threads, image, room, Blank::new(1))
+}
+
 impl<'a, S: Store> Machine<'a, S> {
-    fn collects<L: Ledger>(&mut self, blank: Blank) -> bool
-        requires name { blank.name ≡ L.name }
-        requires parts { blank.parts ≡ L.parts }
-        requires whole { blank.parts ≡ 1 }
-    {
+    /// Collects the heap. False comes exactly where that ends in trap 9.
+    pub(crate) fn collect(&mut self) -> bool {
         if self.stuck {
             return false;
         }
-        let mut steps = Steps::<L>::new(blank);
-        let done = collect(
+        let done = collect_now(
+            &mut self.memory.outside,
             &mut self.memory.threads,
-            &mut self.memory.outside.globals,
-            &mut self.memory.outside.heap.store,
             &self.image,
             &mut self.room,
-            &mut steps,
         );
         self.stuck = !done;
-        done
-    }
-
-    /// Collects the heap. False comes exactly where that ends in trap 9.
-    pub(crate) fn collect(&mut self) -> bool {
-        if !self.collects::<Brand>(Blank::new(1)) {
-            return false;
+        if done {
+            self.collections = self.collections.wrapping_add(1);
         }
-        self.collections = self.collections.wrapping_add(1);
-        true
+        done
     }
 
     /// The running thread stands at the instruction that it has come to.

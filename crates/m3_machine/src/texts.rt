@@ -84,9 +84,9 @@ impl<'a, S: Store> Machine<'a, S> {
         let bytes = left.count.wrapping_add(right.count);
         for k in 0..bytes.div_ceil(8) {
             let word = self.word_before(blank, left, right, k.wrapping_mul(8));
-            self.memory.store(blank.start.wrapping_add(2 + k), word);
+            self.set_word(blank.start.wrapping_add(2 + k), word);
         }
-        self.memory.store(blank.start.wrapping_add(1), bytes);
+        self.set_word(blank.start.wrapping_add(1), bytes);
     }
 
     fn make_text(&mut self, words: u64) -> Result<Blank, Outcome>
@@ -141,8 +141,8 @@ impl<'a, S: Store> Machine<'a, S> {
             Err(outcome) => return Progress::Ends(outcome),
         };
         let byte = self.word(i.b) % 256;
-        self.memory.store(blank.start.wrapping_add(1), 1);
-        self.memory.store(blank.start.wrapping_add(2), byte);
+        self.set_word(blank.start.wrapping_add(1), 1);
+        self.set_word(blank.start.wrapping_add(2), byte);
         self.give(i.a, blank.start)
     }
 

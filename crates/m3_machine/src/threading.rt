@@ -1,12 +1,17 @@
-ghost use Rattle.std.specs.Prelude.{◌≡◌};
+ghost use Rattle.std.specs.Prelude.{◌≡◌, ◌<◌, ◌≤◌, ◌+◌, ◌^◌, length, List, Some, IsSome};
+ghost use Rattle.m3_heap.specs.Shapes.{Shape};
+ghost use Rattle.m3_threads.specs.All.{thread_named};
+ghost use Rattle.m3_threads.specs.declared.status.Thread.{Thread};
+ghost use Rattle.m3_threads.specs.Going.{IsAwake};
 ghost use Rattle.m3_isa.specs.Instructions.{IsInstruction};
 
 use crate::machine::Machine;
+use crate::outside::Outside;
 use crate::progress::Progress;
 use m3_base::Outcome;
 use m3_heap::Store;
-use m3_isa::{Instr, Op, Words};
-use m3_threads::Done;
+use m3_isa::{Instr, Op};
+use m3_threads::{Done, Threads};
 
 /// The thread goes on, or it rests since it sleeps; or the instruction trapped.
 fn told(done: Done) -> Progress {
@@ -14,6 +19,40 @@ fn told(done: Done) -> Progress {
         Done::Went | Done::Jumped => Progress::Goes,
         Done::Slept => Progress::Rests,
         Done::Trapped(n) => Progress::trap(n),
+    }
+}
+
+/// An instruction of a thread that is awake, on threads, mutexes, conditions and alerts.
+fn act_of<S: Store>(
+    threads: &mut Threads,
+    outside: &mut Outside<S>,
+    running: u64,
+    i: Instr,
+) -> Progress
+    requires instruction { IsInstruction i }
+    requires there { IsSome (thread_named threads.old running) }
+    requires awake { (t : Thread) → thread_named threads.old running ≡ Some t → IsAwake t }
+    requires counted { threads.old.forks + threads.old.waits < 2 ^ 63 }
+    ensures counts { threads.new.forks + threads.new.waits ≤ threads.old.forks + threads.old.waits + 1 }
+    ensures words { length outside.new.globals.items ≡ length outside.old.globals.items }
+    ensures fitting { (shapes : List Shape) → S.fits outside.old.heap.store shapes → S.fits outside.new.heap.store shapes }
+{
+    match i.op {
+        Op::Join => told(threads.join(running, outside, i)),
+        Op::Acq => told(threads.acquire(running, outside, i)),
+        Op::Rel => told(threads.release(running, outside, i)),
+        Op::Wait => told(threads.wait(running, outside, i)),
+        Op::Sig => told(threads.wake_one(running, outside, i)),
+        Op::Bca => told(threads.wake_all(running, outside, i)),
+        Op::Alert => told(threads.alert(running, outside, i)),
+        Op::Talert => told(threads.test_alert(running, outside, i)),
+        Op::Await => told(threads.alert_wait(running, outside, i)),
+        Op::Ajoin => told(threads.alert_join(running, outside, i)),
+        Op::Endt => match threads.end(running, outside, i) {
+            Done::Trapped(n) => Progress::trap(n),
+            _ => Progress::Rests,
+        },
+        _ => Progress::trap(1),
     }
 }
 
@@ -26,26 +65,12 @@ impl<'a, S: Store> Machine<'a, S> {
             return Progress::Rests;
         }
         self.made += 1;
-        let running = self.running;
-        let threads = &mut self.memory.threads;
-        let outside = &mut self.memory.outside;
-        match i.op {
-            Op::Join => told(threads.join(running, outside, i)),
-            Op::Acq => told(threads.acquire(running, outside, i)),
-            Op::Rel => told(threads.release(running, outside, i)),
-            Op::Wait => told(threads.wait(running, outside, i)),
-            Op::Sig => told(threads.wake_one(running, outside, i)),
-            Op::Bca => told(threads.wake_all(running, outside, i)),
-            Op::Alert => told(threads.alert(running, outside, i)),
-            Op::Talert => told(threads.test_alert(running, outside, i)),
-            Op::Await => told(threads.alert_wait(running, outside, i)),
-            Op::Ajoin => told(threads.alert_join(running, outside, i)),
-            Op::Endt => match threads.end(running, outside, i) {
-                Done::Trapped(n) => Progress::trap(n),
-                _ => Progress::Rests,
-            },
-            _ => Progress::trap(1),
-        }
+        act_of(
+            &mut self.memory.threads,
+            &mut self.memory.outside,
+            self.running,
+            i,
+        )
     }
 
     /// A thread stands at the instruction that it begins with.
@@ -56,6 +81,17 @@ impl<'a, S: Store> Machine<'a, S> {
         let begins = *begins;
         if self.may_count() && self.memory.threads.status(thread).is_some() {
             self.memory.threads.stand(thread, begins);
+        }
+    }
+
+    fn fork(&mut self, first: u32, closure: u64, cell: u64) -> Option<u64> {
+        if !self.may_count() {
+            return None;
+        }
+        self.made += 1;
+        match self.memory.threads.fork(first, closure, cell) {
+            Ok(number) => Some(number),
+            Err(_) => None,
         }
     }
 
@@ -74,14 +110,10 @@ impl<'a, S: Store> Machine<'a, S> {
             None => 0,
         };
         let closure = self.word(i.b);
-        if !self.may_count() {
-            return Progress::Ends(Outcome::ThreadsFull);
-        }
-        self.made += 1;
-        let Ok(number) = self.memory.threads.fork(first, closure, cell) else {
+        let Some(number) = self.fork(first, closure, cell) else {
             return Progress::Ends(Outcome::ThreadsFull);
         };
-        self.memory.store(cell.wrapping_add(1), number);
+        self.set_word(cell.wrapping_add(1), number);
         self.stand_first(number, first);
         self.give(i.a, cell)
     }

@@ -1,3 +1,6 @@
+ghost use Rattle.std.specs.Prelude.{◌<◌, length, IfOk};
+ghost use Rattle.m3_decoded.specs.Ready.{image_of};
+
 use crate::machine::Machine;
 use crate::progress::Progress;
 use m3_heap::Store;
@@ -5,7 +8,9 @@ use m3_isa::{Instr, Words};
 
 impl<'a, S: Store> Machine<'a, S> {
     /// The number of the type of a cell.
-    fn type_at(&self, cell: u64) -> Result<u32, Progress> {
+    fn type_at(&self, cell: u64) -> Result<u32, Progress>
+        ensures { IfOk result (λ n. n < length (image_of self.now.image).program.types) }
+    {
         let Some(header) = self.memory.load(cell) else {
             return Err(Progress::trap(2));
         };

@@ -31,7 +31,10 @@ fn frames_of(image: &Decoded<'_>, threads: &Threads, thread: u64, room: &mut Roo
     }
 }
 
-fn set_regs(threads: &mut Threads, thread: u64, regs: Regs) {
+fn set_regs(threads: &mut Threads, thread: u64, regs: Regs)
+    ensures forks { threads.new.forks ≡ threads.old.forks }
+    ensures waits { threads.new.waits ≡ threads.old.waits }
+{
     if let Some(place) = threads.regs_mut(thread) {
         *place = regs;
     }
@@ -49,6 +52,8 @@ fn visit_thread<S: Store, L: Ledger>(
     requires open { (S.heap store.old).is_open ≡ true }
     ensures open { (S.heap store.new).is_open ≡ true }
     ensures fitting { (shapes : List Shape) → S.fits store.old shapes → S.fits store.new shapes }
+    ensures forks { threads.new.forks ≡ threads.old.forks }
+    ensures waits { threads.new.waits ≡ threads.old.waits }
 {
     let Some(mut regs) = frames_of(image, threads, thread, room) else {
         return false;
@@ -73,6 +78,8 @@ fn visit_threads<S: Store, L: Ledger>(
     requires open { (S.heap store.old).is_open ≡ true }
     ensures open { (S.heap store.new).is_open ≡ true }
     ensures fitting { (shapes : List Shape) → S.fits store.old shapes → S.fits store.new shapes }
+    ensures forks { threads.new.forks ≡ threads.old.forks }
+    ensures waits { threads.new.waits ≡ threads.old.waits }
 {
     for place in 0..64 {
         let Some(thread) = threads.number(place) else {
@@ -92,7 +99,10 @@ fn mend_thread<L: Ledger>(
     thread: u64,
     room: &mut Room,
     steps: &mut Steps<L>,
-) -> bool {
+) -> bool
+    ensures forks { threads.new.forks ≡ threads.old.forks }
+    ensures waits { threads.new.waits ≡ threads.old.waits }
+{
     let Some(mut regs) = frames_of(image, threads, thread, room) else {
         return false;
     };
@@ -107,7 +117,10 @@ fn mend_threads<L: Ledger>(
     threads: &mut Threads,
     room: &mut Room,
     steps: &mut Steps<L>,
-) -> bool {
+) -> bool
+    ensures forks { threads.new.forks ≡ threads.old.forks }
+    ensures waits { threads.new.waits ≡ threads.old.waits }
+{
     for place in 0..64 {
         let Some(thread) = threads.number(place) else {
             return true;
@@ -137,6 +150,8 @@ pub fn collect<S: Store, L: Ledger>(
     ensures closed { (S.heap store.new).is_open ≡ false }
     ensures fitting { result ≡ true → S.fits store.new (map shape_of (image_of image.now).program.types) }
     ensures words { length globals.new ≡ length globals.old }
+    ensures forks { threads.new.forks ≡ threads.old.forks }
+    ensures waits { threads.new.waits ≡ threads.old.waits }
 {
     store.begin();
     let visited = visit_threads(image, threads, store, room, steps)

@@ -1,5 +1,5 @@
 use crate::frames::{open_dims, sizes_of};
-use crate::parts::Measures;
+use crate::parts::{Measures, number_of};
 use m3_base::NoMemory;
 use m3_core::{Core, ProcDef, VarDef, VarKind};
 use m3_types::{TypeId, TypeNode};
@@ -19,7 +19,7 @@ pub fn image_size(alloc: Global, core: &Core) -> Result<u128, NoMemory> {
         let cell = match node {
             TypeNode::RefTo(_, target) => u128::from(measures.value(*target).pointers),
             TypeNode::Object(_, _, _, _, _) => {
-                let line = measures.line(TypeId(place as u32));
+                let line = measures.line(TypeId(number_of(place)));
                 u128::from(line.pointers).saturating_add(u128::from(line.methods))
             }
             _ => 0,

@@ -32,6 +32,11 @@ pub struct Measures {
     lines: Vec<State>,
 }
 
+/// A place in a list of types as a number of 32 bits.
+pub fn number_of(place: usize) -> u32 {
+    u32::try_from(place).unwrap_or(u32::MAX)
+}
+
 fn is_reference(node: TypeNode) -> bool {
     matches!(
         node,
@@ -73,10 +78,10 @@ impl Measures {
             lines: vec![in alloc; State::Unknown; count]?,
         };
         for place in 0..count {
-            measures.measure_value(alloc, types, TypeId(place as u32))?;
+            measures.measure_value(alloc, types, TypeId(number_of(place)))?;
         }
         for place in 0..count {
-            measures.measure_line(alloc, types, TypeId(place as u32))?;
+            measures.measure_line(alloc, types, TypeId(number_of(place)))?;
         }
         Ok(measures)
     }
@@ -218,7 +223,7 @@ impl Measures {
     pub fn cell_parts(&self, alloc: Global, types: &SizedTypes) -> Result<Vec<u64>, NoMemory> {
         let mut parts = Vec::new(alloc);
         for place in 0..types.graph.nodes.len() {
-            let shown = unveiled(types, TypeId(place as u32));
+            let shown = unveiled(types, TypeId(number_of(place)));
             let count = match node(types, shown) {
                 TypeNode::RefTo(_, target) => self.value(target).parts,
                 _ => self.line(shown).parts,

@@ -63,7 +63,7 @@ fn mark_of(node: TypeNode) -> u64 {
             }
             mark
         }
-        TypeNode::Subrange(_, first, last) => mix(mix(5, first as u64), last as u64),
+        TypeNode::Subrange(_, first, last) => mix(mix(5, first.cast_unsigned()), last.cast_unsigned()),
         TypeNode::FixedArray(_, _) => 6,
         TypeNode::OpenArray(_) => 7,
         TypeNode::Fields(fields) => {

@@ -1,4 +1,4 @@
-use crate::forms::node;
+use crate::forms::{node, number_of};
 use m3_base::NoMemory;
 use m3_core::{Core, Value};
 use m3_sizes::SizedTypes;
@@ -28,7 +28,7 @@ impl ZeroDefaults {
             states: vec![in alloc; State::Unknown; count]?,
         };
         for place in 0..count {
-            zeros.judge_from(alloc, core, TypeId(place as u32))?;
+            zeros.judge_from(alloc, core, TypeId(number_of(place)))?;
         }
         Ok(zeros)
     }

@@ -37,6 +37,22 @@ impl Form {
     }
 }
 
+/// A place in a list as a number of 32 bits; one that has none is as good as past every list.
+pub fn number_of(place: usize) -> u32 {
+    match u32::try_from(place) {
+        Ok(number) => number,
+        Err(_) => u32::MAX,
+    }
+}
+
+/// A number of words as one of 32 bits; a larger one is as good as the largest.
+pub fn word_number(words: u64) -> u32 {
+    match u32::try_from(words) {
+        Ok(number) => number,
+        Err(_) => u32::MAX,
+    }
+}
+
 /// The definition of a type.
 pub fn node<'a>(types: &SizedTypes<'a>, t: TypeId) -> TypeNode<'a> {
     match types.graph.nodes.get(t.0 as usize) {
@@ -64,7 +80,7 @@ pub fn form_of(types: &SizedTypes, t: TypeId) -> Form {
         | TypeNode::Subrange(_, _, _) => Form::Number,
         TypeNode::SetOf(_) => match words(types, t) {
             0 | 1 => Form::Number,
-            count => Form::Numbers(count as u32),
+            count => Form::Numbers(word_number(count)),
         },
         TypeNode::Procedure(_, _, _) => Form::Numbers(2),
         TypeNode::RefTo(_, _)
@@ -87,7 +103,7 @@ pub fn bounds(types: &SizedTypes, t: TypeId) -> (i64, i64) {
         TypeNode::Integer => (i64::MIN, i64::MAX),
         TypeNode::Boolean => (0, 1),
         TypeNode::Character => (0, 255),
-        TypeNode::Enumeration(names) => (0, (names.len() as i64).wrapping_sub(1)),
+        TypeNode::Enumeration(names) => (0, (names.len() as u64).cast_signed().wrapping_sub(1)),
         TypeNode::Subrange(_, first, last) => (first, last),
         _ => (0, -1),
     }

@@ -11,7 +11,7 @@ mod uses;
 mod variables;
 
 pub use cells::{Cells, TEXT_CELL, THREAD_CELL};
-pub use forms::{Form, bounds, form_of};
+pub use forms::{Form, bounds, form_of, number_of, word_number};
 pub use objects::{Objects, parent_of, unveiled};
 pub use storage::Storage;
 pub use variables::{Room, VarPlace, is_shown, open_dims, stores_result, words_of_variable};

@@ -1,4 +1,4 @@
-use crate::forms::{node, words};
+use crate::forms::{node, number_of, words};
 use m3_base::{NoMemory, place_number};
 use m3_sizes::SizedTypes;
 use m3_types::{Field, Secret, TypeId, TypeNode};
@@ -133,7 +133,7 @@ impl Objects {
         };
         if let TypeNode::Object(_, _, fields, methods, _) = node(types, t) {
             end.fields = end.fields.saturating_add(sum_of(types, fields));
-            end.methods = end.methods.saturating_add(methods.len() as u32);
+            end.methods = end.methods.saturating_add(number_of(methods.len()));
         }
         let place = t.0 as usize;
         if place < self.ends.len() {

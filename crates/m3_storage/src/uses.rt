@@ -1,3 +1,4 @@
+use crate::forms::number_of;
 use crate::storage::owner_at;
 use crate::variables::Marks;
 use m3_core::{
@@ -37,7 +38,7 @@ pub fn mark_all(
             levels,
             marks: &mut *marks,
             kinds: &mut *kinds,
-            proc: place as u32,
+            proc: number_of(place),
         };
         uses.statements(proc.body);
     }

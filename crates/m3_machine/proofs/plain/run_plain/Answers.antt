@@ -18,12 +18,12 @@ loop-count-init g c =
     let m = c.args.memory.now in
     let heap = g.S.Store.heap m.outside.heap.store in (
       omega arith,
-      keeps_itself m.threads m.outside.globals.items m.outside.constants.items heap,
+      (keeps_itself m.threads m.outside.globals.items m.outside.constants.items heap, λ _ f. f),
       λ q base t found. ran-nowhere (with_code q c.args.code.now m.outside.constants.items) base (at_hand c.args.r.now c.args.pc.now c.args.fp) m.threads m.outside.globals.items heap,
     )
 
-pub returns-then-at-code : goal.returns-then-at-code
-returns-then-at-code g c = λ q base t found.
+pub returns-then-at-code-clause-ran : goal.returns-then-at-code-clause-ran
+returns-then-at-code-clause-ran g c = λ q base t found.
     let old = c.args.memory.now in
     let m = c.loop-count.memory in
     let inv = c.loop-count.invariant in
@@ -31,7 +31,7 @@ returns-then-at-code g c = λ q base t found.
     ran-out q c.args.code.now old.outside.constants.items
     (seen base (at_hand c.args.r.now c.args.pc.now c.args.fp) old.threads old.outside.globals.items (g.S.Store.heap old.outside.heap.store))
     base c.loop-count.count c.args.most t (at_hand c.loop-count.r c.loop-count.pc c.args.fp) m.threads m.outside.globals.items heap
-    (found_still old.threads m.threads base.running t inv.1.stacks found) (slice_get_past c.args.code.now c.loop-count.pc (omega arith)) (inv.2 q base t found)
+    (found_still old.threads m.threads base.running t inv.1.0.stacks found) (slice_get_past c.args.code.now c.loop-count.pc (omega arith)) (inv.2 q base t found)
 
 pub carry_out-requires : goal.carry_out-requires
 carry_out-requires g c = c.requires c.loop-count.pc _ (slice_get-get_or c.args.code.now c.loop-count.pc _ (omega arith))
@@ -47,19 +47,19 @@ loop-count-preserved g c =
     let heap = g.S.Store.heap m.outside.heap.store in
     let heap' = g.S.Store.heap n.outside.heap.store in (
       omega arith,
-      keeps_on old.threads m.threads n.threads old.outside.globals.items m.outside.globals.items n.outside.globals.items old.outside.constants.items m.outside.constants.items n.outside.constants.items first heap heap' inv.1 c.in-Went.ensures.keeps,
+      (keeps_on old.threads m.threads n.threads old.outside.globals.items m.outside.globals.items n.outside.globals.items old.outside.constants.items m.outside.constants.items n.outside.constants.items first heap heap' inv.1.0 c.in-Went.ensures.keeps.0, λ shapes f. c.in-Went.ensures.keeps.1 shapes (inv.1.1 shapes f)),
       λ q base t found.
           ran-on q c.args.code.now old.outside.constants.items
           (seen base (at_hand c.args.r.now c.args.pc.now c.args.fp) old.threads old.outside.globals.items first)
           base c.loop-count.count t (slice_index_or c.args.code.now c.loop-count.pc blank) (at_hand c.loop-count.r c.loop-count.pc c.args.fp) (at_hand c.carry_out.new.r c.carry_out.new.pc c.args.fp)
           m.threads n.threads m.outside.globals.items n.outside.globals.items m.outside.constants.items n.outside.constants.items heap heap'
-          inv.1.outside.same_constants (found_still old.threads m.threads base.running t inv.1.stacks found) (slice_get-get_or c.args.code.now c.loop-count.pc blank (omega arith))
-          c.in-Went.ensures.keeps c.in-Went.ensures.effect (inv.2 q base t found),
+          inv.1.0.outside.same_constants (found_still old.threads m.threads base.running t inv.1.0.stacks found) (slice_get-get_or c.args.code.now c.loop-count.pc blank (omega arith))
+          c.in-Went.ensures.keeps.0 c.in-Went.ensures.effect (inv.2 q base t found),
     )
 
-pub returns-in-Other : goal.returns-in-Other
+pub returns-in-Other-clause-ran : goal.returns-in-Other-clause-ran
 unfolding blank
-returns-in-Other g c = λ q base t found.
+returns-in-Other-clause-ran g c = λ q base t found.
     let old = c.args.memory.now in
     let m = c.loop-count.memory in
     let n = c.carry_out.new.mem in
@@ -68,12 +68,12 @@ returns-in-Other g c = λ q base t found.
     (seen base (at_hand c.args.r.now c.args.pc.now c.args.fp) old.threads old.outside.globals.items (g.S.Store.heap old.outside.heap.store))
     base c.loop-count.count c.args.most t (slice_index_or c.args.code.now c.loop-count.pc blank) (at_hand c.loop-count.r c.loop-count.pc c.args.fp) (at_hand c.carry_out.new.r c.carry_out.new.pc c.args.fp)
     m.threads n.threads m.outside.globals.items n.outside.globals.items m.outside.constants.items n.outside.constants.items (g.S.Store.heap m.outside.heap.store) (g.S.Store.heap n.outside.heap.store)
-    inv.1.outside.same_constants (found_still old.threads m.threads base.running t inv.1.stacks found) (slice_get-get_or c.args.code.now c.loop-count.pc blank (omega arith))
-    c.in-Other.ensures.keeps c.in-Other.ensures.effect (inv.2 q base t found)
+    inv.1.0.outside.same_constants (found_still old.threads m.threads base.running t inv.1.0.stacks found) (slice_get-get_or c.args.code.now c.loop-count.pc blank (omega arith))
+    c.in-Other.ensures.keeps.0 c.in-Other.ensures.effect (inv.2 q base t found)
 
-pub returns-in-Trapped : goal.returns-in-Trapped
+pub returns-in-Trapped-clause-ran : goal.returns-in-Trapped-clause-ran
 unfolding blank
-returns-in-Trapped g c = λ q base t found.
+returns-in-Trapped-clause-ran g c = λ q base t found.
     let old = c.args.memory.now in
     let m = c.loop-count.memory in
     let n = c.carry_out.new.mem in
@@ -82,11 +82,11 @@ returns-in-Trapped g c = λ q base t found.
     (seen base (at_hand c.args.r.now c.args.pc.now c.args.fp) old.threads old.outside.globals.items (g.S.Store.heap old.outside.heap.store))
     base c.loop-count.count c.in-Trapped.n c.args.most t (slice_index_or c.args.code.now c.loop-count.pc blank) (at_hand c.loop-count.r c.loop-count.pc c.args.fp) (at_hand c.carry_out.new.r c.carry_out.new.pc c.args.fp)
     m.threads n.threads m.outside.globals.items n.outside.globals.items m.outside.constants.items n.outside.constants.items (g.S.Store.heap m.outside.heap.store) (g.S.Store.heap n.outside.heap.store)
-    inv.1.outside.same_constants (found_still old.threads m.threads base.running t inv.1.stacks found) (slice_get-get_or c.args.code.now c.loop-count.pc blank (omega arith))
-    c.in-Trapped.ensures.keeps c.in-Trapped.ensures.effect c.in-Trapped.ensures.trap (inv.2 q base t found)
+    inv.1.0.outside.same_constants (found_still old.threads m.threads base.running t inv.1.0.stacks found) (slice_get-get_or c.args.code.now c.loop-count.pc blank (omega arith))
+    c.in-Trapped.ensures.keeps.0 c.in-Trapped.ensures.effect c.in-Trapped.ensures.trap (inv.2 q base t found)
 
-pub returns : goal.returns
-returns g c = λ q base t found.
+pub returns-clause-ran : goal.returns-clause-ran
+returns-clause-ran g c = λ q base t found.
     let old = c.args.memory.now in
     let m = c.loop-count.memory in
     let inv = c.loop-count.invariant in
@@ -95,3 +95,23 @@ returns g c = λ q base t found.
     let end = seen (counted base c.loop-count.count) (at_hand c.loop-count.r c.loop-count.pc c.args.fp) m.threads m.outside.globals.items (g.S.Store.heap m.outside.heap.store) in
     let all : c.loop-count.count ≡ c.args.most = omega arith in
     subst (λ most. Ran p most Used c.loop-count.count start end) all (used start end (inv.2 q base t found))
+
+pub returns-in-Other-clause-keeps : goal.returns-in-Other-clause-keeps
+returns-in-Other-clause-keeps g c =
+    let old = c.args.memory.now in
+    let m = c.loop-count.memory in
+    let n = c.carry_out.new.mem in
+    keeps_on old.threads m.threads n.threads old.outside.globals.items m.outside.globals.items n.outside.globals.items old.outside.constants.items m.outside.constants.items n.outside.constants.items (g.S.Store.heap old.outside.heap.store) (g.S.Store.heap m.outside.heap.store) (g.S.Store.heap n.outside.heap.store) c.loop-count.invariant.1.0 c.in-Other.ensures.keeps.0
+
+pub returns-in-Other-clause-fitting : goal.returns-in-Other-clause-fitting
+returns-in-Other-clause-fitting g c = λ shapes f. c.in-Other.ensures.keeps.1 shapes (c.loop-count.invariant.1.1 shapes f)
+
+pub returns-in-Trapped-clause-keeps : goal.returns-in-Trapped-clause-keeps
+returns-in-Trapped-clause-keeps g c =
+    let old = c.args.memory.now in
+    let m = c.loop-count.memory in
+    let n = c.carry_out.new.mem in
+    keeps_on old.threads m.threads n.threads old.outside.globals.items m.outside.globals.items n.outside.globals.items old.outside.constants.items m.outside.constants.items n.outside.constants.items (g.S.Store.heap old.outside.heap.store) (g.S.Store.heap m.outside.heap.store) (g.S.Store.heap n.outside.heap.store) c.loop-count.invariant.1.0 c.in-Trapped.ensures.keeps.0
+
+pub returns-in-Trapped-clause-fitting : goal.returns-in-Trapped-clause-fitting
+returns-in-Trapped-clause-fitting g c = λ shapes f. c.in-Trapped.ensures.keeps.1 shapes (c.loop-count.invariant.1.1 shapes f)

@@ -1,4 +1,5 @@
-use Rattle.std.proofs.Common.{◌≡◌, ◌≤◌, ◌-◌, Some}
+use Rattle.std.proofs.Common.{◌≡◌, ◌≤◌, ◌-◌, Some, List}
+use Rattle.m3_heap.specs.Shapes.{Shape}
 use Rattle.m3_isa.specs.Effects.{at_hand}
 use Rattle.m3_threads.specs.declared.status.Thread.{Thread}
 use Rattle.m3_threads.specs.All.{thread_named}
@@ -16,7 +17,8 @@ invariant-loop-count g l =
     let first = g.S.Store.heap old.outside.heap.store in
     let heap = g.S.Store.heap now.outside.heap.store in
     (l.count ≤ l.most)
-    × KeepsMemory old.threads now.threads old.outside.globals.items now.outside.globals.items old.outside.constants.items now.outside.constants.items first heap
+    × (KeepsMemory old.threads now.threads old.outside.globals.items now.outside.globals.items old.outside.constants.items now.outside.constants.items first heap
+    × ((shapes : List Shape) → g.S.Store.fits old.outside.heap.store shapes → g.S.Store.fits now.outside.heap.store shapes))
     × ((q : Program) (base : State) (t : Thread) → thread_named old.threads base.running ≡ Some t
     → Plain_run (with_code q l.code old.outside.constants.items) l.count
     (seen base (at_hand l.initial.r l.initial.pc l.fp) old.threads old.outside.globals.items first)

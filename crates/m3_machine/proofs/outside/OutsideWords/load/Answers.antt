@@ -15,13 +15,13 @@ pub returns-then-at-ge-CONSTANTS : goal.returns-then-at-ge-CONSTANTS
 returns-then-at-ge-CONSTANTS g c =
     let m = c.args.self.now in
     sym (at_constant m.globals.items m.constants.items (g.S.Store.heap m.heap.store).cells c.args.at (g.met.S.Store.sound m.heap.store).cells.in_heap m.few (omega arith) (omega arith)
-    ∙ slice_get-get_or m.constants.items (c.args.at - 1125899906842624) 0 (omega arith))
+    ∙ slice_get-get_or m.constants.items (c.args.at - 1125899906842624) c.index.result.now (omega arith) ∙ ap Some (sym c.index.ensures))
 
 pub returns-then-place-len-2 : goal.returns-then-place-len-2
 returns-then-place-len-2 g c =
     let m = c.args.self.now in
     let here = placed c.args.at (length m.globals.items) c.ranges.at.fits m.few (omega arith) in
-    ap Some c.index.ensures
+    ap Some c.index-then-place-len-2.ensures
     ∙ sym (at_global m.globals.items m.constants.items (g.S.Store.heap m.heap.store).cells c.args.at (g.met.S.Store.sound m.heap.store).cells.in_heap (omega arith) here.0
     ∙ sym (ap (λ i. slice_get m.globals.items i) here.1) ∙ slice_get-get_or m.globals.items _ _ (omega arith))
 
