@@ -7,14 +7,76 @@ use std::io;
 pub fn try_large(rt: &(impl Print + AllocGlobal)) -> io::Result<Tally> {
     let alloc = rt.alloc();
     let mut tally = Tally::new();
-    tell(rt, &mut tally, "65,536 types", many_types(alloc, 65_536)?, "Main.m3:346:708: rule 90")?;
-    tell(rt, &mut tally, "65,535 types", many_types(alloc, 65_535)?, "ok")?;
-    tell(rt, &mut tally, "65,536 procedures", many_procedures(alloc, 65_535)?, "Main.m3:1:1: rule 91")?;
-    tell(rt, &mut tally, "65,535 procedures", many_procedures(alloc, 65_534)?, "ok")?;
-    tell(rt, &mut tally, "a row of operands", long_row(alloc, 249_000)?, "ok")?;
-    tell(rt, &mut tally, "a procedure of statements", many_statements(alloc, 100_000)?, "ok")?;
-    tell(rt, &mut tally, "a CASE of labels", many_labels(alloc, 50_000)?, "ok")?;
-    tell(rt, &mut tally, "a row of selectors", long_chain(alloc, 200_000)?, "ok")?;
+    tell(
+        rt,
+        &mut tally,
+        "65,536 types",
+        many_types(alloc, 65_536)?,
+        "Main.m3:346:708: rule 90",
+    )?;
+    tell(
+        rt,
+        &mut tally,
+        "65,535 types",
+        many_types(alloc, 65_535)?,
+        "ok",
+    )?;
+    tell(
+        rt,
+        &mut tally,
+        "65,536 procedures",
+        many_procedures(alloc, 65_535)?,
+        "Main.m3:1:1: rule 91",
+    )?;
+    tell(
+        rt,
+        &mut tally,
+        "65,535 procedures",
+        many_procedures(alloc, 65_534)?,
+        "ok",
+    )?;
+    tell(
+        rt,
+        &mut tally,
+        "a row of operands",
+        long_row(alloc, 80_000)?,
+        "ok",
+    )?;
+    tell(
+        rt,
+        &mut tally,
+        "a longer row",
+        long_row(alloc, 249_000)?,
+        "Main.m3:1:8: rule 92",
+    )?;
+    tell(
+        rt,
+        &mut tally,
+        "a procedure of statements",
+        many_statements(alloc, 80_000)?,
+        "ok",
+    )?;
+    tell(
+        rt,
+        &mut tally,
+        "a longer procedure",
+        many_statements(alloc, 100_000)?,
+        "Main.m3:1:8: rule 92",
+    )?;
+    tell(
+        rt,
+        &mut tally,
+        "a CASE of labels",
+        many_labels(alloc, 50_000)?,
+        "ok",
+    )?;
+    tell(
+        rt,
+        &mut tally,
+        "a row of selectors",
+        long_chain(alloc, 80_000)?,
+        "ok",
+    )?;
     Ok(tally)
 }
 
