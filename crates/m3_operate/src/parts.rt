@@ -144,10 +144,43 @@ fn add_to_array<'a>(
         return Ok(());
     };
     if let Some(value) = assigned(eval, parts, pos, worth, element)? {
+        if !has_shape_of_first(eval, parts, value) {
+            parts.varies(Reason { pos, rule: 43 });
+        }
         let stored = eval.store(value)?;
         parts.values.push(stored)?;
     }
     Ok(())
+}
+
+/// Whether a row of an array has the shape of the first row, in each dimension.
+fn has_shape_of_first<'a>(
+    eval: &Evaluator<'_, 'a>,
+    parts: &Parts<'a>,
+    value: Value<'a>,
+) -> bool {
+    let mut row = Some(value);
+    let mut other = first_of(eval, parts.values.as_slice());
+    for _ in 0..eval.declared.values.len() {
+        match (row, other) {
+            (Some(Value::Array(x, count)), Some(Value::Array(y, others))) => {
+                if count != others {
+                    return false;
+                }
+                row = first_of(eval, x);
+                other = first_of(eval, y);
+            }
+            _ => return true,
+        }
+    }
+    true
+}
+
+fn first_of<'a>(eval: &Evaluator<'_, 'a>, row: &[ValueId]) -> Option<Value<'a>> {
+    match row.first() {
+        Some(value) => eval.stored(*value),
+        None => None,
+    }
 }
 
 fn add_to_record<'a>(
