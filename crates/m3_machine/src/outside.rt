@@ -71,7 +71,14 @@ impl<S: Store> Outside<S> {
         ensures forks { threads.new.forks ≡ threads.old.forks }
         ensures waits { threads.new.waits ≡ threads.old.waits }
     {
-        collect_in(&mut self.globals, &mut self.heap, threads, image, room, steps)
+        collect_in(
+            &mut self.globals,
+            &mut self.heap,
+            threads,
+            image,
+            room,
+            steps,
+        )
     }
 }
 

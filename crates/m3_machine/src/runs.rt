@@ -90,8 +90,7 @@ impl<'a, S: Store> Machine<'a, S> {
         schedule: &[Entry],
         points: u64,
         out: &mut O,
-    ) -> Result<Outcome, SinkFailed>
-    {
+    ) -> Result<Outcome, SinkFailed> {
         let mut entries = schedule;
         for _point in 0..points {
             if let Some(outcome) = self.pass_point(first_entry(entries)) {

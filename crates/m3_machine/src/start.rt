@@ -65,7 +65,8 @@ impl<'a, S: Store> Machine<'a, S> {
         stack: u64,
         threads: u32,
     ) -> Result<Machine<'a, S>, NoMemory>
-        where S: Drop
+    where
+        S: Drop,
         requires some { 1 ≤ threads }
         requires few { threads ≤ 64 }
         requires large { 1024 ≤ stack }

@@ -6,9 +6,9 @@ use Rattle.m3_machine.proofs.machine.Machine.go_plainly.Goals as goal
 pub invariant_of-self : goal.invariant_of-self
 invariant_of-self g c =
     let m = c.args.self.now in
-    let kept = c.run_plain.ensures.keeps in record {
+    let kept = c.run_plain-halt.ensures.keeps in record {
       small = m.small;
-      counted = still-counted m.memory.threads c.run_plain.new.memory.threads m.made kept.stacks m.counted;
+      counted = still-counted m.memory.threads c.run_plain-halt.new.memory.threads m.made kept.stacks m.counted;
       words = kept.outside.count ∙ m.words;
-      fitting = λ e. ∥∥₁_elim (m.fitting e) ∥∥₁_prop (λ f. ∣ c.run_plain.ensures.fitting _ f ∣₁);
+      fitting = λ e. ∥∥₁_elim (m.fitting e) ∥∥₁_prop (λ f. ∣ c.run_plain-halt.ensures.fitting _ f ∣₁);
     }

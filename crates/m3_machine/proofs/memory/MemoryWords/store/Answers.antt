@@ -23,7 +23,10 @@ returns-clause-writable g c = λ x.
     ∙ ap (λ b. cond (is_in_stack m.threads x) true b) (c.store.ensures.writable x)
 
 pub returns-clause-keeps : goal.returns-clause-keeps
-returns-clause-keeps g c = (record {
-  stacks = keeps_stacks c.args.self.now.threads c.store.new.self c.args.at c.args.word c.store.result c.store.ensures.inside c.store.ensures.refused;
-  outside = c.store.ensures.keeps.0;
-}, c.store.ensures.keeps.1)
+returns-clause-keeps g c = (
+  record {
+    stacks = keeps_stacks c.args.self.now.threads c.store.new.self c.args.at c.args.word c.store.result c.store.ensures.inside c.store.ensures.refused;
+    outside = c.store.ensures.keeps.0;
+  },
+  c.store.ensures.keeps.1,
+)
