@@ -13,7 +13,7 @@ struct Test {
     is_negated: bool,
 }
 
-fn test(op: Op, left: Operand, right: Operand, is_negated: bool) -> Test {
+fn make_test(op: Op, left: Operand, right: Operand, is_negated: bool) -> Test {
     Test {
         op,
         left,
@@ -29,19 +29,19 @@ fn at_most(op: Op, left: Operand, right: Operand) -> Test {
         && let Some(next) = bound.checked_add(1)
         && (op == Op::Slt || bound != -1)
     {
-        return test(op, left, Operand::Number(next), false);
+        return make_test(op, left, Operand::Number(next), false);
     }
-    test(op, right, left, true)
+    make_test(op, right, left, true)
 }
 
 fn test_of(relation: Relation, left: Operand, right: Operand) -> Test {
     match relation {
-        Relation::Equal => test(Op::Seq, left, right, false),
-        Relation::NotEqual if right == Operand::Number(0) => test(Op::Sltu, right, left, false),
-        Relation::NotEqual => test(Op::Seq, left, right, true),
-        Relation::Less => test(Op::Slt, left, right, false),
+        Relation::Equal => make_test(Op::Seq, left, right, false),
+        Relation::NotEqual if right == Operand::Number(0) => make_test(Op::Sltu, right, left, false),
+        Relation::NotEqual => make_test(Op::Seq, left, right, true),
+        Relation::Less => make_test(Op::Slt, left, right, false),
         Relation::LessEqual => at_most(Op::Slt, left, right),
-        Relation::LessUnsigned => test(Op::Sltu, left, right, false),
+        Relation::LessUnsigned => make_test(Op::Sltu, left, right, false),
         Relation::LessEqualUnsigned => at_most(Op::Sltu, left, right),
     }
 }

@@ -1,5 +1,5 @@
 use crate::emitter::{Emitter, Target};
-use crate::relations::branch_for;
+use crate::relations::{Branch, branch_for};
 use m3_base::NoMemory;
 use m3_isa::{Instr, Op};
 use m3_mid::{Operand, Relation};
@@ -28,8 +28,20 @@ impl<'a> Emitter<'a> {
         self.put_jump(jump, Target::Block(to))
     }
 
-    /// Goes on at one of two blocks. Where one of them follows, one branch does, if there is one
-    /// that is taken in the other case.
+    /// Goes to one block by a branch, and else on at another.
+    fn put_either(
+        &mut self,
+        branch: Branch,
+        to: u32,
+        other: u32,
+        next: Option<u32>,
+    ) -> Result<(), NoMemory> {
+        self.put_branch(branch, Target::Block(to))?;
+        self.put_goto(other, next)
+    }
+
+    /// Goes on at one of two blocks. Where one of them follows, one branch does, if there is one that
+    /// is taken in the other case.
     pub fn put_if(
         &mut self,
         relation: Relation,
@@ -43,23 +55,18 @@ impl<'a> Emitter<'a> {
         if yes == no {
             return self.put_goto(yes, next);
         }
-        let to_yes = branch_for(relation, left, right, true);
         let to_no = branch_for(relation, left, right, false);
-        let prefers_no = next == Some(yes);
-        match (to_yes, to_no) {
-            (Some(branch), None) => {
-                self.put_branch(branch, Target::Block(yes))?;
-                self.put_goto(no, next)
-            }
-            (Some(branch), Some(_)) if !prefers_no => {
-                self.put_branch(branch, Target::Block(yes))?;
-                self.put_goto(no, next)
-            }
-            (_, Some(branch)) => {
-                self.put_branch(branch, Target::Block(no))?;
-                self.put_goto(yes, next)
-            }
-            (None, None) => self.put_goto(yes, next),
+        if next == Some(yes)
+            && let Some(branch) = to_no
+        {
+            return self.put_either(branch, no, yes, next);
+        }
+        if let Some(branch) = branch_for(relation, left, right, true) {
+            return self.put_either(branch, yes, no, next);
+        }
+        match to_no {
+            Some(branch) => self.put_either(branch, no, yes, next),
+            None => self.put_goto(yes, next),
         }
     }
 }

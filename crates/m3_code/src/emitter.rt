@@ -152,10 +152,9 @@ impl<'a> Emitter<'a> {
     }
 
     pub fn kind_of(&self, temp: u32) -> Kind {
-        self.placed
-            .derived
-            .proc
-            .temps
+        let placed = self.placed;
+        let temps = placed.derived.proc.temps;
+        temps
             .get(temp as usize)
             .copied()
             .unwrap_or(Kind::Number)

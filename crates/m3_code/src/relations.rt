@@ -9,16 +9,16 @@ pub(crate) struct Branch {
     pub(crate) right: Operand,
 }
 
-fn branch(op: Op, left: Operand, right: Operand) -> Option<Branch> {
+fn make_branch(op: Op, left: Operand, right: Operand) -> Option<Branch> {
     Some(Branch { op, left, right })
 }
 
 /// Equal or not, where one of the operands is 0.
 fn zero_branch(op: Op, left: Operand, right: Operand) -> Option<Branch> {
     if right == Operand::Number(0) {
-        branch(op, left, right)
+        make_branch(op, left, right)
     } else if left == Operand::Number(0) {
-        branch(op, right, left)
+        make_branch(op, right, left)
     } else {
         None
     }
@@ -26,7 +26,7 @@ fn zero_branch(op: Op, left: Operand, right: Operand) -> Option<Branch> {
 
 fn equal_branch(left: Operand, right: Operand, holds: bool) -> Option<Branch> {
     if holds {
-        zero_branch(Op::Bz, left, right).or(branch(Op::Beq, left, right))
+        zero_branch(Op::Bz, left, right).or(make_branch(Op::Beq, left, right))
     } else {
         zero_branch(Op::Bnz, left, right)
     }
@@ -37,12 +37,12 @@ fn signed_at_most(left: Operand, right: Operand) -> Option<Branch> {
     if let Operand::Number(bound) = right
         && let Some(next) = bound.checked_add(1)
     {
-        return branch(Op::Blt, left, Operand::Number(next));
+        return make_branch(Op::Blt, left, Operand::Number(next));
     }
     if let Operand::Number(bound) = left
         && let Some(before) = bound.checked_sub(1)
     {
-        return branch(Op::Blt, Operand::Number(before), right);
+        return make_branch(Op::Blt, Operand::Number(before), right);
     }
     None
 }
@@ -52,12 +52,12 @@ fn unsigned_at_most(left: Operand, right: Operand) -> Option<Branch> {
     if let Operand::Number(bound) = right
         && bound != -1
     {
-        return branch(Op::Bltu, left, Operand::Number(bound.wrapping_add(1)));
+        return make_branch(Op::Bltu, left, Operand::Number(bound.wrapping_add(1)));
     }
     if let Operand::Number(bound) = left
         && bound != 0
     {
-        return branch(Op::Bltu, Operand::Number(bound.wrapping_sub(1)), right);
+        return make_branch(Op::Bltu, Operand::Number(bound.wrapping_sub(1)), right);
     }
     None
 }
@@ -73,13 +73,13 @@ pub(crate) fn branch_for(
     match relation {
         Relation::Equal => equal_branch(left, right, holds),
         Relation::NotEqual => equal_branch(left, right, !holds),
-        Relation::Less if holds => branch(Op::Blt, left, right),
+        Relation::Less if holds => make_branch(Op::Blt, left, right),
         Relation::Less => signed_at_most(right, left),
         Relation::LessEqual if holds => signed_at_most(left, right),
-        Relation::LessEqual => branch(Op::Blt, right, left),
-        Relation::LessUnsigned if holds => branch(Op::Bltu, left, right),
+        Relation::LessEqual => make_branch(Op::Blt, right, left),
+        Relation::LessUnsigned if holds => make_branch(Op::Bltu, left, right),
         Relation::LessUnsigned => unsigned_at_most(right, left),
         Relation::LessEqualUnsigned if holds => unsigned_at_most(left, right),
-        Relation::LessEqualUnsigned => branch(Op::Bltu, right, left),
+        Relation::LessEqualUnsigned => make_branch(Op::Bltu, right, left),
     }
 }

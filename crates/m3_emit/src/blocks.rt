@@ -49,23 +49,13 @@ impl<'a> Writer<'a> {
             MidOp::FrameAddress { to } => self.emitter.put_address(Op::Slot, to, 0),
             MidOp::GlobalAddress { to, word } => self.emitter.put_address(Op::Glb, to, word),
             MidOp::TextCell { to, text } => {
-                let at = self
-                    .emitter
-                    .links
-                    .texts
-                    .get(text as usize)
-                    .copied()
-                    .unwrap_or(0);
+                let links = self.emitter.links;
+                let at = links.texts.get(text as usize).copied().unwrap_or(0);
                 self.emitter.put_address(Op::Con, to, at)
             }
             MidOp::ConstantAddress { to, constant } => {
-                let at = self
-                    .emitter
-                    .links
-                    .constants
-                    .get(constant as usize)
-                    .copied()
-                    .unwrap_or(0);
+                let links = self.emitter.links;
+                let at = links.constants.get(constant as usize).copied().unwrap_or(0);
                 self.emitter.put_address(Op::Con, to, at)
             }
             MidOp::Copy {
@@ -176,7 +166,8 @@ impl<'a> Writer<'a> {
 
     /// Whether an operation is the next of those that need no code; then the one behind it is.
     fn is_idle(&mut self, block: u32, op: u32) -> bool {
-        let next = self.emitter.placed.idle.get(self.idle).copied();
+        let placed = self.emitter.placed;
+        let next = placed.idle.get(self.idle).copied();
         if next == Some(Idle { block, op }) {
             self.idle = self.idle.saturating_add(1);
             return true;
@@ -227,7 +218,8 @@ impl<'a> Writer<'a> {
 
     /// Goes on at a block; a return that stands there alone takes no jump.
     fn put_next(&mut self, to: u32, next: Option<u32>) -> Result<(), NoMemory> {
-        let p = self.emitter.placed.derived.proc;
+        let placed = self.emitter.placed;
+        let p = placed.derived.proc;
         if next != Some(to)
             && m3_flow::ops_of(&p, to).is_empty()
             && let End::Return { value } = m3_flow::end_of(&p, to)

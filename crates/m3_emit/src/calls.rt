@@ -21,6 +21,12 @@ struct Transfer {
 }
 
 impl<'a> Writer<'a> {
+    /// The word at which the next frame begins.
+    fn body(&self) -> u32 {
+        let placed = self.emitter.placed;
+        placed.body
+    }
+
     fn is_tidy(&self, operand: Operand) -> bool {
         match operand {
             Operand::Temp(temp) => self.emitter.kind_of(temp) == Kind::Tidy,
@@ -83,9 +89,11 @@ impl<'a> Writer<'a> {
         word: u32,
         passed: &mut Passed,
     ) -> Result<(), NoMemory> {
+        let placed = self.emitter.placed;
+        let slots = placed.derived.proc.slots;
         for at in 0..count {
             let slot = first.saturating_add(at);
-            if let Some(slot) = self.emitter.placed.derived.proc.slots.get(slot as usize)
+            if let Some(slot) = slots.get(slot as usize)
                 && slot.kind == Kind::Tidy
             {
                 passed.tidy.push(word.saturating_add(at))?;
@@ -124,7 +132,7 @@ impl<'a> Writer<'a> {
     }
 
     fn put_actuals(&mut self, actuals: &[Actual], passed: &mut Passed) -> Result<(), NoMemory> {
-        let mut word = self.emitter.placed.body.saturating_add(3);
+        let mut word = self.body().saturating_add(3);
         for actual in actuals {
             word = self.put_actual(*actual, word, passed)?;
         }
@@ -133,7 +141,7 @@ impl<'a> Writer<'a> {
 
     /// Everything of a call up to its instruction, which is still to come.
     fn prepare(&mut self, callee: Callee) -> Result<(Op, u8, u32), NoMemory> {
-        let environment_word = self.emitter.placed.body.saturating_add(2);
+        let environment_word = self.body().saturating_add(2);
         match callee {
             Callee::Outermost(procedure) => Ok((Op::Call, 0, procedure.saturating_add(2))),
             Callee::Inner {

@@ -100,20 +100,14 @@ impl<'a> Writer<'a> {
     /// The code of all blocks. What registers hold is known at the front of a block that is entered
     /// from the one before it alone.
     fn put_blocks(&mut self, map: &mut Map, places: &mut Places) -> Result<(), NoMemory> {
+        let placed = self.emitter.placed;
+        let blocks = placed.derived.proc.blocks;
         let mut falls = false;
         for at in 0..map.laid.len() {
             let Some(number) = map.laid.get(at).copied() else {
                 return Ok(());
             };
-            let Some(block) = self
-                .emitter
-                .placed
-                .derived
-                .proc
-                .blocks
-                .get(number as usize)
-                .copied()
-            else {
+            let Some(block) = blocks.get(number as usize).copied() else {
                 return Ok(());
             };
             if !falls || map.entries.get(number as usize).copied() != Some(1) {
@@ -158,7 +152,8 @@ impl<'a> Writer<'a> {
     }
 
     fn put_all(&mut self, map: &mut Map, places: &mut Places) -> Result<(), NoMemory> {
-        let p = self.emitter.placed.derived.proc;
+        let placed = self.emitter.placed;
+        let p = placed.derived.proc;
         let mut words = unset_words(self.emitter.alloc, &p)?;
         self.put_start(&mut words)?;
         let first = map.laid.first().copied();

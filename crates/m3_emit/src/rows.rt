@@ -103,13 +103,9 @@ impl<'a> Writer<'a> {
     }
 
     fn derivation(&self, temp: u32) -> Result<Derivation<'a>, NoMemory> {
-        self.emitter
-            .placed
-            .derived
-            .derivations
-            .get(temp as usize)
-            .copied()
-            .ok_or(gap())
+        let placed = self.emitter.placed;
+        let derivations = placed.derived.derivations;
+        derivations.get(temp as usize).copied().ok_or(gap())
     }
 
     fn derived_places(
@@ -153,14 +149,9 @@ impl<'a> Writer<'a> {
         passed: &Passed,
     ) -> Result<(), NoMemory> {
         let instr = self.emitter.here()?;
-        let row = self
-            .emitter
-            .placed
-            .derived
-            .rows
-            .get(self.row)
-            .copied()
-            .ok_or(gap())?;
+        let placed = self.emitter.placed;
+        let rows = placed.derived.rows;
+        let row = rows.get(self.row).copied().ok_or(gap())?;
         self.row = self.row.saturating_add(1);
         let tidy = self.tidy_places(&row)?;
         let arguments = self.argument_places(listed, passed)?;

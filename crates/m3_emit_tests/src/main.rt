@@ -1,6 +1,5 @@
 //! Prints the code and the rows of procedures of middle code that are written here by hand, and
-//! sizes of large ones. The argument `every` stands for a procedure that uses each kind of
-//! operation.
+//! sizes of large ones.
 #![tactic(auto)]
 
 use bumpalo::Bump;
@@ -8,11 +7,9 @@ use listing::print_proc;
 use m3_emit::{Links, Places};
 use m3_mid::Proc;
 use std::alloc::Global;
-use std::rt::Env;
-use std::{env, io};
+use std::io;
 
 mod addresses;
-mod every;
 mod large;
 mod listing;
 mod samples;
@@ -72,20 +69,6 @@ fn print_samples(rt: &(impl Print + Alloc<A = Global>)) -> io::Result<()> {
     print_large(rt)
 }
 
-fn run(rt: &(impl Print + Env + Alloc<A = Global>)) -> io::Result<()> {
-    let mut has_words = false;
-    for word in env::args(rt)?.skip(1) {
-        has_words = true;
-        if word.as_str() == "every" {
-            print_all(rt, "every", every::EVERY)?;
-        }
-    }
-    if has_words {
-        return Ok(());
-    }
-    print_samples(rt)
-}
-
 fn main(rt: HostRuntime) -> io::Result<()> {
-    run(&rt)
+    print_samples(&rt)
 }
