@@ -12,6 +12,7 @@ use m3_operands::Checker;
 use m3_program::read_program;
 use m3_scopes::Program;
 use m3_sizes::SizedTypes;
+use m3_types::TypeNode;
 use std::alloc::Global;
 
 /// The checked program of some sources, whose trees stand in the arena, or the least of all rules that
@@ -61,7 +62,16 @@ fn check_all<'a>(
     declare_globals(checker)?;
     check_units(checker)?;
     checker.least.check()?;
+    give_up_refused(checker);
     Ok(list_all(checker, sources)?)
+}
+
+/// Defines what stood for types that were refused, since no place of a whole graph is left reserved.
+fn give_up_refused(checker: &mut Checker<'_, '_>) {
+    let refused = checker.declared.basic.refused;
+    if checker.declared.types.is_reserved(refused) {
+        checker.declared.types.set(refused, TypeNode::Null);
+    }
 }
 
 /// A checked program, if it is within the limits.

@@ -1,6 +1,8 @@
+use crate::answers::{copies, told};
 use bumpalo::Bump;
 use m3_base::{Refused, Source, rule_text};
 use m3_checker::check;
+use std::alloc::{AllocError, Global};
 use std::rt::Files;
 use std::{fs, io};
 
@@ -10,36 +12,41 @@ pub fn check_files(rt: &(impl Print + Files + AllocGlobal), names: &[String]) ->
     for name in names {
         texts.push(fs::read(rt, name.as_str())?)?;
     }
-    print_refusal(rt, names, texts.as_slice())
-}
-
-fn print_refusal(
-    rt: &(impl Print + AllocGlobal),
-    names: &[String],
-    texts: &[Vec<u8>],
-) -> io::Result<()> {
-    let alloc = rt.alloc();
-    let arena = Bump::new(alloc);
-    let mut sources = Vec::new(alloc);
-    for (name, text) in names.iter().zip(texts) {
-        if text.len() > 1_048_576 {
-            return println!(rt; "{name}: too long");
-        }
+    let mut sources = Vec::new(rt.alloc());
+    for (name, text) in names.iter().zip(&texts) {
         sources.push(Source {
             name: name.as_bytes(),
             text: text.as_slice(),
         })?;
     }
-    match check(alloc, &arena, sources.as_slice()) {
-        Ok(_) => Ok(()),
-        Err(Refused::NoMemory) => println!(rt; "out of memory"),
-        Err(Refused::Rule(refusal)) => {
-            let text = rule_text(refusal.rule).unwrap_or("");
-            let (line, col, rule) = (refusal.pos.line, refusal.pos.col, refusal.rule);
-            match names.get(refusal.pos.file as usize) {
-                Some(name) => println!(rt; "{name}:{line}:{col}: rule {rule} {text}"),
-                None => println!(rt; "?:{line}:{col}: rule {rule} {text}"),
-            }
-        }
+    let refusal = refusal_of(rt.alloc(), sources.as_slice())?;
+    if refusal.is_empty() {
+        return Ok(());
     }
+    println!(rt; "{refusal}")
+}
+
+/// The refusal of some sources with its text; nothing where they are accepted.
+fn refusal_of(alloc: Global, sources: &[Source<'_>]) -> Result<String, AllocError> {
+    let owner = Bump::new(alloc);
+    let arena = &owner;
+    let copies = copies(alloc, arena, sources)?;
+    match check(alloc, arena, copies.as_slice()) {
+        Ok(_) => Ok(String::new(alloc)),
+        Err(refused) => with_text(alloc, sources, &refused),
+    }
+}
+
+fn with_text(
+    alloc: Global,
+    sources: &[Source<'_>],
+    refused: &Refused,
+) -> Result<String, AllocError> {
+    let Refused::Rule(refusal) = refused else {
+        return String::from_str(alloc, "out of memory");
+    };
+    let mut answer = told(alloc, sources, refusal)?;
+    answer.push(' ')?;
+    answer.push_str(rule_text(refusal.rule).unwrap_or(""))?;
+    Ok(answer)
 }

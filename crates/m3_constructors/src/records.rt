@@ -56,7 +56,8 @@ pub fn record_of<'a>(
 }
 
 fn fields_of<'a>(checker: &Checker<'_, 'a>, kind: TypeId) -> &'a [Field<'a>] {
-    match checker.node(kind) {
+    let node = checker.node(kind);
+    match node {
         TypeNode::Fields(fields) => fields,
         _ => &[],
     }

@@ -1,5 +1,7 @@
+ghost use Rattle.std.specs.Prelude.{◌<◌, All, length, IfOk, OnOk};
+
 use bumpalo::Bump;
-use m3_base::{Pos, Refused, Source};
+use m3_base::{Pos, Refusal, Refused, Source};
 use m3_program::read_program;
 use m3_scopes::Program;
 use std::alloc::{AllocError, Global};
@@ -45,37 +47,95 @@ pub fn answer_of_sources(
     sources: &[Source<'_>],
     wanted: &str,
 ) -> Result<String, AllocError> {
-    let arena = Bump::new(alloc);
-    let mut checked = Vec::new(alloc);
-    for source in sources {
-        if source.text.len() > 1_048_576 {
-            return String::from_str(alloc, "too long");
-        }
-        checked.push(*source)?;
+    // Trees borrow the arena, so the texts stand in it too.
+    let owner = Bump::new(alloc);
+    let arena = &owner;
+    let copies = copies(alloc, arena, sources)?;
+    match read_program(alloc, arena, copies.as_slice()) {
+        Ok(program) => answer_of_program(alloc, sources, &program, wanted),
+        Err(refused) => answer_of_refused(alloc, sources, &refused),
     }
-    match read_program(alloc, &arena, checked.as_slice()) {
-        Ok(program) => match place_of(sources, wanted) {
-            Some(place) => declaration(alloc, sources, &program, wanted, place),
-            None => told(alloc, &program, wanted),
-        },
-        Err(Refused::NoMemory) => String::from_str(alloc, "out of memory"),
-        Err(Refused::Rule(refusal)) => {
-            let line = refusal.pos.line;
-            let col = refusal.pos.col;
-            let rule = refusal.rule;
-            let mut answer = String::new(alloc);
-            match sources.get(refusal.pos.file as usize) {
-                Some(source) => {
-                    for byte in source.name {
-                        answer.push(char::from(*byte))?;
-                    }
-                }
-                None => answer.push('?')?,
+}
+
+/// Copies of some sources in an arena; one that is too long is left out.
+fn copies<'a>(
+    alloc: Global,
+    arena: &'a Bump,
+    sources: &[Source<'_>],
+) -> Result<Vec<Source<'a>>, AllocError>
+    ensures { IfOk result (λ copies. All (λ source. length source.text.now < 4294967295) copies.items) }
+{
+    let mut copies = Vec::new(alloc);
+    for source in sources {
+        add_copy(&mut copies, arena, source)?;
+    }
+    Ok(copies)
+}
+
+fn add_copy<'a>(
+    copies: &mut Vec<Source<'a>>,
+    arena: &'a Bump,
+    source: &Source<'_>,
+) -> Result<(), AllocError>
+    ensures { OnOk result (All (λ source. length source.text.now < 4294967295) copies.old.items → All (λ source. length source.text.now < 4294967295) copies.new.items) }
+{
+    let name = &*arena.try_alloc_slice_copy(source.name)?;
+    let text = &*arena.try_alloc_slice_copy(source.text)?;
+    if text.len() <= 1_048_576 {
+        copies.push(Source { name, text })?;
+    }
+    Ok(())
+}
+
+/// What a case wants to know of a program that is accepted.
+fn answer_of_program(
+    alloc: Global,
+    sources: &[Source<'_>],
+    program: &Program<'_>,
+    wanted: &str,
+) -> Result<String, AllocError> {
+    match place_of(sources, wanted) {
+        Some(place) => declaration(alloc, sources, program, wanted, place),
+        None => told(alloc, program, wanted),
+    }
+}
+
+fn answer_of_refused(
+    alloc: Global,
+    sources: &[Source<'_>],
+    refused: &Refused,
+) -> Result<String, AllocError> {
+    match refused {
+        Refused::NoMemory => String::from_str(alloc, "out of memory"),
+        Refused::Rule(refusal) => answer_of_refusal(alloc, sources, refusal),
+    }
+}
+
+fn answer_of_refusal(
+    alloc: Global,
+    sources: &[Source<'_>],
+    refusal: &Refusal,
+) -> Result<String, AllocError> {
+    let line = refusal.pos.line;
+    let col = refusal.pos.col;
+    let rule = refusal.rule;
+    let mut answer = String::new(alloc);
+    add_name(&mut answer, sources, refusal.pos.file)?;
+    let place = format!(in alloc; ":{line}:{col}: rule {rule}")?;
+    answer.push_str(place.as_str())?;
+    Ok(answer)
+}
+
+/// Adds the name of a file.
+fn add_name(answer: &mut String, sources: &[Source<'_>], file: u32) -> Result<(), AllocError> {
+    match sources.get(file as usize) {
+        Some(source) => {
+            for byte in source.name {
+                answer.push(char::from(*byte))?;
             }
-            let place = format!(in alloc; ":{line}:{col}: rule {rule}")?;
-            answer.push_str(place.as_str())?;
-            Ok(answer)
+            Ok(())
         }
+        None => answer.push('?'),
     }
 }
 

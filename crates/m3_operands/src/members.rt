@@ -117,7 +117,8 @@ impl<'a> Checker<'_, 'a> {
 
     /// The formals of a signature.
     pub fn formals_of(&self, signature: TypeId) -> &'a [Formal<'a>] {
-        match self.node(signature) {
+        let node = self.node(signature);
+        match node {
             TypeNode::Procedure(formals, _, _) => formals,
             _ => &[],
         }

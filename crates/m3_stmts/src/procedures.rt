@@ -90,7 +90,8 @@ fn define<'a>(
 }
 
 fn raises_of<'a>(checker: &Checker<'_, 'a>, kind: TypeId) -> Option<&'a [u32]> {
-    match checker.node(kind) {
+    let node = checker.node(kind);
+    match node {
         TypeNode::Procedure(_, _, Raises::Only(exceptions)) => Some(exceptions),
         _ => None,
     }
