@@ -3,11 +3,11 @@ use bumpalo::Bump;
 use m3_base::{NoMemory, Refused};
 use m3_declared::{Basic, Declared};
 use m3_declarer::Declarer;
-use m3_worth::Evaluator;
 use m3_gather::gather;
 use m3_scopes::Program;
 use m3_settle::settle_all;
 use m3_types::{TypeGraph, TypeNode};
+use m3_worth::Evaluator;
 use std::alloc::Global;
 
 /// The types that every program has.

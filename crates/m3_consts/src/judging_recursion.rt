@@ -103,7 +103,11 @@ pub fn judge_recursion<'a>(declarer: &mut Declarer<'_, 'a>) -> Result<(), NoMemo
     refuse_cyclic(declarer, &search)
 }
 
-fn search_from<'a>(declarer: &Declarer<'_, 'a>, search: &mut Search, first: u32) -> Result<(), NoMemory> {
+fn search_from<'a>(
+    declarer: &Declarer<'_, 'a>,
+    search: &mut Search,
+    first: u32,
+) -> Result<(), NoMemory> {
     let mut work = Vec::new(declarer.eval.alloc);
     search.enter(first)?;
     work.push((first, 0usize))?;

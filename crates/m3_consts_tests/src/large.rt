@@ -13,9 +13,15 @@ pub fn try_large(rt: &(impl Print + AllocGlobal)) -> io::Result<Tally> {
         ("a chain of 30,000 object types", objects(alloc)?),
         ("an enumeration of 100,000 members", enumeration(alloc)?),
         ("a constant array of 100,000,000 elements", array(alloc)?),
-        ("two families of 20,000 types that name each other", families(alloc)?),
+        (
+            "two families of 20,000 types that name each other",
+            families(alloc)?,
+        ),
         ("a row of 100,000 operators", operators(alloc)?),
-        ("constant records in constant records, 30,000 deep", values(alloc)?),
+        (
+            "constant records in constant records, 30,000 deep",
+            values(alloc)?,
+        ),
         ("variables by variables, 60,000 deep", variables(alloc)?),
         ("defaults by defaults, 20,000 deep", defaults(alloc)?),
         ("parentheses and constructors 190 deep", nested(alloc)?),
@@ -163,8 +169,10 @@ fn values(alloc: Global) -> Result<String, AllocError> {
     )?;
     for number in 0..8_000u32 {
         let next = number.saturating_add(1);
-        let row = format!(in alloc; "TYPE T{next}=RECORD x,y:T{number} END;\
-            CONST a{next}=T{next}{{a{number},a{number}}};b{next}=T{next}{{b{number},b{number}}};\n")?;
+        let row = format!(in alloc;
+            "TYPE T{next}=RECORD x,y:T{number} END;\
+            CONST a{next}=T{next}{{a{number},a{number}}};b{next}=T{next}{{b{number},b{number}}};\n"
+        )?;
         text.push_str(row.as_str())?;
     }
     text.push_str(

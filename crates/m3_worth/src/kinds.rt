@@ -172,12 +172,7 @@ impl<'a> Evaluator<'_, 'a> {
     }
 
     /// Whether values of two types can be compared: one can be assigned to the other.
-    pub fn are_comparable(
-        &mut self,
-        pos: Pos,
-        a: TypeId,
-        b: TypeId,
-    ) -> Result<bool, NoMemory> {
+    pub fn are_comparable(&mut self, pos: Pos, a: TypeId, b: TypeId) -> Result<bool, NoMemory> {
         let one = self.fits_surely(a, b)?;
         if one == Some(true) {
             return Ok(true);

@@ -21,12 +21,7 @@ pub struct Found {
 }
 
 impl<'a> Evaluator<'_, 'a> {
-    fn add_member(
-        &mut self,
-        kind: TypeId,
-        name: &'a [u8],
-        member: Member,
-    ) -> Result<(), NoMemory> {
+    fn add_member(&mut self, kind: TypeId, name: &'a [u8], member: Member) -> Result<(), NoMemory> {
         if !self.members.contains_key(&(kind, name)) {
             self.members.insert((kind, name), member)?;
         }
