@@ -28,8 +28,8 @@ fn basic_types(types: &mut TypeGraph<'_>) -> Result<Basic, NoMemory> {
 }
 
 /// The types and constants of all declarations of a linked program, and the types of all its type
-/// expressions. The least broken rule of types and constants (rules 40 to 49) is the answer where there
-/// is one.
+/// expressions. The least broken rule of types and constants (rules 40 to 49) is the answer where
+/// there is one.
 pub fn declare<'a>(
     alloc: Global,
     arena: &'a Bump,

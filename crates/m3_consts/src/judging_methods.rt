@@ -26,7 +26,8 @@ pub fn judge_methods<'a>(declarer: &mut Declarer<'_, 'a>) -> Result<(), NoMemory
     Ok(())
 }
 
-/// Refuses a parent that is no object type, or Thread.T. The part whose parent is refused is given.
+/// Refuses a parent that is no object type, or Thread.T. The part whose parent is refused is
+/// given.
 fn judge_parent<'a>(
     declarer: &mut Declarer<'_, 'a>,
     written: TypeAt<'a>,
@@ -153,8 +154,8 @@ fn is_object_below<'a>(
     declarer.eval.is_subtype(object, above)
 }
 
-/// Whether a procedure can be a method of an object type: its first formal is by VALUE and takes the
-/// object, and the rest is a subtype of the method's signature.
+/// Whether a procedure can be a method of an object type: its first formal is by VALUE and takes
+/// the object, and the rest is a subtype of the method's signature.
 fn method_fits<'a>(
     declarer: &mut Declarer<'_, 'a>,
     object: TypeId,

@@ -40,8 +40,8 @@ pub fn try_large(rt: &(impl Print + AllocGlobal)) -> io::Result<Tally> {
     Ok(tally)
 }
 
-/// The answer for a module that is cut into files of at most a million bytes: an interface each, of which
-/// each imports the names of the one before.
+/// The answer for a module that is cut into files of at most a million bytes: an interface each,
+/// of which each imports the names of the one before.
 fn of_one(alloc: Global, text: &String) -> Result<String, AllocError> {
     let source = Source {
         name: b"Main.m3",
@@ -50,7 +50,8 @@ fn of_one(alloc: Global, text: &String) -> Result<String, AllocError> {
     answer_of_sources(alloc, &[source], "ok")
 }
 
-/// 50,000 constants of an interface, of which each is defined by the next, and as many of a module.
+/// 50,000 constants of an interface, of which each is defined by the next, and as many of a
+/// module.
 fn constants(alloc: Global) -> Result<String, AllocError> {
     let mut first = String::from_str(alloc, "INTERFACE I; CONST\n")?;
     let mut second = String::from_str(alloc, "MODULE Main; IMPORT I; CONST d0=I.c0+1;\n")?;
@@ -137,8 +138,8 @@ fn array(alloc: Global) -> Result<String, AllocError> {
     of_one(alloc, &text)
 }
 
-/// Two families of types of equal structure, of which each names the next of its family, and procedures
-/// that are compared by them.
+/// Two families of types of equal structure, of which each names the next of its family, and
+/// procedures that are compared by them.
 fn families(alloc: Global) -> Result<String, AllocError> {
     let mut text = String::from_str(alloc, "MODULE Main; TYPE\n")?;
     for number in 0..20_000u32 {

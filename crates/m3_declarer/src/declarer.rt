@@ -38,8 +38,8 @@ pub struct BrandAt<'a> {
     pub pos: Pos,
 }
 
-/// A procedure that is bound to a method, or overrides one: its type, and the method's name with its
-/// place.
+/// A procedure that is bound to a method, or overrides one: its type, and the method's name with
+/// its place.
 #[derive(Clone, Copy)]
 pub struct MethodValue<'a> {
     pub unit: u32,

@@ -7,8 +7,8 @@ use m3_types::TypeId;
 use m3_worth::Need;
 
 impl<'a> Declarer<'_, 'a> {
-    /// Gives each type expression, method and procedure a place in the graph, and numbers to texts,
-    /// procedures and exceptions.
+    /// Gives each type expression, method and procedure a place in the graph, and numbers to
+    /// texts, procedures and exceptions.
     pub fn reserve_all(&mut self) -> Result<(), NoMemory> {
         let refused = Need::Node(self.eval.declared.basic.refused);
         self.eval.settled.insert(refused)?;

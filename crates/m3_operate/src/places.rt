@@ -253,7 +253,8 @@ fn part_of<'a>(eval: &Evaluator<'_, 'a>, parts: &[ValueId], place: u64) -> Optio
     eval.stored(*part)
 }
 
-/// The place of an index in an array whose first index is given, if the array has so many elements.
+/// The place of an index in an array whose first index is given, if the array has so many
+/// elements.
 fn place_of(index: i64, first: i64, count: u64) -> Option<u64> {
     if index < first {
         return None;

@@ -49,8 +49,8 @@ pub fn all_told<'a>(declarer: &mut Declarer<'_, 'a>) -> Result<Vec<Told>, NoMemo
     Ok(told)
 }
 
-/// Lists each reveal for the whole program and for each unit where it applies: its own, and if this
-/// is an interface those that import or export it.
+/// Lists each reveal for the whole program and for each unit where it applies: its own, and if
+/// this is an interface those that import or export it.
 pub fn list_reveals<'a>(declarer: &mut Declarer<'_, 'a>) -> Result<(), NoMemory> {
     let told = all_told(declarer)?;
     for found in &told {

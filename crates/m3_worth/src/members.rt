@@ -2,7 +2,8 @@ use crate::evaluator::Evaluator;
 use m3_base::{NoMemory, place_number};
 use m3_types::{Field, Method, TypeId, TypeNode};
 
-/// A member of a type by its place: a field or a method of its own part, or a member of an enumeration.
+/// A member of a type by its place: a field or a method of its own part, or a member of an
+/// enumeration.
 #[derive(Clone, Copy, Debug, PartialEq, Eq)]
 pub enum Member {
     Field(u32),
