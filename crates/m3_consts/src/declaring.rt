@@ -3,11 +3,11 @@ use bumpalo::Bump;
 use m3_base::{NoMemory, Refused};
 use m3_declared::{Basic, Declared};
 use m3_declarer::Declarer;
-use m3_worth::Evaluator;
 use m3_gather::gather;
 use m3_scopes::Program;
 use m3_settle::settle_all;
 use m3_types::{TypeGraph, TypeNode};
+use m3_worth::Evaluator;
 use std::alloc::Global;
 
 /// The types that every program has.
@@ -28,8 +28,8 @@ fn basic_types(types: &mut TypeGraph<'_>) -> Result<Basic, NoMemory> {
 }
 
 /// The types and constants of all declarations of a linked program, and the types of all its type
-/// expressions. The least broken rule of types and constants (rules 40 to 49) is the answer where there
-/// is one.
+/// expressions. The least broken rule of types and constants (rules 40 to 49) is the answer where
+/// there is one.
 pub fn declare<'a>(
     alloc: Global,
     arena: &'a Bump,

@@ -1,10 +1,10 @@
 use indexmap::IndexSet;
 use m3_base::{NoMemory, Pos, place_number};
 use m3_declarer::{Declarer, MethodValue};
-use m3_worth::Member;
 use m3_gather::TypeAt;
 use m3_syntax::TypeExp;
 use m3_types::{Mode, Secret, TypeId, TypeNode};
+use m3_worth::Member;
 
 /// Rule 49 on the parents, methods and overrides of object types.
 pub fn judge_methods<'a>(declarer: &mut Declarer<'_, 'a>) -> Result<(), NoMemory> {
@@ -26,8 +26,12 @@ pub fn judge_methods<'a>(declarer: &mut Declarer<'_, 'a>) -> Result<(), NoMemory
     Ok(())
 }
 
-/// Refuses a parent that is no object type, or Thread.T. The part whose parent is refused is given.
-fn judge_parent<'a>(declarer: &mut Declarer<'_, 'a>, written: TypeAt<'a>) -> Result<Option<TypeId>, NoMemory> {
+/// Refuses a parent that is no object type, or Thread.T. The part whose parent is refused is
+/// given.
+fn judge_parent<'a>(
+    declarer: &mut Declarer<'_, 'a>,
+    written: TypeAt<'a>,
+) -> Result<Option<TypeId>, NoMemory> {
     let TypeExp::Object {
         parent: Some(name),
         parts,
@@ -66,7 +70,10 @@ fn is_parent<'a>(declarer: &mut Declarer<'_, 'a>, kind: TypeId) -> Result<bool, 
 }
 
 /// Refuses what is bound to a method and doesn't fit it, and an override of no method.
-fn judge_value<'a>(declarer: &mut Declarer<'_, 'a>, value: &MethodValue<'a>) -> Result<(), NoMemory> {
+fn judge_value<'a>(
+    declarer: &mut Declarer<'_, 'a>,
+    value: &MethodValue<'a>,
+) -> Result<(), NoMemory> {
     declarer.eval.unit = value.unit;
     let signature = match value.signature {
         Some(signature) => Some(signature),
@@ -78,14 +85,24 @@ fn judge_value<'a>(declarer: &mut Declarer<'_, 'a>, value: &MethodValue<'a>) -> 
     };
     match value.procedure {
         Some(procedure) => {
-            judge_fit(declarer, value.unit, value.pos, value.object, signature, procedure)
+            judge_fit(
+                declarer,
+                value.unit,
+                value.pos,
+                value.object,
+                signature,
+                procedure,
+            )
         }
         None => Ok(()),
     }
 }
 
 /// The signature of the method that is overridden.
-fn overridden<'a>(declarer: &mut Declarer<'_, 'a>, value: &MethodValue<'a>) -> Result<Option<TypeId>, NoMemory> {
+fn overridden<'a>(
+    declarer: &mut Declarer<'_, 'a>,
+    value: &MethodValue<'a>,
+) -> Result<Option<TypeId>, NoMemory> {
     let TypeNode::Object(_, parent, _, _, _) = declarer.eval.definition(value.object) else {
         return Ok(None);
     };
@@ -116,7 +133,11 @@ fn judge_fit<'a>(
 }
 
 /// Whether an object type is a subtype of another type, which mostly stands among its ancestors.
-fn is_object_below<'a>(declarer: &Declarer<'_, 'a>, object: TypeId, above: TypeId) -> Result<bool, NoMemory> {
+fn is_object_below<'a>(
+    declarer: &Declarer<'_, 'a>,
+    object: TypeId,
+    above: TypeId,
+) -> Result<bool, NoMemory> {
     if above == declarer.eval.declared.basic.root {
         return declarer.eval.is_subtype(object, above);
     }
@@ -133,8 +154,8 @@ fn is_object_below<'a>(declarer: &Declarer<'_, 'a>, object: TypeId, above: TypeI
     declarer.eval.is_subtype(object, above)
 }
 
-/// Whether a procedure can be a method of an object type: its first formal is by VALUE and takes the
-/// object, and the rest is a subtype of the method's signature.
+/// Whether a procedure can be a method of an object type: its first formal is by VALUE and takes
+/// the object, and the rest is a subtype of the method's signature.
 fn method_fits<'a>(
     declarer: &mut Declarer<'_, 'a>,
     object: TypeId,

@@ -52,14 +52,19 @@ fn is_ordinal<'a>(declarer: &Declarer<'_, 'a>, kind: TypeId) -> bool {
 /// Refuses an empty ordinal type, and an open array where it is forbidden (rule 47).
 fn judge_held<'a>(declarer: &mut Declarer<'_, 'a>, unit: u32, pos: Pos, kind: TypeId, open: Open) {
     let is_open = matches!(node(declarer, kind), TypeNode::OpenArray(_));
-    let is_empty = is_ordinal(declarer, kind) && declarer.eval.declared.types.member_count(kind) == 0;
+    let is_empty = is_ordinal(declarer, kind)
+        && declarer.eval.declared.types.member_count(kind) == 0;
     if is_empty || is_open && open == Open::Forbidden {
         declarer.note(unit, pos, 47);
     }
 }
 
 /// Refuses a type that isn't ordinal where one is wanted (rule 47).
-fn judge_ordinal<'a>(declarer: &mut Declarer<'_, 'a>, unit: u32, exp: &TypeExp<'a>) -> Option<TypeId> {
+fn judge_ordinal<'a>(
+    declarer: &mut Declarer<'_, 'a>,
+    unit: u32,
+    exp: &TypeExp<'a>,
+) -> Option<TypeId> {
     let kind = declarer.kind_of(exp);
     if declarer.is_refused(kind) {
         return None;
@@ -126,7 +131,12 @@ fn judge_array<'a>(
 }
 
 /// The parts of an object type, whose places in the graph are in a row.
-fn judge_object<'a>(declarer: &mut Declarer<'_, 'a>, unit: u32, last: TypeId, parts: &'a [ObjectPart<'a>]) {
+fn judge_object<'a>(
+    declarer: &mut Declarer<'_, 'a>,
+    unit: u32,
+    last: TypeId,
+    parts: &'a [ObjectPart<'a>],
+) {
     let mut kind = last;
     for part in parts.iter().rev() {
         judge_part(declarer, unit, kind, part);
@@ -134,7 +144,12 @@ fn judge_object<'a>(declarer: &mut Declarer<'_, 'a>, unit: u32, last: TypeId, pa
     }
 }
 
-fn judge_part<'a>(declarer: &mut Declarer<'_, 'a>, unit: u32, kind: TypeId, part: &'a ObjectPart<'a>) {
+fn judge_part<'a>(
+    declarer: &mut Declarer<'_, 'a>,
+    unit: u32,
+    kind: TypeId,
+    part: &'a ObjectPart<'a>,
+) {
     judge_fields(declarer, unit, kind, part.fields);
     for method in part.methods {
         if let Some(kind) = declarer.eval.declared.type_at(unit, method.name.pos) {
@@ -143,7 +158,12 @@ fn judge_part<'a>(declarer: &mut Declarer<'_, 'a>, unit: u32, kind: TypeId, part
     }
 }
 
-fn judge_fields<'a>(declarer: &mut Declarer<'_, 'a>, unit: u32, kind: TypeId, fields: &'a [m3_syntax::Field<'a>]) {
+fn judge_fields<'a>(
+    declarer: &mut Declarer<'_, 'a>,
+    unit: u32,
+    kind: TypeId,
+    fields: &'a [m3_syntax::Field<'a>],
+) {
     let row = match node(declarer, kind) {
         TypeNode::Fields(row) | TypeNode::Object(_, _, row, _, _) => row,
         _ => return,
@@ -151,20 +171,37 @@ fn judge_fields<'a>(declarer: &mut Declarer<'_, 'a>, unit: u32, kind: TypeId, fi
     let mut place = 0usize;
     for field in fields {
         if let Some(first) = row.get(place) {
-            judge_held(declarer, unit, place_of(&field.init), first.kind, Open::Forbidden);
+            judge_held(
+                declarer,
+                unit,
+                place_of(&field.init),
+                first.kind,
+                Open::Forbidden,
+            );
         }
         place = place.saturating_add(field.names.len());
     }
 }
 
-fn judge_signature<'a>(declarer: &mut Declarer<'_, 'a>, unit: u32, kind: TypeId, signature: &'a Signature<'a>) {
+fn judge_signature<'a>(
+    declarer: &mut Declarer<'_, 'a>,
+    unit: u32,
+    kind: TypeId,
+    signature: &'a Signature<'a>,
+) {
     let TypeNode::Procedure(row, result, _) = node(declarer, kind) else {
         return;
     };
     let mut place = 0usize;
     for formal in signature.formals {
         if let Some(first) = row.get(place) {
-            judge_held(declarer, unit, place_of(&formal.init), first.kind, Open::Allowed);
+            judge_held(
+                declarer,
+                unit,
+                place_of(&formal.init),
+                first.kind,
+                Open::Allowed,
+            );
         }
         place = place.saturating_add(formal.names.len());
     }

@@ -3,9 +3,9 @@ use m3_declarer::Declarer;
 use m3_scopes::{EntityId, EntityKind};
 use m3_types::{TypeId, TypeNode};
 
-/// Tarjan's search for strongly connected components (1972), over an explicit stack: for each type its
-/// number in the order of the search from 1 on, the least number that it leads to, and whether it is on a
-/// cycle.
+/// Tarjan's search for strongly connected components (1972), over an explicit stack: for each
+/// type its number in the order of the search from 1 on, the least number that it leads to, and
+/// whether it is on a cycle.
 #[derive(Drop)]
 struct Search {
     numbers: Vec<u32>,
@@ -103,7 +103,11 @@ pub fn judge_recursion<'a>(declarer: &mut Declarer<'_, 'a>) -> Result<(), NoMemo
     refuse_cyclic(declarer, &search)
 }
 
-fn search_from<'a>(declarer: &Declarer<'_, 'a>, search: &mut Search, first: u32) -> Result<(), NoMemory> {
+fn search_from<'a>(
+    declarer: &Declarer<'_, 'a>,
+    search: &mut Search,
+    first: u32,
+) -> Result<(), NoMemory> {
     let mut work = Vec::new(declarer.eval.alloc);
     search.enter(first)?;
     work.push((first, 0usize))?;

@@ -6,11 +6,11 @@ use crate::wideness::{new_words, words_of};
 use m3_base::{NoMemory, Pos, place_number};
 use m3_declared::{Constant, Doubtful};
 use m3_declarer::{Declarer, Promise, argument_of};
-use m3_worth::{Known, Worth};
 use m3_scopes::{EntityId, EntityKind};
 use m3_subtype::Assign;
 use m3_syntax::{Decl, Expr, Init, VarDecl};
 use m3_types::TypeId;
+use m3_worth::{Known, Worth};
 
 /// Judges what takes all types and constants.
 pub fn judge_all<'a>(declarer: &mut Declarer<'_, 'a>) -> Result<(), NoMemory> {
@@ -36,7 +36,10 @@ fn judge_promises<'a>(declarer: &mut Declarer<'_, 'a>) -> Result<(), NoMemory> {
     Ok(())
 }
 
-fn judge_promise<'a>(declarer: &mut Declarer<'_, 'a>, promise: &Promise<'a>) -> Result<(), NoMemory> {
+fn judge_promise<'a>(
+    declarer: &mut Declarer<'_, 'a>,
+    promise: &Promise<'a>,
+) -> Result<(), NoMemory> {
     let assumed = promise.assumed;
     if declarer.is_refused(assumed.from) || declarer.is_refused(assumed.to) {
         return Ok(());
@@ -66,9 +69,10 @@ fn judge_arguments<'a>(declarer: &mut Declarer<'_, 'a>) -> Result<(), NoMemory> 
     for (place, entity) in declarer.eval.program.binds.entities().iter().enumerate() {
         let id = EntityId(place_number(place)?);
         if entity.kind == EntityKind::Exception {
-            if let (Some(kind), Some(exp)) =
-                (declarer.eval.declared.kind_of(id), argument_of(entity))
-            {
+            if let (Some(kind), Some(exp)) = (
+                declarer.eval.declared.kind_of(id),
+                argument_of(entity),
+            ) {
                 if !declarer.is_refused(kind) && words_of(declarer, &mut words, kind)? > 1 {
                     declarer.note(entity.unit, exp.pos(), 49);
                 }
@@ -109,7 +113,11 @@ fn judge_bodies<'a>(declarer: &mut Declarer<'_, 'a>) -> Result<(), NoMemory> {
     Ok(())
 }
 
-fn judge_body<'a>(declarer: &mut Declarer<'_, 'a>, head: EntityId, body: EntityId) -> Result<(), NoMemory> {
+fn judge_body<'a>(
+    declarer: &mut Declarer<'_, 'a>,
+    head: EntityId,
+    body: EntityId,
+) -> Result<(), NoMemory> {
     let (Some(wanted), Some(kind), Some(entity)) = (
         declarer.eval.declared.kind_of(head),
         declarer.eval.declared.kind_of(body),
@@ -149,7 +157,10 @@ fn judge_interface_variables<'a>(declarer: &mut Declarer<'_, 'a>) -> Result<(), 
     Ok(())
 }
 
-fn judge_rows<'a>(declarer: &mut Declarer<'_, 'a>, variables: &'a [VarDecl<'a>]) -> Result<(), NoMemory> {
+fn judge_rows<'a>(
+    declarer: &mut Declarer<'_, 'a>,
+    variables: &'a [VarDecl<'a>],
+) -> Result<(), NoMemory> {
     for row in variables {
         let value = match row.init {
             Init::Typed(_, value) => value,
@@ -164,7 +175,11 @@ fn judge_rows<'a>(declarer: &mut Declarer<'_, 'a>, variables: &'a [VarDecl<'a>])
     Ok(())
 }
 
-fn judge_initial<'a>(declarer: &mut Declarer<'_, 'a>, name: Pos, value: &'a Expr<'a>) -> Result<(), NoMemory> {
+fn judge_initial<'a>(
+    declarer: &mut Declarer<'_, 'a>,
+    name: Pos,
+    value: &'a Expr<'a>,
+) -> Result<(), NoMemory> {
     let unit = declarer.eval.unit;
     let Some(id) = declarer.eval.program.binds.at(unit, name) else {
         return Ok(());
@@ -172,7 +187,12 @@ fn judge_initial<'a>(declarer: &mut Declarer<'_, 'a>, name: Pos, value: &'a Expr
     let Some(to) = declarer.eval.declared.kind_of(id) else {
         return Ok(());
     };
-    if declarer.eval.declared.constant_at(unit, value.pos()).is_some() {
+    if declarer
+        .eval
+        .declared
+        .constant_at(unit, value.pos())
+        .is_some()
+    {
         return Ok(());
     }
     declarer.reasons.clear();
@@ -203,7 +223,8 @@ fn keep_initial<'a>(
     match declarer.eval.converted(pos, worth, kind)?.value {
         Known::Value(converted) => {
             let value = declarer.eval.store(converted)?;
-            declarer.eval
+            declarer
+                .eval
                 .declared
                 .place_constant(unit, pos, Constant { kind, value })
         }
@@ -225,7 +246,8 @@ fn tell_labels<'a>(declarer: &mut Declarer<'_, 'a>) -> Result<(), NoMemory> {
                     let value = declarer.eval.store(value)?;
                     let pos = label.value.pos();
                     let constant = Constant { kind, value };
-                    declarer.eval
+                    declarer
+                        .eval
                         .declared
                         .place_constant(label.unit, pos, constant)?;
                 }

@@ -22,7 +22,11 @@ pub fn new_words<'a>(declarer: &Declarer<'_, 'a>) -> Words {
 
 /// The words of the values of a type, or 2 where they are more. A type that contains itself is
 /// refused anyway; where it does, it counts 1.
-pub fn words_of<'a>(declarer: &Declarer<'_, 'a>, words: &mut Words, kind: TypeId) -> Result<u64, NoMemory> {
+pub fn words_of<'a>(
+    declarer: &Declarer<'_, 'a>,
+    words: &mut Words,
+    kind: TypeId,
+) -> Result<u64, NoMemory> {
     let mut stack = Vec::new(declarer.eval.alloc);
     stack.push((kind, false))?;
     for _ in 0..u64::MAX {
@@ -41,7 +45,11 @@ pub fn words_of<'a>(declarer: &Declarer<'_, 'a>, words: &mut Words, kind: TypeId
     Ok(words.told.get(&kind).copied().unwrap_or(1))
 }
 
-fn push_held<'a>(declarer: &Declarer<'_, 'a>, stack: &mut Vec<(TypeId, bool)>, kind: TypeId) -> Result<(), NoMemory> {
+fn push_held<'a>(
+    declarer: &Declarer<'_, 'a>,
+    stack: &mut Vec<(TypeId, bool)>,
+    kind: TypeId,
+) -> Result<(), NoMemory> {
     match declarer.eval.definition(kind) {
         TypeNode::Fields(fields) => {
             for field in fields {

@@ -13,9 +13,15 @@ pub fn try_large(rt: &(impl Print + AllocGlobal)) -> io::Result<Tally> {
         ("a chain of 30,000 object types", objects(alloc)?),
         ("an enumeration of 100,000 members", enumeration(alloc)?),
         ("a constant array of 100,000,000 elements", array(alloc)?),
-        ("two families of 20,000 types that name each other", families(alloc)?),
+        (
+            "two families of 20,000 types that name each other",
+            families(alloc)?,
+        ),
         ("a row of 100,000 operators", operators(alloc)?),
-        ("constant records in constant records, 30,000 deep", values(alloc)?),
+        (
+            "constant records in constant records, 30,000 deep",
+            values(alloc)?,
+        ),
         ("variables by variables, 60,000 deep", variables(alloc)?),
         ("defaults by defaults, 20,000 deep", defaults(alloc)?),
         ("parentheses and constructors 190 deep", nested(alloc)?),
@@ -34,8 +40,8 @@ pub fn try_large(rt: &(impl Print + AllocGlobal)) -> io::Result<Tally> {
     Ok(tally)
 }
 
-/// The answer for a module that is cut into files of at most a million bytes: an interface each, of which
-/// each imports the names of the one before.
+/// The answer for a module that is cut into files of at most a million bytes: an interface each,
+/// of which each imports the names of the one before.
 fn of_one(alloc: Global, text: &String) -> Result<String, AllocError> {
     let source = Source {
         name: b"Main.m3",
@@ -44,7 +50,8 @@ fn of_one(alloc: Global, text: &String) -> Result<String, AllocError> {
     answer_of_sources(alloc, &[source], "ok")
 }
 
-/// 50,000 constants of an interface, of which each is defined by the next, and as many of a module.
+/// 50,000 constants of an interface, of which each is defined by the next, and as many of a
+/// module.
 fn constants(alloc: Global) -> Result<String, AllocError> {
     let mut first = String::from_str(alloc, "INTERFACE I; CONST\n")?;
     let mut second = String::from_str(alloc, "MODULE Main; IMPORT I; CONST d0=I.c0+1;\n")?;
@@ -131,8 +138,8 @@ fn array(alloc: Global) -> Result<String, AllocError> {
     of_one(alloc, &text)
 }
 
-/// Two families of types of equal structure, of which each names the next of its family, and procedures
-/// that are compared by them.
+/// Two families of types of equal structure, of which each names the next of its family, and
+/// procedures that are compared by them.
 fn families(alloc: Global) -> Result<String, AllocError> {
     let mut text = String::from_str(alloc, "MODULE Main; TYPE\n")?;
     for number in 0..20_000u32 {
@@ -163,8 +170,10 @@ fn values(alloc: Global) -> Result<String, AllocError> {
     )?;
     for number in 0..8_000u32 {
         let next = number.saturating_add(1);
-        let row = format!(in alloc; "TYPE T{next}=RECORD x,y:T{number} END;\
-            CONST a{next}=T{next}{{a{number},a{number}}};b{next}=T{next}{{b{number},b{number}}};\n")?;
+        let row = format!(in alloc;
+            "TYPE T{next}=RECORD x,y:T{number} END;\
+            CONST a{next}=T{next}{{a{number},a{number}}};b{next}=T{next}{{b{number},b{number}}};\n"
+        )?;
         text.push_str(row.as_str())?;
     }
     text.push_str(

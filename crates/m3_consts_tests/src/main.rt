@@ -1,8 +1,8 @@
-//! Tries the types and constants of programs on files of cases, which the arguments name. A case is a
-//! title behind `== `, its files behind `--- NAME`, and behind `>>> ` what they give: `ok`, the least
-//! refusal as `FILE:LINE:COLUMN: rule N`, or `later` with that of a rule of expressions or statements
-//! that was met in declarations. Cases that come out otherwise are shown. The word `build`, a name and
-//! files behind it in place of that print the refusal of these files alone.
+//! Tries the types and constants of programs on files of cases, which the arguments name. A case
+//! is a title behind `== `, its files behind `--- NAME`, and behind `>>> ` what they give: `ok`,
+//! the least refusal as `FILE:LINE:COLUMN: rule N`, or `later` with that of a rule of expressions
+//! or statements that was met in declarations. Cases that come out otherwise are shown. The word
+//! `build`, a name and files behind it in place of that print the refusal of these files alone.
 #![tactic(auto)]
 
 mod cases;

@@ -25,10 +25,7 @@ pub fn read_files(rt: &(impl Files + AllocGlobal), names: &[String]) -> io::Resu
 }
 
 /// Prints the refusal of some files as the command does; the status is 1 where there is one.
-pub fn build(
-    rt: &(impl Eprint + Files + AllocGlobal),
-    names: &[String],
-) -> io::Result<ExitCode> {
+pub fn build(rt: &(impl Eprint + Files + AllocGlobal), names: &[String]) -> io::Result<ExitCode> {
     let texts = read_files(rt, names)?;
     let mut sources = Vec::new(rt.alloc());
     for (name, text) in names.iter().zip(&texts) {

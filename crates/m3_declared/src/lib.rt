@@ -1,4 +1,5 @@
-//! What the declarations of a program declare: types, constants, and where each stands in the text.
+//! What the declarations of a program declare: types, constants, and where each stands in the
+//! text.
 #![tactic(auto)]
 
 mod declared;

@@ -2,12 +2,12 @@ use indexmap::IndexMap;
 use m3_base::{Least, NoMemory, Pos, Refusal};
 use m3_core::{Value, ValueId};
 use m3_declared::Doubtful;
-use m3_worth::{Assumed, Evaluator, Known, Need, Reason, Worth};
 use m3_evaluate::expression;
 use m3_gather::Gathered;
 use m3_scopes::EntityId;
 use m3_syntax::{Expr, Signature, TypeExp};
 use m3_types::{ConstId, TypeId, TypeNode};
+use m3_worth::{Assumed, Evaluator, Known, Need, Reason, Worth};
 use std::alloc::Global;
 
 const PHASE: u8 = 5;
@@ -38,8 +38,8 @@ pub struct BrandAt<'a> {
     pub pos: Pos,
 }
 
-/// A procedure that is bound to a method, or overrides one: its type, and the method's name with its
-/// place.
+/// A procedure that is bound to a method, or overrides one: its type, and the method's name with
+/// its place.
 #[derive(Clone, Copy)]
 pub struct MethodValue<'a> {
     pub unit: u32,
@@ -87,11 +87,7 @@ pub struct Declarer<'p, 'a> {
 }
 
 impl<'p, 'a> Declarer<'p, 'a> {
-    pub fn new(
-        alloc: Global,
-        eval: Evaluator<'p, 'a>,
-        gathered: Gathered<'a>,
-    ) -> Declarer<'p, 'a> {
+    pub fn new(alloc: Global, eval: Evaluator<'p, 'a>, gathered: Gathered<'a>) -> Declarer<'p, 'a> {
         Declarer {
             eval,
             gathered,

@@ -114,9 +114,10 @@ impl<'a> Declarer<'_, 'a> {
     }
 
     fn define_opaque(&mut self, id: EntityId, entity: &Entity<'a>) {
-        let (Some(kind), Some(declared)) =
-            (self.eval.declared.type_named(id), self.type_declaration(id))
-        else {
+        let (Some(kind), Some(declared)) = (
+            self.eval.declared.type_named(id),
+            self.type_declaration(id),
+        ) else {
             return;
         };
         let bound = self.kind_of(declared.kind);

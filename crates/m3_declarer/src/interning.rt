@@ -6,7 +6,8 @@ use m3_core::{Value, ValueId};
 use m3_types::{ConstId, ConstValue, TypeNode};
 
 impl<'a> Declarer<'_, 'a> {
-    /// A constant of the program as one that types contain: after its parts, over an explicit stack.
+    /// A constant of the program as one that types contain: after its parts, over an explicit
+    /// stack.
     pub fn intern(&mut self, value: ValueId) -> Result<ConstId, NoMemory> {
         let mut stack = Vec::new(self.eval.alloc);
         stack.push((value, false))?;
@@ -63,8 +64,8 @@ impl<'a> Declarer<'_, 'a> {
         Ok(())
     }
 
-    /// The members of a set by their places; sets have at most 256 members, so their numbers modulo 256
-    /// tell them apart.
+    /// The members of a set by their places; sets have at most 256 members, so their numbers
+    /// modulo 256 tell them apart.
     fn places_of(&self, members: &[i64]) -> Result<&'a [u8], NoMemory> {
         let mut row: Vec<u8, &'a Bump> = Vec::new(self.eval.arena);
         for member in members {

@@ -56,8 +56,8 @@ impl<'a> Declarer<'_, 'a> {
         Ok(())
     }
 
-    /// Numbers the procedures with bodies and the bodies of modules, a module's behind the procedures of
-    /// its unit, and each head with its body's number.
+    /// Numbers the procedures with bodies and the bodies of modules, a module's behind the
+    /// procedures of its unit, and each head with its body's number.
     pub fn number_procedures(&mut self) -> Result<(), NoMemory> {
         let found = self.in_order(false)?;
         let mut next = 0usize;

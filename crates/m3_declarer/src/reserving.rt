@@ -1,14 +1,14 @@
 use crate::declarer::{Declarer, Plan, Written};
 use m3_base::{NoMemory, Pos, place_number};
-use m3_worth::Need;
 use m3_gather::TypeAt;
 use m3_scopes::{EntityId, EntityKind};
 use m3_syntax::{Decl, ObjectPart, TypeExp};
 use m3_types::TypeId;
+use m3_worth::Need;
 
 impl<'a> Declarer<'_, 'a> {
-    /// Gives each type expression, method and procedure a place in the graph, and numbers to texts,
-    /// procedures and exceptions.
+    /// Gives each type expression, method and procedure a place in the graph, and numbers to
+    /// texts, procedures and exceptions.
     pub fn reserve_all(&mut self) -> Result<(), NoMemory> {
         let refused = Need::Node(self.eval.declared.basic.refused);
         self.eval.settled.insert(refused)?;
@@ -101,9 +101,10 @@ impl<'a> Declarer<'_, 'a> {
         for (place, entity) in self.eval.program.binds.entities().iter().enumerate() {
             let id = EntityId(place_number(place)?);
             let (unit, pos) = (entity.unit, entity.pos);
-            if let (EntityKind::Procedure, Some(Decl::Procedure { signature, .. })) =
-                (entity.kind, entity.declaration)
-            {
+            if let (EntityKind::Procedure, Some(Decl::Procedure { signature, .. })) = (
+                entity.kind,
+                entity.declaration,
+            ) {
                 let kind = self.plan_nilable(unit, pos, Written::Signature(signature))?;
                 self.eval.declared.give_kind(id, kind)?;
             }

@@ -48,7 +48,10 @@ pub fn call<'a>(
 
 /// What an actual is worth as a value.
 #[cycle(expressions)]
-fn actual_worth<'a>(eval: &mut Evaluator<'_, 'a>, actual: &Actual<'a>) -> Result<Option<Worth<'a>>, NoMemory> {
+fn actual_worth<'a>(
+    eval: &mut Evaluator<'_, 'a>,
+    actual: &Actual<'a>,
+) -> Result<Option<Worth<'a>>, NoMemory> {
     let at = actual_pos(actual);
     let thing = argument(eval, actual)?;
     Ok(eval.value_of(at, thing))
@@ -140,7 +143,11 @@ fn predeclared_call<'a>(
 /// NEW: a value of the type that it names, which is no constant. The bindings are judged with the
 /// expressions of bodies.
 #[cycle(expressions)]
-fn new_call<'a>(eval: &mut Evaluator<'_, 'a>, selector: &Selector<'a>, pos: Pos) -> Result<Thing<'a>, NoMemory> {
+fn new_call<'a>(
+    eval: &mut Evaluator<'_, 'a>,
+    selector: &Selector<'a>,
+    pos: Pos,
+) -> Result<Thing<'a>, NoMemory> {
     let Selector::Call(_, actuals) = selector else {
         return Ok(Thing::Bad);
     };

@@ -11,14 +11,20 @@ use m3_worth::{Evaluator, Known, Thing, Worth};
 
 /// What an expression is worth as a value.
 #[cycle(expressions)]
-pub fn expression<'a>(eval: &mut Evaluator<'_, 'a>, value: &Expr<'a>) -> Result<Option<Worth<'a>>, NoMemory> {
+pub fn expression<'a>(
+    eval: &mut Evaluator<'_, 'a>,
+    value: &Expr<'a>,
+) -> Result<Option<Worth<'a>>, NoMemory> {
     let thing = operand_thing(eval, value)?;
     Ok(eval.value_of(value.pos(), thing))
 }
 
 /// What an expression is.
 #[cycle(expressions)]
-pub fn operand_thing<'a>(eval: &mut Evaluator<'_, 'a>, value: &Expr<'a>) -> Result<Thing<'a>, NoMemory> {
+pub fn operand_thing<'a>(
+    eval: &mut Evaluator<'_, 'a>,
+    value: &Expr<'a>,
+) -> Result<Thing<'a>, NoMemory> {
     let basic = eval.declared.basic;
     match value {
         Expr::Name(name) => eval.name(*name),
@@ -40,7 +46,10 @@ pub fn operand_thing<'a>(eval: &mut Evaluator<'_, 'a>, value: &Expr<'a>) -> Resu
 
 /// Operands with operators of one level, which group to the left.
 #[cycle(expressions)]
-pub fn operations<'a>(eval: &mut Evaluator<'_, 'a>, value: &Expr<'a>) -> Result<Thing<'a>, NoMemory> {
+pub fn operations<'a>(
+    eval: &mut Evaluator<'_, 'a>,
+    value: &Expr<'a>,
+) -> Result<Thing<'a>, NoMemory> {
     let Expr::Operations { pos, first, rest } = value else {
         return Ok(Thing::Bad);
     };
@@ -164,7 +173,10 @@ fn select<'a>(
 
 /// `T {..}`: a set, record or array.
 #[cycle(expressions)]
-pub fn constructor<'a>(eval: &mut Evaluator<'_, 'a>, value: &Expr<'a>) -> Result<Thing<'a>, NoMemory> {
+pub fn constructor<'a>(
+    eval: &mut Evaluator<'_, 'a>,
+    value: &Expr<'a>,
+) -> Result<Thing<'a>, NoMemory> {
     let Expr::Constructor {
         kind,
         elements,
@@ -194,7 +206,10 @@ pub fn constructor<'a>(eval: &mut Evaluator<'_, 'a>, value: &Expr<'a>) -> Result
 
 /// What an element of a constructor is worth.
 #[cycle(expressions)]
-fn part_worth<'a>(eval: &mut Evaluator<'_, 'a>, element: &Element<'a>) -> Result<Part<'a>, NoMemory> {
+fn part_worth<'a>(
+    eval: &mut Evaluator<'_, 'a>,
+    element: &Element<'a>,
+) -> Result<Part<'a>, NoMemory> {
     match element {
         Element::Value(value) => {
             let worth = expression(eval, value)?;

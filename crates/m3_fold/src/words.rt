@@ -49,8 +49,8 @@ pub fn routine_named(name: &[u8]) -> Option<WordRoutine> {
     None
 }
 
-/// What a routine gives of its arguments, of which Not takes the first alone: an integer by its number,
-/// FALSE and TRUE as 0 and 1. None where it divides by 0.
+/// What a routine gives of its arguments, of which Not takes the first alone: an integer by its
+/// number, FALSE and TRUE as 0 and 1. None where it divides by 0.
 pub fn word_routine(routine: WordRoutine, x: i64, y: i64) -> Option<i64> {
     let a = x.cast_unsigned();
     let b = y.cast_unsigned();

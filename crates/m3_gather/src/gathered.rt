@@ -39,7 +39,8 @@ pub enum Bound<'a> {
     Type(&'a TypeExp<'a>),
 }
 
-/// What a program's text has. Each list is in the order of the text, outer before inner, unit by unit.
+/// What a program's text has. Each list is in the order of the text, outer before inner, unit by
+/// unit.
 #[derive(Drop)]
 pub struct Gathered<'a> {
     pub texts: Vec<TextAt<'a>>,

@@ -48,10 +48,7 @@ fn gather_declarations<'a>(
 }
 
 #[cycle(statements)]
-fn gather_block<'a>(
-    gatherer: &mut Gatherer<'_, 'a>,
-    block: &'a Block<'a>,
-) -> Result<(), NoMemory> {
+fn gather_block<'a>(gatherer: &mut Gatherer<'_, 'a>, block: &'a Block<'a>) -> Result<(), NoMemory> {
     gather_declarations(gatherer, block.declarations)?;
     gather_statements(gatherer, block.body)
 }
@@ -202,10 +199,7 @@ fn gather_for<'a>(
 }
 
 #[cycle(statements)]
-fn gather_if<'a>(
-    gatherer: &mut Gatherer<'_, 'a>,
-    statement: &'a Stmt<'a>,
-) -> Result<(), NoMemory> {
+fn gather_if<'a>(gatherer: &mut Gatherer<'_, 'a>, statement: &'a Stmt<'a>) -> Result<(), NoMemory> {
     match statement {
         Stmt::If {
             arms,

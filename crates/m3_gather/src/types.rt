@@ -46,10 +46,7 @@ fn gather_fields<'a>(
 }
 
 #[cycle(phrases)]
-fn gather_brand<'a>(
-    gatherer: &mut Gatherer<'_, 'a>,
-    brand: &'a Brand<'a>,
-) -> Result<(), NoMemory> {
+fn gather_brand<'a>(gatherer: &mut Gatherer<'_, 'a>, brand: &'a Brand<'a>) -> Result<(), NoMemory> {
     match brand.text {
         Some(text) => gather_expression(gatherer, text),
         None => Ok(()),

@@ -65,10 +65,9 @@ pub fn operate<'a>(
     match operator {
         Operator::Or | Operator::And => logic(eval, operator, operands),
         Operator::Equal | Operator::NotEqual => equality(eval, operator, operands),
-        Operator::Less
-        | Operator::LessEqual
-        | Operator::Greater
-        | Operator::GreaterEqual => order(eval, operator, operands),
+        Operator::Less | Operator::LessEqual | Operator::Greater | Operator::GreaterEqual => order(
+            eval, operator, operands,
+        ),
         Operator::In => membership(eval, operands),
         Operator::Concatenate => concatenation(eval, operands),
         _ => computation(eval, operator, operands),
@@ -140,7 +139,10 @@ fn order<'a>(
     Ok(result_of(eval, eval.declared.basic.boolean, value))
 }
 
-fn membership<'a>(eval: &mut Evaluator<'_, 'a>, operands: &Operands<'a>) -> Result<Option<Worth<'a>>, NoMemory> {
+fn membership<'a>(
+    eval: &mut Evaluator<'_, 'a>,
+    operands: &Operands<'a>,
+) -> Result<Option<Worth<'a>>, NoMemory> {
     let TypeNode::SetOf(base) = eval.plain(operands.right.kind)? else {
         return Ok(None);
     };
@@ -160,7 +162,10 @@ fn is_text<'a>(eval: &Evaluator<'_, 'a>, kind: TypeId) -> Result<bool, NoMemory>
     eval.is_subtype(kind, eval.declared.basic.text)
 }
 
-fn concatenation<'a>(eval: &mut Evaluator<'_, 'a>, operands: &Operands<'a>) -> Result<Option<Worth<'a>>, NoMemory> {
+fn concatenation<'a>(
+    eval: &mut Evaluator<'_, 'a>,
+    operands: &Operands<'a>,
+) -> Result<Option<Worth<'a>>, NoMemory> {
     if !is_text(eval, operands.left.kind)? || !is_text(eval, operands.right.kind)? {
         return Ok(None);
     }
@@ -213,7 +218,11 @@ fn computation<'a>(
     Ok(result_of(eval, left, value))
 }
 
-fn integers<'a>(eval: &Evaluator<'_, 'a>, operator: Operator, operands: &Operands<'a>) -> Option<Worth<'a>> {
+fn integers<'a>(
+    eval: &Evaluator<'_, 'a>,
+    operator: Operator,
+    operands: &Operands<'a>,
+) -> Option<Worth<'a>> {
     if operator == Operator::Slash {
         return None;
     }

@@ -154,11 +154,7 @@ fn add_to_array<'a>(
 }
 
 /// Whether a row of an array has the shape of the first row, in each dimension.
-fn has_shape_of_first<'a>(
-    eval: &Evaluator<'_, 'a>,
-    parts: &Parts<'a>,
-    value: Value<'a>,
-) -> bool {
+fn has_shape_of_first<'a>(eval: &Evaluator<'_, 'a>, parts: &Parts<'a>, value: Value<'a>) -> bool {
     let mut row = Some(value);
     let mut other = first_of(eval, parts.values.as_slice());
     for _ in 0..eval.declared.values.len() {
@@ -257,7 +253,10 @@ pub fn whole<'a>(
             let has_all = written == count || is_filled && written < count;
             parts.is_wrong = parts.is_wrong || !has_all;
             let values = std::mem::replace(&mut parts.values, Vec::new(eval.arena));
-            Value::Array(into_bump_slice(values), u64::try_from(count).unwrap_or(u64::MAX))
+            Value::Array(
+                into_bump_slice(values),
+                u64::try_from(count).unwrap_or(u64::MAX),
+            )
         }
         TypeNode::OpenArray(_) => {
             parts.is_wrong = parts.is_wrong || is_filled;

@@ -25,7 +25,11 @@ fn behind<'a>(eval: &Evaluator<'_, 'a>, pos: Pos, worth: &Worth<'a>, kind: TypeI
     }
 }
 
-pub fn dereference<'a>(eval: &mut Evaluator<'_, 'a>, pos: Pos, thing: Thing<'a>) -> Result<Thing<'a>, NoMemory> {
+pub fn dereference<'a>(
+    eval: &mut Evaluator<'_, 'a>,
+    pos: Pos,
+    thing: Thing<'a>,
+) -> Result<Thing<'a>, NoMemory> {
     let Some(worth) = eval.value_of(pos, thing) else {
         return Ok(Thing::Bad);
     };
@@ -36,7 +40,12 @@ pub fn dereference<'a>(eval: &mut Evaluator<'_, 'a>, pos: Pos, thing: Thing<'a>)
     }
 }
 
-pub fn dot<'a>(eval: &mut Evaluator<'_, 'a>, pos: Pos, thing: Thing<'a>, name: Name<'a>) -> Result<Thing<'a>, NoMemory> {
+pub fn dot<'a>(
+    eval: &mut Evaluator<'_, 'a>,
+    pos: Pos,
+    thing: Thing<'a>,
+    name: Name<'a>,
+) -> Result<Thing<'a>, NoMemory> {
     match thing {
         Thing::Interface(_) => match eval.program.binds.at(eval.unit, name.pos) {
             Some(id) => eval.entity(id, pos),
@@ -51,7 +60,11 @@ pub fn dot<'a>(eval: &mut Evaluator<'_, 'a>, pos: Pos, thing: Thing<'a>, name: N
 }
 
 /// `T.x`: a member of an enumeration, or a method of an object type as a procedure.
-fn type_member<'a>(eval: &mut Evaluator<'_, 'a>, kind: TypeId, name: Name<'a>) -> Result<Thing<'a>, NoMemory> {
+fn type_member<'a>(
+    eval: &mut Evaluator<'_, 'a>,
+    kind: TypeId,
+    name: Name<'a>,
+) -> Result<Thing<'a>, NoMemory> {
     if let TypeNode::Enumeration(_) = eval.definition(kind) {
         return match eval.own_member(kind, name.text)? {
             Some(Member::Value(place)) => Ok(eval.number(kind, i64::from(place))),
@@ -129,7 +142,11 @@ fn value_member<'a>(
 }
 
 /// A field of a record.
-fn field<'a>(eval: &mut Evaluator<'_, 'a>, record: &Worth<'a>, name: Name<'a>) -> Result<Thing<'a>, NoMemory> {
+fn field<'a>(
+    eval: &mut Evaluator<'_, 'a>,
+    record: &Worth<'a>,
+    name: Name<'a>,
+) -> Result<Thing<'a>, NoMemory> {
     let Some(Member::Field(field)) = eval.own_member(record.kind, name.text)? else {
         return Ok(Thing::Bad);
     };
@@ -158,7 +175,11 @@ fn field<'a>(eval: &mut Evaluator<'_, 'a>, record: &Worth<'a>, name: Name<'a>) -
 }
 
 /// The array that a value is or a reference to one leads to.
-fn array_of<'a>(eval: &mut Evaluator<'_, 'a>, pos: Pos, worth: &Worth<'a>) -> Result<Option<Worth<'a>>, NoMemory> {
+fn array_of<'a>(
+    eval: &mut Evaluator<'_, 'a>,
+    pos: Pos,
+    worth: &Worth<'a>,
+) -> Result<Option<Worth<'a>>, NoMemory> {
     if eval.is_array(worth.kind)? {
         return Ok(Some(*worth));
     }
@@ -232,7 +253,8 @@ fn part_of<'a>(eval: &Evaluator<'_, 'a>, parts: &[ValueId], place: u64) -> Optio
     eval.stored(*part)
 }
 
-/// The place of an index in an array whose first index is given, if the array has so many elements.
+/// The place of an index in an array whose first index is given, if the array has so many
+/// elements.
 fn place_of(index: i64, first: i64, count: u64) -> Option<u64> {
     if index < first {
         return None;

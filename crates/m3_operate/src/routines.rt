@@ -82,7 +82,11 @@ pub fn routine_result<'a>(
     }
 }
 
-fn abs<'a>(eval: &mut Evaluator<'_, 'a>, pos: Pos, given: &Given<'a>) -> Result<Thing<'a>, NoMemory> {
+fn abs<'a>(
+    eval: &mut Evaluator<'_, 'a>,
+    pos: Pos,
+    given: &Given<'a>,
+) -> Result<Thing<'a>, NoMemory> {
     let Some(worth) = eval.value_of(given.first_pos, given.first) else {
         return Ok(Thing::Bad);
     };
@@ -127,7 +131,12 @@ fn limit<'a>(
 }
 
 /// A limit that the type of an array fixes: it is constant of a variable and of a constant.
-fn limit_of_array<'a>(eval: &Evaluator<'_, 'a>, pos: Pos, array: &Worth<'a>, limit: Thing<'a>) -> Thing<'a> {
+fn limit_of_array<'a>(
+    eval: &Evaluator<'_, 'a>,
+    pos: Pos,
+    array: &Worth<'a>,
+    limit: Thing<'a>,
+) -> Thing<'a> {
     let is_known = array.is_fixed || matches!(array.value, Known::Value(_));
     match limit {
         Thing::Value(worth) if !is_known => eval.varies(worth.kind, pos, 40),
@@ -135,7 +144,12 @@ fn limit_of_array<'a>(eval: &Evaluator<'_, 'a>, pos: Pos, array: &Worth<'a>, lim
     }
 }
 
-fn open_limit<'a>(eval: &Evaluator<'_, 'a>, pos: Pos, routine: Predeclared, array: &Worth<'a>) -> Thing<'a> {
+fn open_limit<'a>(
+    eval: &Evaluator<'_, 'a>,
+    pos: Pos,
+    routine: Predeclared,
+    array: &Worth<'a>,
+) -> Thing<'a> {
     let kind = match routine {
         Predeclared::Number => eval.declared.basic.cardinal,
         _ => eval.declared.basic.integer,
@@ -154,7 +168,11 @@ fn open_limit<'a>(eval: &Evaluator<'_, 'a>, pos: Pos, routine: Predeclared, arra
 }
 
 /// FIRST, LAST and NUMBER of an ordinal type.
-pub fn type_limit<'a>(eval: &mut Evaluator<'_, 'a>, routine: Predeclared, kind: TypeId) -> Result<Thing<'a>, NoMemory> {
+pub fn type_limit<'a>(
+    eval: &mut Evaluator<'_, 'a>,
+    routine: Predeclared,
+    kind: TypeId,
+) -> Result<Thing<'a>, NoMemory> {
     if !eval.is_ordinal(kind)? {
         return Ok(Thing::Bad);
     }
@@ -231,7 +249,11 @@ fn type_argument<'a>(eval: &mut Evaluator<'_, 'a>, pos: Pos, thing: Thing<'a>) -
     }
 }
 
-fn val<'a>(eval: &mut Evaluator<'_, 'a>, pos: Pos, given: &Given<'a>) -> Result<Thing<'a>, NoMemory> {
+fn val<'a>(
+    eval: &mut Evaluator<'_, 'a>,
+    pos: Pos,
+    given: &Given<'a>,
+) -> Result<Thing<'a>, NoMemory> {
     let worth = eval.value_of(given.first_pos, given.first);
     let kind = type_argument(eval, given.second_pos, given.second);
     let (Some(worth), Some(kind)) = (worth, kind) else {
@@ -270,14 +292,22 @@ fn related<'a>(
     Ok(Some((worth, kind)))
 }
 
-fn istype<'a>(eval: &mut Evaluator<'_, 'a>, pos: Pos, given: &Given<'a>) -> Result<Thing<'a>, NoMemory> {
+fn istype<'a>(
+    eval: &mut Evaluator<'_, 'a>,
+    pos: Pos,
+    given: &Given<'a>,
+) -> Result<Thing<'a>, NoMemory> {
     match related(eval, given)? {
         Some(_) => Ok(eval.varies(eval.declared.basic.boolean, pos, 40)),
         None => Ok(Thing::Bad),
     }
 }
 
-fn narrow<'a>(eval: &mut Evaluator<'_, 'a>, pos: Pos, given: &Given<'a>) -> Result<Thing<'a>, NoMemory> {
+fn narrow<'a>(
+    eval: &mut Evaluator<'_, 'a>,
+    pos: Pos,
+    given: &Given<'a>,
+) -> Result<Thing<'a>, NoMemory> {
     match related(eval, given)? {
         Some((worth, kind)) => match worth.value {
             Known::Value(Value::Nil) => Ok(eval.known(kind, Value::Nil)),
@@ -290,7 +320,11 @@ fn narrow<'a>(eval: &mut Evaluator<'_, 'a>, pos: Pos, given: &Given<'a>) -> Resu
     }
 }
 
-fn subarray<'a>(eval: &mut Evaluator<'_, 'a>, pos: Pos, given: &Given<'a>) -> Result<Thing<'a>, NoMemory> {
+fn subarray<'a>(
+    eval: &mut Evaluator<'_, 'a>,
+    pos: Pos,
+    given: &Given<'a>,
+) -> Result<Thing<'a>, NoMemory> {
     let array = eval.value_of(given.first_pos, given.first);
     let start = eval.value_of(given.second_pos, given.second);
     let count = eval.value_of(given.third_pos, given.third);

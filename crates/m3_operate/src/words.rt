@@ -16,7 +16,11 @@ pub struct Arguments<'a> {
 }
 
 /// What the call of a procedure, a method or a routine gives.
-pub fn result_of_call<'a>(eval: &mut Evaluator<'_, 'a>, pos: Pos, thing: Thing<'a>) -> Result<Thing<'a>, NoMemory> {
+pub fn result_of_call<'a>(
+    eval: &mut Evaluator<'_, 'a>,
+    pos: Pos,
+    thing: Thing<'a>,
+) -> Result<Thing<'a>, NoMemory> {
     let kind = match thing {
         Thing::Routine(id) => eval.declared.kind_of(id),
         Thing::Method(signature) => Some(signature),
@@ -111,7 +115,11 @@ pub fn method_constant<'a>(
 }
 
 /// The procedure that a method of a type is, by all full reveals; none where it is NIL.
-fn method_value<'a>(eval: &mut Evaluator<'_, 'a>, kind: TypeId, name: &'a [u8]) -> Result<Option<u32>, NoMemory> {
+fn method_value<'a>(
+    eval: &mut Evaluator<'_, 'a>,
+    kind: TypeId,
+    name: &'a [u8],
+) -> Result<Option<u32>, NoMemory> {
     let mut kind = kind;
     for _ in 0..eval.declared.types.nodes.len() {
         match bound_node(eval, kind)? {

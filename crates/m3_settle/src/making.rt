@@ -50,7 +50,8 @@ pub fn make_constant<'a>(declarer: &mut Declarer<'_, 'a>, id: EntityId) -> Resul
     };
     if let (true, Some((kind, value))) = (declarer.has_all(), found) {
         let value = declarer.eval.store(value)?;
-        declarer.eval
+        declarer
+            .eval
             .declared
             .give_constant(id, Constant { kind, value })?;
     }
@@ -77,7 +78,10 @@ pub fn make_kind<'a>(declarer: &mut Declarer<'_, 'a>, id: EntityId) -> Result<()
     Ok(())
 }
 
-fn value_kind<'a>(declarer: &mut Declarer<'_, 'a>, value: &'a Expr<'a>) -> Result<Option<TypeId>, NoMemory> {
+fn value_kind<'a>(
+    declarer: &mut Declarer<'_, 'a>,
+    value: &'a Expr<'a>,
+) -> Result<Option<TypeId>, NoMemory> {
     match declarer.worth(value, false)? {
         Some(worth) => Ok(Some(worth.kind)),
         None => Ok(None),
@@ -85,7 +89,10 @@ fn value_kind<'a>(declarer: &mut Declarer<'_, 'a>, value: &'a Expr<'a>) -> Resul
 }
 
 /// The type of a name that a statement binds.
-fn bound_kind<'a>(declarer: &mut Declarer<'_, 'a>, id: EntityId) -> Result<Option<TypeId>, NoMemory> {
+fn bound_kind<'a>(
+    declarer: &mut Declarer<'_, 'a>,
+    id: EntityId,
+) -> Result<Option<TypeId>, NoMemory> {
     match declarer.gathered.bindings.get(&id).copied() {
         Some(Bound::Value(value)) => value_kind(declarer, value),
         Some(Bound::Range(first, last)) => {
@@ -110,8 +117,18 @@ fn argument_kind<'a>(declarer: &Declarer<'_, 'a>, name: &Qualid<'a>) -> Option<T
 }
 
 /// The type of a formal of a procedure that its default gives.
-fn formal_kind<'a>(declarer: &mut Declarer<'_, 'a>, entity: &Entity<'a>) -> Result<Option<TypeId>, NoMemory> {
-    let Some(Decl::Procedure { name, signature, .. }) = entity.declaration else {
+fn formal_kind<'a>(
+    declarer: &mut Declarer<'_, 'a>,
+    entity: &Entity<'a>,
+) -> Result<Option<TypeId>, NoMemory> {
+    let Some(
+        Decl::Procedure {
+            name,
+            signature,
+            ..
+        },
+    ) = entity.declaration
+    else {
         return Ok(None);
     };
     let Some(id) = declarer.eval.program.binds.at(entity.unit, name.pos) else {
@@ -211,7 +228,10 @@ fn bound_of<'a>(
 }
 
 /// A value as a default, once the task has all that it needs.
-fn initial_of<'a>(declarer: &mut Declarer<'_, 'a>, value: Option<Value<'a>>) -> Result<Option<Initial>, NoMemory> {
+fn initial_of<'a>(
+    declarer: &mut Declarer<'_, 'a>,
+    value: Option<Value<'a>>,
+) -> Result<Option<Initial>, NoMemory> {
     let (true, Some(value)) = (declarer.has_all(), value) else {
         return Ok(None);
     };
@@ -260,7 +280,10 @@ fn field_row<'a>(
     Ok(into_bump_slice(row))
 }
 
-fn signature_node<'a>(declarer: &mut Declarer<'_, 'a>, signature: &'a Signature<'a>) -> Result<TypeNode<'a>, NoMemory> {
+fn signature_node<'a>(
+    declarer: &mut Declarer<'_, 'a>,
+    signature: &'a Signature<'a>,
+) -> Result<TypeNode<'a>, NoMemory> {
     let mut row = Vec::new(declarer.eval.arena);
     for formal in signature.formals {
         let given = given_by(declarer, &formal.init)?;
@@ -275,7 +298,10 @@ fn signature_node<'a>(declarer: &mut Declarer<'_, 'a>, signature: &'a Signature<
 }
 
 /// The exceptions of a RAISES. A name that is no exception is judged with statements (rule 78).
-fn raises_of<'a>(declarer: &mut Declarer<'_, 'a>, raises: &m3_syntax::Raises<'a>) -> Result<Raises<'a>, NoMemory> {
+fn raises_of<'a>(
+    declarer: &mut Declarer<'_, 'a>,
+    raises: &m3_syntax::Raises<'a>,
+) -> Result<Raises<'a>, NoMemory> {
     let m3_syntax::Raises::Only(names) = raises else {
         return Ok(Raises::Any);
     };
@@ -321,7 +347,11 @@ fn brand_of<'a>(
     Ok(Some(Brand::Occurrence(declarer.occurrence)))
 }
 
-fn note_brand<'a>(declarer: &mut Declarer<'_, 'a>, text: &'a [u8], pos: Pos) -> Result<(), NoMemory> {
+fn note_brand<'a>(
+    declarer: &mut Declarer<'_, 'a>,
+    text: &'a [u8],
+    pos: Pos,
+) -> Result<(), NoMemory> {
     let unit = declarer.eval.unit;
     let number = declarer.number_of(unit).unwrap_or(u32::MAX);
     declarer.new_brands.push(BrandAt {
@@ -366,7 +396,10 @@ fn part_node<'a>(
 }
 
 /// The methods of a part, without what is bound to them.
-fn method_row<'a>(declarer: &Declarer<'_, 'a>, part: &'a ObjectPart<'a>) -> Result<&'a [Method<'a>], NoMemory> {
+fn method_row<'a>(
+    declarer: &Declarer<'_, 'a>,
+    part: &'a ObjectPart<'a>,
+) -> Result<&'a [Method<'a>], NoMemory> {
     let mut row: Vec<Method<'a>, &'a Bump> = Vec::new(declarer.eval.arena);
     for method in part.methods {
         let name = method.name;
@@ -391,9 +424,10 @@ pub fn make_methods<'a>(declarer: &mut Declarer<'_, 'a>, kind: TypeId) -> Result
     ) else {
         return Ok(());
     };
-    let (Written::Part(TypeExp::Object { parts, .. }, place), TypeNode::Object(brand, parent, fields, methods, _)) =
-        (plan.written, draft)
-    else {
+    let (
+        Written::Part(TypeExp::Object { parts, .. }, place),
+        TypeNode::Object(brand, parent, fields, methods, _),
+    ) = (plan.written, draft) else {
         return Ok(());
     };
     let Some(part) = parts.get(place as usize) else {
@@ -403,7 +437,10 @@ pub fn make_methods<'a>(declarer: &mut Declarer<'_, 'a>, kind: TypeId) -> Result
     let methods = bound_methods(declarer, part, kind, methods)?;
     let overrides = override_row(declarer, part, kind)?;
     if declarer.has_all() {
-        declarer.set(kind, TypeNode::Object(brand, parent, fields, methods, overrides));
+        declarer.set(
+            kind,
+            TypeNode::Object(brand, parent, fields, methods, overrides),
+        );
     }
     Ok(())
 }
@@ -418,7 +455,13 @@ fn bound_methods<'a>(
     for (method, written) in methods.iter().zip(part.methods) {
         let value = match written.default {
             Some(default) => {
-                method_value(declarer, kind, written.name, Some(method.signature), default)?
+                method_value(
+                    declarer,
+                    kind,
+                    written.name,
+                    Some(method.signature),
+                    default,
+                )?
             }
             None => None,
         };

@@ -49,8 +49,8 @@ pub fn all_told<'a>(declarer: &mut Declarer<'_, 'a>) -> Result<Vec<Told>, NoMemo
     Ok(told)
 }
 
-/// Lists each reveal for the whole program and for each unit where it applies: its own, and if this
-/// is an interface those that import or export it.
+/// Lists each reveal for the whole program and for each unit where it applies: its own, and if
+/// this is an interface those that import or export it.
 pub fn list_reveals<'a>(declarer: &mut Declarer<'_, 'a>) -> Result<(), NoMemory> {
     let told = all_told(declarer)?;
     for found in &told {
@@ -92,7 +92,12 @@ fn seen_units<'a>(declarer: &Declarer<'_, 'a>, unit: usize) -> Result<IndexSet<u
 }
 
 /// Lists the reveals of a unit, which stand in a row, for a view.
-fn reveal_in<'a>(declarer: &mut Declarer<'_, 'a>, view: u32, unit: u32, told: &[Told]) -> Result<(), NoMemory> {
+fn reveal_in<'a>(
+    declarer: &mut Declarer<'_, 'a>,
+    view: u32,
+    unit: u32,
+    told: &[Told],
+) -> Result<(), NoMemory> {
     let first = told.partition_point(|found| found.unit < unit);
     for place in first..told.len() {
         match told.get(place) {

@@ -2,12 +2,12 @@ use crate::making::{make_constant, make_kind, make_methods, make_node};
 use crate::reveals::{list_reveals, note_reveals};
 use m3_base::{NoMemory, place_number};
 use m3_declarer::Declarer;
-use m3_worth::Need;
 use m3_scopes::{EntityId, EntityKind};
 use m3_types::TypeId;
+use m3_worth::Need;
 
-/// Does all tasks: the definitions of types, then with the reveals of opaque types the constants and
-/// the types of variables.
+/// Does all tasks: the definitions of types, then with the reveals of opaque types the constants
+/// and the types of variables.
 pub fn settle_all<'a>(declarer: &mut Declarer<'_, 'a>) -> Result<(), NoMemory> {
     note_reveals(declarer)?;
     for place in 0..declarer.plans.len() {
@@ -84,7 +84,8 @@ fn settle<'a>(declarer: &mut Declarer<'_, 'a>, need: Need) -> Result<(), NoMemor
     Ok(())
 }
 
-/// Puts what a task lacks onto the stack. Where this is a task below it, all between need themselves.
+/// Puts what a task lacks onto the stack. Where this is a task below it, all between need
+/// themselves.
 fn push_lacks<'a>(declarer: &mut Declarer<'_, 'a>, stack: &mut Vec<Need>) -> Result<(), NoMemory> {
     for place in 0..declarer.eval.lacks.len() {
         if let Some(lacking) = declarer.eval.lacks.get(place).copied() {
@@ -100,7 +101,11 @@ fn push_lacks<'a>(declarer: &mut Declarer<'_, 'a>, stack: &mut Vec<Need>) -> Res
 }
 
 /// Refuses the tasks from a place of the stack on that are begun (rule 46).
-fn refuse_cycle<'a>(declarer: &mut Declarer<'_, 'a>, stack: &[Need], below: usize) -> Result<(), NoMemory> {
+fn refuse_cycle<'a>(
+    declarer: &mut Declarer<'_, 'a>,
+    stack: &[Need],
+    below: usize,
+) -> Result<(), NoMemory> {
     for (place, need) in stack.iter().enumerate() {
         if place >= below && declarer.busy.get(need).copied() == Some(place) {
             refuse_task(declarer, *need);

@@ -5,8 +5,8 @@ use m3_core::{Value, ValueId};
 use m3_types::{TypeId, TypeNode};
 
 impl<'a> Evaluator<'_, 'a> {
-    /// A value as one of a type that it can be assigned to, with the check that this needs (rules 43 and
-    /// 40).
+    /// A value as one of a type that it can be assigned to, with the check that this needs (rules
+    /// 43 and 40).
     pub fn converted(
         &mut self,
         pos: Pos,

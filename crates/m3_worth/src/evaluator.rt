@@ -9,8 +9,8 @@ use m3_scopes::{EntityId, Program};
 use m3_types::{Reveal, TypeId, TypeNode};
 use std::alloc::Global;
 
-/// What has to be worked out: a constant, the type of a variable that names none, the definition of a
-/// type, or what is bound to its methods.
+/// What has to be worked out: a constant, the type of a variable that names none, the definition
+/// of a type, or what is bound to its methods.
 #[derive(Clone, Copy, Debug, PartialEq, Eq, Hash)]
 pub enum Need {
     Constant(EntityId),
@@ -171,7 +171,8 @@ impl<'p, 'a> Evaluator<'p, 'a> {
         })
     }
 
-    /// What an operand is worth as a value. What is no value has no worth, and is no constant either.
+    /// What an operand is worth as a value. What is no value has no worth, and is no constant
+    /// either.
     pub fn value_of(&mut self, pos: Pos, thing: Thing<'a>) -> Option<Worth<'a>> {
         match thing {
             Thing::Value(worth) => Some(worth),

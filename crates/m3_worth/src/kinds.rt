@@ -109,7 +109,8 @@ impl<'a> Evaluator<'_, 'a> {
         Ok(self.seen_early(kind))
     }
 
-    /// The same before the definitions of all types are there, and without choosing among partial reveals.
+    /// The same before the definitions of all types are there, and without choosing among partial
+    /// reveals.
     fn seen_early(&self, kind: TypeId) -> TypeId {
         let mut kind = kind;
         for _ in 0..self.declared.types.nodes.len() {
@@ -124,8 +125,8 @@ impl<'a> Evaluator<'_, 'a> {
         kind
     }
 
-    /// Whether a value of one type can be assigned to another; none where this takes more than is known
-    /// of the types as long as they are worked out.
+    /// Whether a value of one type can be assigned to another; none where this takes more than is
+    /// known of the types as long as they are worked out.
     fn fits_surely(&mut self, from: TypeId, to: TypeId) -> Result<Option<bool>, NoMemory> {
         if from == to {
             return Ok(Some(true));
@@ -147,8 +148,8 @@ impl<'a> Evaluator<'_, 'a> {
         Ok(None)
     }
 
-    /// Whether a value of one type can be assigned to another. Where it takes types that aren't worked
-    /// out yet, it is assumed.
+    /// Whether a value of one type can be assigned to another. Where it takes types that aren't
+    /// worked out yet, it is assumed.
     pub fn fits(
         &mut self,
         pos: Pos,
@@ -172,12 +173,7 @@ impl<'a> Evaluator<'_, 'a> {
     }
 
     /// Whether values of two types can be compared: one can be assigned to the other.
-    pub fn are_comparable(
-        &mut self,
-        pos: Pos,
-        a: TypeId,
-        b: TypeId,
-    ) -> Result<bool, NoMemory> {
+    pub fn are_comparable(&mut self, pos: Pos, a: TypeId, b: TypeId) -> Result<bool, NoMemory> {
         let one = self.fits_surely(a, b)?;
         if one == Some(true) {
             return Ok(true);

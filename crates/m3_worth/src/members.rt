@@ -2,7 +2,8 @@ use crate::evaluator::Evaluator;
 use m3_base::{NoMemory, place_number};
 use m3_types::{Field, Method, TypeId, TypeNode};
 
-/// A member of a type by its place: a field or a method of its own part, or a member of an enumeration.
+/// A member of a type by its place: a field or a method of its own part, or a member of an
+/// enumeration.
 #[derive(Clone, Copy, Debug, PartialEq, Eq)]
 pub enum Member {
     Field(u32),
@@ -21,12 +22,7 @@ pub struct Found {
 }
 
 impl<'a> Evaluator<'_, 'a> {
-    fn add_member(
-        &mut self,
-        kind: TypeId,
-        name: &'a [u8],
-        member: Member,
-    ) -> Result<(), NoMemory> {
+    fn add_member(&mut self, kind: TypeId, name: &'a [u8], member: Member) -> Result<(), NoMemory> {
         if !self.members.contains_key(&(kind, name)) {
             self.members.insert((kind, name), member)?;
         }

@@ -3,8 +3,8 @@ use indexmap::IndexSet;
 use m3_base::NoMemory;
 use m3_core::{Value, ValueId};
 
-/// Whether the values of two constants without parts are equal, texts by their cells; none where they have
-/// parts.
+/// Whether the values of two constants without parts are equal, texts by their cells; none where
+/// they have parts.
 fn are_equal_leaves(a: Value<'_>, b: Value<'_>) -> bool {
     match a {
         Value::Number(x) => matches!(b, Value::Number(y) if x == y),
