@@ -14,6 +14,7 @@ mod points;
 mod progress;
 mod runs;
 mod start;
+mod strides;
 mod texts;
 mod threading;
 mod types;

@@ -1,6 +1,7 @@
 use crate::machine::Machine;
-use crate::plain::{Halt, run_plain};
+use crate::plain::Halt;
 use crate::progress::Progress;
+use crate::strides::{Pace, stride};
 use m3_base::{Entry, Outcome};
 use m3_heap::Store;
 use m3_ports::{Sink, SinkFailed};
@@ -29,18 +30,20 @@ impl<'a, S: Store> Machine<'a, S> {
         (self.stack + 1) * u64::from(self.image.image().code_len())
     }
 
-    /// Carries out plain instructions of the running thread, at most so many.
-    fn go_plainly(&mut self, most: u64) -> (Halt, u64) {
+    /// Goes on with the running thread, as far as nothing else may go or happen between its instructions.
+    fn go_far(&mut self, pace: &mut Pace) -> (Halt, u64) {
         let mut regs = self.regs();
-        let (halt, count) = run_plain(
-            self.image.code(),
+        let points = pace.points;
+        let (halt, count) = stride(
+            &self.image,
             &mut regs.r,
             &mut regs.pc,
-            regs.fp,
+            &mut regs.fp,
             &mut self.memory,
-            most,
+            pace,
         );
         self.set_regs(regs);
+        self.points = self.points.wrapping_add(points.wrapping_sub(pace.points));
         self.instructions = self.instructions.wrapping_add(u128::from(count));
         (halt, count)
     }
@@ -62,23 +65,49 @@ impl<'a, S: Store> Machine<'a, S> {
         Progress::Goes
     }
 
-    /// Goes on to the thread's next point instruction, to its end or to the run's.
-    fn turn<O: Sink>(&mut self, out: &mut O) -> Result<Progress, SinkFailed> {
-        let mut left = self.turn_limit();
-        while left > 0 {
-            let progress = self.act(out)?;
+    /// What is left of a turn that begins, and how many points more may be passed without a choice.
+    fn pace(&self, points: u64) -> Pace {
+        let limit = self.turn_limit();
+        let base = match self.memory.threads.stack_at(self.running) {
+            Some(base) => base,
+            None => 0,
+        };
+        Pace {
+            base,
+            stack: self.stack,
+            limit,
+            left: limit,
+            points,
+        }
+    }
+
+    /// Goes on to a point instruction at which the machine has to choose or to act, to the thread's end or to the
+    /// run's.
+    fn turn<O: Sink>(&mut self, pace: &mut Pace, out: &mut O) -> Result<Progress, SinkFailed> {
+        let mut fuel = u128::from(pace.points)
+            .wrapping_mul(u128::from(pace.limit))
+            .wrapping_add(u128::from(pace.limit));
+        let mut progress = self.act(out)?;
+        pace.left = pace.left.saturating_sub(1);
+        while fuel > 0 {
             if progress != Progress::Goes {
                 return Ok(progress);
             }
-            let (halt, count) = self.go_plainly(left - 1);
-            left = (left - 1).saturating_sub(count);
+            let (halt, count) = self.go_far(pace);
+            let mut spent = u128::from(count);
             if let Halt::Trapped(n) = halt {
                 return Ok(Progress::trap(n));
             }
-            let progress = self.settle(left);
-            if progress != Progress::Goes {
-                return Ok(progress);
+            progress = self.settle(pace.left);
+            if progress == Progress::Goes && halt != Halt::Used {
+                progress = self.act(out)?;
+                pace.left = pace.left.saturating_sub(1);
+                spent += 1;
             }
+            if spent == 0 {
+                spent = 1;
+            }
+            fuel = if fuel > spent { fuel - spent } else { 0 };
         }
         Ok(Progress::trap(8))
     }
@@ -92,14 +121,19 @@ impl<'a, S: Store> Machine<'a, S> {
         out: &mut O,
     ) -> Result<Outcome, SinkFailed> {
         let mut entries = schedule;
-        for _point in 0..points {
+        let mut left = points;
+        while left > 0 {
             if let Some(outcome) = self.pass_point(first_entry(entries)) {
                 return Ok(outcome);
             }
+            left -= 1;
             entries = later_entries(entries);
-            if let Progress::Ends(outcome) = self.turn(out)? {
+            let mut pace = self.pace(if entries.is_empty() { left } else { 0 });
+            let before = pace.points;
+            if let Progress::Ends(outcome) = self.turn(&mut pace, out)? {
                 return Ok(outcome);
             }
+            left = left.saturating_sub(before.saturating_sub(pace.points));
         }
         Ok(self.spent())
     }

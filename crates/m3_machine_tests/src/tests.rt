@@ -27,12 +27,11 @@ fn instruction(rt: &impl Abort, op: Op, a: u8, b: u8, imm: i32) -> Instr
 // an instruction that isn't plain.
 #[test]
 fn a_loop(rt: HostRuntime) -> Result<(), Fail> {
-    let constants = [7, 9];
     let mut memory = Memory {
         threads: Threads::new(rt.alloc(), 1, 1024)?,
         outside: Outside {
             globals: Vec::new(rt.alloc()),
-            constants: &constants,
+            constants: Vec::from_slice(rt.alloc(), &[7, 9])?,
             heap: Closed {
                 store: SemiSpace::new(rt.alloc(), 64)?,
             },
