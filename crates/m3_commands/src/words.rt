@@ -162,23 +162,27 @@ fn run_command<'a>(alloc: Global) -> Result<Command<'a>, NoMemory> {
 }
 
 fn dump_command<'a>(alloc: Global) -> Result<Command<'a>, NoMemory> {
-    Ok(Command::new(alloc, "dump")
-        .disable_help_flag(true)
-        .disable_version_flag(true)
-        .arg(image_word(alloc))?)
+    Ok(
+        Command::new(alloc, "dump")
+            .disable_help_flag(true)
+            .disable_version_flag(true)
+            .arg(image_word(alloc))?,
+    )
 }
 
 fn whole_command<'a>(alloc: Global) -> Result<Command<'a>, NoMemory> {
     let run = run_command(alloc)?;
     let dump = dump_command(alloc)?;
-    Ok(Command::new(alloc, "m3c")
-        .no_binary_name(true)
-        .disable_help_flag(true)
-        .disable_version_flag(true)
-        .disable_help_subcommand(true)
-        .subcommand_required(true)
-        .subcommand(run)?
-        .subcommand(dump)?)
+    Ok(
+        Command::new(alloc, "m3c")
+            .no_binary_name(true)
+            .disable_help_flag(true)
+            .disable_version_flag(true)
+            .disable_help_subcommand(true)
+            .subcommand_required(true)
+            .subcommand(run)?
+            .subcommand(dump)?,
+    )
 }
 
 fn request_of<'a>(matches: &ArgMatches<'a>) -> Option<Request<'a>> {
