@@ -132,9 +132,11 @@ fn shaped(b: &mut Builder, place: Place, from: Option<TypeId>, kind: TypeId) -> 
 #[cycle(plans)]
 fn plan_by_value<'m>(b: &mut Builder<'m, '_>, kind: TypeId, value: &CoreExpr) -> Planned {
     match b.storage.form(kind) {
-        Form::Number | Form::Reference | Form::Numbers(_) => {
-            Planned::Scalar(plan_value(b, value))
-        }
+        Form::Number | Form::Reference => Planned::Scalar(plan_value(b, value)),
+        Form::Numbers(count) => Planned::Scalar(Value::Words {
+            first: b.temps(Kind::Number, count),
+            count,
+        }),
         Form::Structure(words) => {
             let words = word_number(words);
             if is_made(value) {

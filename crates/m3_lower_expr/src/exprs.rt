@@ -117,7 +117,15 @@ pub fn into_temps<'m>(
         }
         CoreExpr::Chain(chain) => {
             let value = plan_chain(b, chain);
-            let code = move_words(value, first, rest);
+            let code = match value {
+                // a NIL of one word, of the type NULL, where a procedure is wanted
+                Value::Word(_) => rest.after(MidOp::Number {
+                    to: first.wrapping_add(1),
+                    value: 0,
+                }),
+                _ => rest,
+            };
+            let code = move_words(value, first, code);
             emit_chain(b, around, chain, code)
         }
         CoreExpr::Operations { first: left, rest: row, .. } => {

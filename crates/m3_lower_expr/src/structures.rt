@@ -313,7 +313,11 @@ pub fn value_into<'m>(
     to: Place,
     rest: Pending<'m>,
 ) -> Pending<'m> {
-    match form_of(b, e) {
+    let form = match b.storage.form(kind) {
+        Form::Numbers(count) => Form::Numbers(count),
+        _ => form_of(b, e),
+    };
+    match form {
         Form::Number | Form::Reference => {
             let operand = source(b, e);
             let code = store_word(b, to, 0, operand, rest);

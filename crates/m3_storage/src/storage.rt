@@ -52,6 +52,40 @@ pub fn owner_at(outers: &[Option<u32>], levels: &[u32], proc: u32, level: u32) -
     at
 }
 
+/// The places of the variables of all procedures.
+#[derive(Drop)]
+struct Placed {
+    places: Vec<VarPlace>,
+    shown: Vec<Option<u32>>,
+    rooms: Vec<Room>,
+}
+
+impl Placed {
+    fn of(
+        alloc: Global,
+        core: &Core,
+        starts: &[u32],
+        marks: &[Marks],
+    ) -> Result<Placed, NoMemory> {
+        let mut placed = Placed {
+            places: Vec::new(alloc),
+            shown: Vec::new(alloc),
+            rooms: Vec::new(alloc),
+        };
+        for (place, proc) in core.procs.iter().enumerate() {
+            let start = match starts.get(place) {
+                Some(start) => *start as usize,
+                None => 0,
+            };
+            let own = marks.get(start..).unwrap_or(&[]);
+            let room = place_all(&core.types, proc, own, &mut placed.places)?;
+            placed.rooms.push(room)?;
+            shown_places(&core.types, proc, &mut placed.shown)?;
+        }
+        Ok(placed)
+    }
+}
+
 impl<'a> Storage<'a> {
     /// Where a program keeps its things.
     pub fn of(alloc: Global, core: &'a Core<'a>) -> Result<Storage<'a>, NoMemory> {
@@ -76,7 +110,15 @@ impl<'a> Storage<'a> {
             constants: vec![in alloc; None; core.values.len()]?,
         };
         storage.add_procs(core)?;
-        storage.add_places(core)?;
+        let placed = Placed::of(alloc, core, &storage.starts, &storage.marks)?;
+        let Placed {
+            places,
+            shown,
+            rooms,
+        } = placed;
+        storage.places = places;
+        storage.shown = shown;
+        storage.rooms = rooms;
         Ok(storage)
     }
 
@@ -141,20 +183,6 @@ impl<'a> Storage<'a> {
             Some(kind) => *kind,
             None => None,
         }
-    }
-
-    fn add_places(&mut self, core: &Core) -> Result<(), NoMemory> {
-        for (place, proc) in core.procs.iter().enumerate() {
-            let start = match self.starts.get(place) {
-                Some(start) => *start as usize,
-                None => 0,
-            };
-            let marks = self.marks.get(start..).unwrap_or(&[]);
-            let room = place_all(&core.types, proc, marks, &mut self.places)?;
-            self.rooms.push(room)?;
-            shown_places(&core.types, proc, &mut self.shown)?;
-        }
-        Ok(())
     }
 
     pub fn proc(&self, proc: u32) -> Option<&'a ProcDef<'a>> {
