@@ -3,6 +3,7 @@ ghost use Rattle.std.specs.List.{slice_get};
 ghost use Rattle.m3_tables.specs.Numbers.{word_in};
 ghost use Rattle.m3_tables.specs.Tables.{section_of, row_count};
 ghost use Rattle.m3_isa.specs.Instructions.{IsInstruction};
+ghost use Rattle.m3_isa.specs.declared.instructions.Instr.{Instr as Instruction};
 ghost use Rattle.m3_sections.specs.declared.procs.ProcPart.{ProcPart};
 ghost use Rattle.m3_sections.specs.Ranges.{containing};
 ghost use Rattle.m3_image.specs.Views.{image_view};
@@ -87,7 +88,8 @@ impl<'a> Decoded<'a> {
 
     /// The instructions.
     pub fn code(&self) -> &[Instr]
-        ensures { result.now ≡ (image_of self.now).program.code }
+        ensures value { result.now ≡ (image_of self.now).program.code }
+        ensures good { (n : ℕ) (i : Instruction) → slice_get result.now n ≡ Some i → IsInstruction i }
     {
         &self.code
     }

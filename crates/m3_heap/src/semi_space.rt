@@ -37,6 +37,7 @@ impl SemiSpace {
 impl Store for SemiSpace {
     ghost use Rattle.std.specs.Prelude.{◌≡◌, true, false, IsTrue};
     ghost use Rattle.std.specs.Bool.{OnTrue};
+    ghost use Rattle.std.specs.Coded.{Unit-prop};
     ghost use Rattle.m3_heap.specs.Semi.{UsesOtherHalf};
     ghost use Rattle.m3_heap.specs.Moves.{kept_starts};
     ghost use Rattle.m3_heap.specs.Reach.{HasBadPointer};
@@ -49,6 +50,8 @@ impl Store for SemiSpace {
     ghost empty_fits = { λ _ _ _. tt };
 
     ghost sound = { λ s. s.sound };
+
+    ghost fits_once = { λ _ _. Unit-prop };
 
     fn allocate(&mut self, kind: u32, words: u64) -> Option<u64> {
         self.halves.allocate(kind, words)

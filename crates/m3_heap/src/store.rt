@@ -92,4 +92,7 @@ pub trait Store {
 
     /// The cells of every store are headed, lie in the heap and are apart, and little enough is free.
     ghost sound: { (s : Self) → IsSoundHeap (heap s) };
+
+    /// That a list of shapes agrees has one proof at most, so whoever has a store may keep it beside its fields.
+    ghost fits_once: { (s : Self) (shapes : List Shape) → IsProp (fits s shapes) };
 }

@@ -1,0 +1,14 @@
+-- What a machine keeps where its words change.
+use Rattle.std.specs.Prelude.{ℕ, ◌≡◌, ◌+◌, ◌≤◌}
+use Rattle.std.proofs.Common.{ap, arith}
+use Rattle.m3_threads.specs.All.{Everyone}
+use Rattle.m3_machine.specs.Kept.{KeepsStacks}
+
+counts : Everyone → ℕ
+counts all = all.forks + all.waits
+
+pub still-counted : (all new : Everyone) (n : ℕ) → KeepsStacks all new → all.forks + all.waits ≤ n → new.forks + new.waits ≤ n
+unfolding counts
+still-counted all new n k h =
+    let e : new.forks + new.waits ≡ all.forks + all.waits = ap counts k.rest in
+    omega arith

@@ -1,0 +1,4 @@
+pub mod Placing
+pub mod StackPuts
+pub mod PlainSteps
+pub mod Keeping

@@ -1,0 +1,13 @@
+use Rattle.std.proofs.Common.{◌≡◌, ◌∙◌, arith, true, false, ap, sym}
+use Rattle.std.proofs.Math.Logic.{∥∥₁_elim, ∥∥₁_prop}
+use Rattle.std.proofs.Common.{rules}
+use Rattle.m3_sections.specs.Parts.{Image}
+use Rattle.m3_machine.proofs.machine.Machine.new.Goals as goal
+
+pub invariant_of-machine-3 : goal.invariant_of-machine-3
+invariant_of-machine-3 g c = record {
+  small = c.requires.small;
+  counted = search rules;
+  words = c.in_ok-globals.ensures ∙ c.global_words.ensures ∙ sym (ap (λ (i : Image). i.program.globals.words) c.in_ok-image.ensures);
+  fitting = λ e. ∣ g.met.S.Store.empty_fits c.args.store _ c.requires.empty ∣₁;
+}
