@@ -2,13 +2,14 @@ use crate::exprs::CoreExpr;
 use crate::stmts::CoreStmt;
 use crate::values::Value;
 use m3_base::Pos;
-use m3_types::{TypeGraph, TypeId};
+use m3_sizes::SizedTypes;
+use m3_types::TypeId;
 
 /// A checked program.
 #[derive(Drop)]
 pub struct Core<'a> {
-    /// All types. The `source` of a default names a constant of `values`.
-    pub types: TypeGraph<'a>,
+    /// All types, with their words. The `source` of a default names a constant of `values`.
+    pub types: SizedTypes<'a>,
     /// The procedures with bodies and the module bodies, by unit and place, a module's body behind
     /// the procedures of its unit. The number of a procedure is its place here.
     pub procs: &'a [ProcDef<'a>],

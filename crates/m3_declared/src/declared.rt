@@ -1,7 +1,8 @@
 use indexmap::IndexMap;
-use m3_base::{NoMemory, Pos};
+use m3_base::{Least, NoMemory, Pos};
 use m3_core::{Value, ValueId};
 use m3_scopes::EntityId;
+use m3_syntax::Expr;
 use m3_types::{TypeGraph, TypeId};
 use std::alloc::Global;
 
@@ -17,6 +18,15 @@ pub struct Basic {
     pub refany: TypeId,
     pub root: TypeId,
     pub mutex: TypeId,
+    /// What stands for a type that was refused; its definition is never given.
+    pub refused: TypeId,
+}
+
+/// A constant expression of a declaration that breaks a rule of expressions, with its unit.
+#[derive(Clone, Copy)]
+pub struct Doubtful<'a> {
+    pub unit: u32,
+    pub value: &'a Expr<'a>,
 }
 
 /// A constant: its type and its value.
@@ -34,6 +44,10 @@ pub struct Declared<'a> {
     pub values: Vec<Value<'a>>,
     /// The bytes of each text literal and constant text: each is one cell.
     pub texts: Vec<&'a [u8]>,
+    /// The least broken rule of expressions and statements that was met in declarations.
+    pub later: Least,
+    /// The constant expressions that are to be judged with the expressions of bodies.
+    pub doubtful: Vec<Doubtful<'a>>,
     named: IndexMap<EntityId, TypeId>,
     kinds: IndexMap<EntityId, TypeId>,
     constants: IndexMap<EntityId, Constant>,
@@ -41,6 +55,8 @@ pub struct Declared<'a> {
     constants_at: IndexMap<(u32, Pos), Constant>,
     texts_at: IndexMap<(u32, Pos), u32>,
     procedures: IndexMap<EntityId, u32>,
+    modules: IndexMap<u32, u32>,
+    exceptions: IndexMap<EntityId, u32>,
 }
 
 impl<'a> Declared<'a> {
@@ -51,6 +67,8 @@ impl<'a> Declared<'a> {
             basic,
             values: Vec::new(alloc),
             texts: Vec::new(alloc),
+            later: Least::new(),
+            doubtful: Vec::new(alloc),
             named: IndexMap::new(alloc),
             kinds: IndexMap::new(alloc),
             constants: IndexMap::new(alloc),
@@ -58,6 +76,8 @@ impl<'a> Declared<'a> {
             constants_at: IndexMap::new(alloc),
             texts_at: IndexMap::new(alloc),
             procedures: IndexMap::new(alloc),
+            modules: IndexMap::new(alloc),
+            exceptions: IndexMap::new(alloc),
         }
     }
 
@@ -134,6 +154,26 @@ impl<'a> Declared<'a> {
 
     pub fn number_procedure(&mut self, entity: EntityId, number: u32) -> Result<(), NoMemory> {
         self.procedures.insert(entity, number)?;
+        Ok(())
+    }
+
+    /// The number of the body of a module, by the module's place in the program's units.
+    pub fn module_number(&self, unit: u32) -> Option<u32> {
+        self.modules.get(&unit).copied()
+    }
+
+    pub fn number_module(&mut self, unit: u32, number: u32) -> Result<(), NoMemory> {
+        self.modules.insert(unit, number)?;
+        Ok(())
+    }
+
+    /// The number of an exception.
+    pub fn exception_number(&self, entity: EntityId) -> Option<u32> {
+        self.exceptions.get(&entity).copied()
+    }
+
+    pub fn number_exception(&mut self, entity: EntityId, number: u32) -> Result<(), NoMemory> {
+        self.exceptions.insert(entity, number)?;
         Ok(())
     }
 }

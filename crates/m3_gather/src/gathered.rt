@@ -1,0 +1,99 @@
+use indexmap::IndexMap;
+use m3_base::{NoMemory, Pos};
+use m3_scopes::{EntityId, Program};
+use m3_syntax::{Expr, Name, Qualid, TypeExp};
+use std::alloc::Global;
+
+/// A text literal as it is written, with its unit and place.
+#[derive(Clone, Copy)]
+pub struct TextAt<'a> {
+    pub unit: u32,
+    pub pos: Pos,
+    pub text: &'a [u8],
+}
+
+/// A type expression of a unit, neither a name nor a parenthesis.
+#[derive(Clone, Copy)]
+pub struct TypeAt<'a> {
+    pub unit: u32,
+    pub kind: &'a TypeExp<'a>,
+}
+
+/// A bound of a label of CASE, with its unit.
+#[derive(Clone, Copy)]
+pub struct LabelAt<'a> {
+    pub unit: u32,
+    pub value: &'a Expr<'a>,
+}
+
+/// What gives a name of a statement its type.
+#[derive(Clone, Copy)]
+pub enum Bound<'a> {
+    /// The value of a WITH, and of a TYPECASE whose branch has several types.
+    Value(&'a Expr<'a>),
+    /// The first and the last value of a FOR.
+    Range(&'a Expr<'a>, &'a Expr<'a>),
+    /// The exception of a handler.
+    Exception(Qualid<'a>),
+    /// The type of a branch of TYPECASE.
+    Type(&'a TypeExp<'a>),
+}
+
+/// What a program's text has. Each list is in the order of the text, outer before inner, unit by
+/// unit.
+#[derive(Drop)]
+pub struct Gathered<'a> {
+    pub texts: Vec<TextAt<'a>>,
+    pub types: Vec<TypeAt<'a>>,
+    pub labels: Vec<LabelAt<'a>>,
+    pub bindings: IndexMap<EntityId, Bound<'a>>,
+}
+
+/// The walk: what it found, and the unit that it is in.
+#[derive(Drop)]
+pub(crate) struct Gatherer<'p, 'a> {
+    pub program: &'p Program<'a>,
+    pub unit: u32,
+    pub found: Gathered<'a>,
+}
+
+impl<'p, 'a> Gatherer<'p, 'a> {
+    pub fn new(alloc: Global, program: &'p Program<'a>) -> Gatherer<'p, 'a> {
+        Gatherer {
+            program,
+            unit: 0,
+            found: Gathered {
+                texts: Vec::new(alloc),
+                types: Vec::new(alloc),
+                labels: Vec::new(alloc),
+                bindings: IndexMap::new(alloc),
+            },
+        }
+    }
+
+    pub fn text(&mut self, pos: Pos, text: &'a [u8]) -> Result<(), NoMemory> {
+        let unit = self.unit;
+        self.found.texts.push(TextAt { unit, pos, text })?;
+        Ok(())
+    }
+
+    pub fn kind(&mut self, kind: &'a TypeExp<'a>) -> Result<(), NoMemory> {
+        let unit = self.unit;
+        self.found.types.push(TypeAt { unit, kind })?;
+        Ok(())
+    }
+
+    pub fn label(&mut self, value: &'a Expr<'a>) -> Result<(), NoMemory> {
+        let unit = self.unit;
+        self.found.labels.push(LabelAt { unit, value })?;
+        Ok(())
+    }
+
+    /// Says what a name of a statement is bound to.
+    pub fn bind(&mut self, name: Name<'a>, bound: Bound<'a>) -> Result<(), NoMemory> {
+        if let Some(entity) = self.program.binds.at(self.unit, name.pos) {
+            self.found.bindings.insert(entity, bound)?;
+        }
+        Ok(())
+    }
+}
