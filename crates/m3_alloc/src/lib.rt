@@ -1,0 +1,13 @@
+//! Where each temporary of a procedure is: in a register, or in a slot of the frame.
+#![tactic(auto)]
+
+mod allocating;
+mod choosing;
+mod cover;
+mod homes;
+mod needs;
+mod sharing;
+mod slots;
+
+pub use allocating::{Placed, allocate, outgoing_words};
+pub use needs::Idle;
