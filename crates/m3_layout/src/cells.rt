@@ -69,6 +69,16 @@ fn value_shape(
     })
 }
 
+/// The shape of a value of a type outside a cell: its words, and those that hold references.
+pub fn shape_of_value(alloc: Global, types: &SizedTypes, t: TypeId) -> Result<Shape, NoMemory>
+    requires { HasSize types.now.graph.nodes.items t.0 }
+    ensures layout { IfOk result (λ shape. layout_of shape ≡ value_cell types.now.graph.nodes.items 0 0 t.0) }
+    ensures rises { IfOk result (λ shape. RisesWithin 0 shape.words shape.pointers.items) }
+{
+    let shape = value_shape(alloc, types, t, 0, 0)?;
+    Ok(shape)
+}
+
 /// The shape of a cell that holds a value of a type, or, of an open array, its elements.
 fn target_shape(alloc: Global, types: &SizedTypes, t: TypeId) -> Result<Shape, NoMemory>
     requires { HasSize types.now.graph.nodes.items (open_element types.now.graph.nodes.items t.0) }

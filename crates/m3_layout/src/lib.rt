@@ -9,4 +9,4 @@ mod tasks;
 mod values;
 mod walk;
 
-pub use cells::{Shape, cell_shape, has_cell};
+pub use cells::{Shape, cell_shape, has_cell, shape_of_value};

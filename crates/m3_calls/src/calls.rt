@@ -1,0 +1,115 @@
+use crate::actuals::checked_actuals;
+use crate::built_in::built_in_call;
+use crate::matching::matched;
+use crate::predeclared::predeclared_call;
+use m3_base::{NoMemory, Pos};
+use m3_core::{Actual, Step};
+use m3_operands::{Checker, Draft, Given, Method, State, Thing};
+use m3_types::TypeId;
+
+/// A call of what a chain gives so far: `pos` is the chain's first token, where what can't be
+/// called is refused (rule 56), and `parenthesis` where the actuals begin.
+pub fn call<'a>(
+    checker: &mut Checker<'_, 'a>,
+    pos: Pos,
+    parenthesis: Pos,
+    thing: &Thing<'a>,
+    actuals: &[Given<'a>],
+) -> Result<Thing<'a>, NoMemory> {
+    match thing {
+        Thing::Predeclared(routine) => {
+            predeclared_call(checker, pos, parenthesis, *routine, actuals)
+        }
+        Thing::Routine(routine) => built_in_call(checker, pos, parenthesis, *routine, actuals),
+        Thing::Method(method) => method_call(checker, parenthesis, method, actuals),
+        Thing::Value(value) if checker.is_procedure(value.kind) => {
+            let callee = checker.begin(pos, value)?;
+            procedure_call(checker, parenthesis, &callee, actuals)
+        }
+        Thing::Chain(draft) if checker.is_procedure(draft.kind) => {
+            procedure_call(checker, parenthesis, draft, actuals)
+        }
+        other => no_call(checker, pos, other, actuals),
+    }
+}
+
+/// What can't be called; its actuals are judged all the same.
+fn no_call<'a>(
+    checker: &mut Checker<'_, 'a>,
+    pos: Pos,
+    thing: &Thing<'a>,
+    actuals: &[Given<'a>],
+) -> Result<Thing<'a>, NoMemory> {
+    checker.judge_all(actuals)?;
+    match thing {
+        Thing::Bad => Ok(Thing::Bad),
+        _ => Ok(checker.bad(pos, 56)),
+    }
+}
+
+fn procedure_call<'a>(
+    checker: &mut Checker<'_, 'a>,
+    parenthesis: Pos,
+    callee: &Draft<'a>,
+    actuals: &[Given<'a>],
+) -> Result<Thing<'a>, NoMemory> {
+    let signature = callee.kind;
+    let Some(actuals) = actuals_of(checker, parenthesis, signature, actuals)? else {
+        return Ok(Thing::Bad);
+    };
+    let kind = checker.result_of(signature);
+    let callee = checker.read(callee)?;
+    called(checker, &callee, Step::Call { actuals, kind }, kind)
+}
+
+fn method_call<'a>(
+    checker: &mut Checker<'_, 'a>,
+    parenthesis: Pos,
+    method: &Method<'a>,
+    actuals: &[Given<'a>],
+) -> Result<Thing<'a>, NoMemory> {
+    let Some(actuals) = actuals_of(checker, parenthesis, method.signature, actuals)? else {
+        return Ok(Thing::Bad);
+    };
+    let kind = checker.result_of(method.signature);
+    let step = Step::MethodCall {
+        owner: method.owner,
+        method: method.place,
+        actuals,
+        kind,
+    };
+    called(checker, &method.object, step, kind)
+}
+
+/// A chain with a call behind it: a value, or nothing where the call has no result.
+fn called<'a>(
+    checker: &mut Checker<'_, 'a>,
+    draft: &Draft<'a>,
+    step: Step<'a>,
+    kind: Option<TypeId>,
+) -> Result<Thing<'a>, NoMemory> {
+    let shown = kind.unwrap_or(draft.kind);
+    let draft = checker.step(draft, step, shown, State::Value)?;
+    match kind {
+        Some(_) => Ok(checker.chain_thing(draft)),
+        None => Ok(Thing::Call(draft)),
+    }
+}
+
+/// The checked actuals of a call; none where something was refused. Which formal each is for is judged
+/// first (rule 55).
+fn actuals_of<'a>(
+    checker: &mut Checker<'_, 'a>,
+    parenthesis: Pos,
+    signature: TypeId,
+    actuals: &[Given<'a>],
+) -> Result<Option<&'a [Actual<'a>]>, NoMemory> {
+    match matched(checker, signature, actuals)? {
+        Some(order) => checked_actuals(checker, parenthesis, signature, actuals, order),
+        None => {
+            checker.note(parenthesis, 55);
+            checker.judge_all(actuals)?;
+            Ok(None)
+        }
+    }
+}

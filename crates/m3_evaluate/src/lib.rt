@@ -1,0 +1,8 @@
+//! What an expression is worth before a program runs: the walk over its tree. It is recursive, as
+//! deep as constructs are nested; what it makes of the parts is in `m3_operate`.
+#![tactic(auto)]
+
+mod calls;
+mod expressions;
+
+pub use expressions::expression;

@@ -1,0 +1,234 @@
+use crate::operators::Row;
+use crate::prefixes::{nots, signed};
+use crate::selectors::{Index, dereference, dot, indexed};
+use bumpalo::collections::into_bump_slice;
+use m3_base::{NoMemory, Pos};
+use m3_calls::call;
+use m3_constructors::{Part, Written, constructor};
+use m3_operands::{Checker, Given, Thing, Valued};
+use m3_syntax::{Actual, Element, Expr, Selector};
+
+/// An expression as a value; none where something in it was refused.
+pub fn expression<'a>(
+    checker: &mut Checker<'_, 'a>,
+    value: &Expr<'a>,
+) -> Result<Option<Valued<'a>>, NoMemory> {
+    let thing = operand(checker, value)?;
+    checker.value_of(value.pos(), &thing)
+}
+
+/// An expression that is assigned, returned, bound or given to something.
+pub fn given<'a>(checker: &mut Checker<'_, 'a>, value: &Expr<'a>) -> Result<Given<'a>, NoMemory> {
+    Ok(Given {
+        pos: value.pos(),
+        name: None,
+        inner: checker.inner_name(value),
+        thing: operand(checker, value)?,
+    })
+}
+
+/// What an expression is.
+#[cycle(expressions)]
+pub fn operand<'a>(checker: &mut Checker<'_, 'a>, value: &Expr<'a>) -> Result<Thing<'a>, NoMemory> {
+    match value {
+        Expr::Missing { .. } => Ok(Thing::Bad),
+        Expr::Name(name) => checker.name(*name),
+        Expr::Number { pos, value } => {
+            checker.number(*pos, checker.declared.basic.integer, *value)
+        }
+        Expr::CharLit { pos, value } => {
+            checker.number(*pos, checker.declared.basic.character, i64::from(*value))
+        }
+        Expr::TextLit { pos, .. } => checker.text(*pos),
+        Expr::Parenthesis { pos, inner } => {
+            let thing = operand(checker, inner)?;
+            checker.parenthesized(*pos, &thing)
+        }
+        Expr::Not {
+            pos,
+            words,
+            operand: inner,
+        } => {
+            let thing = operand(checker, inner)?;
+            nots(checker, *pos, words, inner.pos(), &thing)
+        }
+        Expr::Signed {
+            pos,
+            signs,
+            operand: inner,
+        } => {
+            let thing = operand(checker, inner)?;
+            signed(checker, *pos, signs, inner.pos(), &thing)
+        }
+        Expr::Operations { .. } => operations(checker, value),
+        Expr::Selected { .. } => selected(checker, value),
+        Expr::Constructor { .. } => constructed(checker, value),
+    }
+}
+
+/// Operands with operators of one level, which group to the left.
+#[cycle(expressions)]
+fn operations<'a>(checker: &mut Checker<'_, 'a>, value: &Expr<'a>) -> Result<Thing<'a>, NoMemory> {
+    let Expr::Operations { pos, first, rest } = value else {
+        return Ok(Thing::Bad);
+    };
+    let thing = operand(checker, first)?;
+    let mut row = Row::new(checker, first.pos(), &thing)?;
+    for operation in *rest {
+        let thing = operand(checker, operation.right)?;
+        row.add(
+            checker,
+            operation.operator,
+            operation.pos,
+            operation.right.pos(),
+            &thing,
+        )?;
+    }
+    row.finish(checker, *pos)
+}
+
+/// An operand with selectors and calls behind it.
+#[cycle(expressions)]
+fn selected<'a>(checker: &mut Checker<'_, 'a>, value: &Expr<'a>) -> Result<Thing<'a>, NoMemory> {
+    let Expr::Selected {
+        pos,
+        operand: inner,
+        selectors,
+    } = value
+    else {
+        return Ok(Thing::Bad);
+    };
+    let mut thing = operand(checker, inner)?;
+    for selector in *selectors {
+        thing = select(checker, selector, *pos, thing)?;
+    }
+    Ok(thing)
+}
+
+/// What a selector makes of what stands before it.
+#[cycle(expressions)]
+fn select<'a>(
+    checker: &mut Checker<'_, 'a>,
+    selector: &Selector<'a>,
+    pos: Pos,
+    thing: Thing<'a>,
+) -> Result<Thing<'a>, NoMemory> {
+    match selector {
+        Selector::Dereference(_) => dereference(checker, pos, &thing),
+        Selector::Member(name) => dot(checker, pos, &thing, *name),
+        Selector::Index(_, indexes) => {
+            let row = index_row(checker, indexes)?;
+            indexed(checker, pos, &thing, row)
+        }
+        Selector::Call(parenthesis, actuals) => {
+            let row = call_actuals(checker, actuals)?;
+            call(checker, pos, *parenthesis, &thing, row)
+        }
+    }
+}
+
+/// The values of indexes.
+#[cycle(expressions)]
+fn index_row<'a>(
+    checker: &mut Checker<'_, 'a>,
+    indexes: &[Expr<'a>],
+) -> Result<&'a [Index<'a>], NoMemory> {
+    let mut row = Vec::new(checker.arena);
+    for index in indexes {
+        let thing = operand(checker, index)?;
+        let pos = index.pos();
+        let value = checker.value_of(pos, &thing)?;
+        row.push(Index { pos, value })?;
+    }
+    Ok(into_bump_slice(row))
+}
+
+/// What the actuals of a call are.
+#[cycle(expressions)]
+pub fn call_actuals<'a>(
+    checker: &mut Checker<'_, 'a>,
+    actuals: &[Actual<'a>],
+) -> Result<&'a [Given<'a>], NoMemory> {
+    let mut row = Vec::new(checker.arena);
+    for actual in actuals {
+        let given = call_actual(checker, actual)?;
+        row.push(given)?;
+    }
+    Ok(into_bump_slice(row))
+}
+
+#[cycle(expressions)]
+fn call_actual<'a>(
+    checker: &mut Checker<'_, 'a>,
+    actual: &Actual<'a>,
+) -> Result<Given<'a>, NoMemory> {
+    match actual {
+        Actual::Value(value) => Ok(Given {
+            pos: value.pos(),
+            name: None,
+            inner: checker.inner_name(value),
+            thing: operand(checker, value)?,
+        }),
+        Actual::Named(name, value) => Ok(Given {
+            pos: value.pos(),
+            name: Some(*name),
+            inner: checker.inner_name(value),
+            thing: operand(checker, value)?,
+        }),
+        Actual::Type(kind) => Ok(Given {
+            pos: kind.pos(),
+            name: None,
+            inner: None,
+            thing: match checker.type_of(kind) {
+                Some(kind) => Thing::Type(kind),
+                None => Thing::Bad,
+            },
+        }),
+    }
+}
+
+/// `T {..}`.
+#[cycle(expressions)]
+fn constructed<'a>(checker: &mut Checker<'_, 'a>, value: &Expr<'a>) -> Result<Thing<'a>, NoMemory> {
+    let Expr::Constructor {
+        pos,
+        kind,
+        brace,
+        elements,
+        is_filled,
+    } = value
+    else {
+        return Ok(Thing::Bad);
+    };
+    let mut row = Vec::new(checker.arena);
+    for element in *elements {
+        let part = part(checker, element)?;
+        row.push(part)?;
+    }
+    let kind = checker.type_of(kind);
+    let written = Written {
+        pos: *pos,
+        brace: *brace,
+        is_filled: *is_filled,
+    };
+    constructor(checker, written, kind, into_bump_slice(row))
+}
+
+#[cycle(expressions)]
+fn part<'a>(checker: &mut Checker<'_, 'a>, element: &Element<'a>) -> Result<Part<'a>, NoMemory> {
+    match element {
+        Element::Value(value) => {
+            let thing = operand(checker, value)?;
+            Ok(crate::elements::one(checker, value, thing))
+        }
+        Element::Named(name, value) => {
+            let thing = operand(checker, value)?;
+            Ok(crate::elements::named(checker, *name, value, thing))
+        }
+        Element::Range(first, last) => {
+            let from = operand(checker, first)?;
+            let to = operand(checker, last)?;
+            Ok(crate::elements::range(checker, first, from, last, to))
+        }
+    }
+}

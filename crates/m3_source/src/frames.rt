@@ -1,0 +1,104 @@
+use crate::counts::Counts;
+use m3_core::{Actual, Core, ProcDef, VarDef, VarKind};
+use m3_sizes::SizedTypes;
+use m3_types::{TypeId, TypeNode};
+
+/// The sizes of a procedure that count towards its frame and its image.
+#[derive(Clone, Copy, Debug, PartialEq, Eq)]
+pub struct Sizes {
+    pub frame: u64,
+    pub points: u64,
+    pub constants: u128,
+    pub made: u128,
+}
+
+/// The dimensions of an open array type, and 0 for any other type.
+pub fn open_dims(types: &SizedTypes, t: TypeId) -> u64 {
+    let mut dims = 0u64;
+    let mut at = t;
+    for _ in 0..types.graph.nodes.len() {
+        match types.graph.nodes.get(at.0 as usize) {
+            Some(TypeNode::OpenArray(element)) => {
+                dims = dims.saturating_add(1);
+                at = *element;
+            }
+            _ => break,
+        }
+    }
+    dims
+}
+
+fn words(types: &SizedTypes, t: TypeId) -> u64 {
+    if types.has_size(t) {
+        types.words_of(t)
+    } else {
+        0
+    }
+}
+
+/// The words of a value, of which an open array has 1: the cell of its copy.
+pub fn value_words(types: &SizedTypes, t: TypeId) -> u64 {
+    if open_dims(types, t) > 0 {
+        1
+    } else {
+        words(types, t)
+    }
+}
+
+/// What the sizes of an open array add to an alias, a formal or an actual.
+fn open_words(types: &SizedTypes, t: TypeId) -> u64 {
+    match open_dims(types, t) {
+        0 => 0,
+        dims => dims.saturating_add(1),
+    }
+}
+
+fn words_of_variable(types: &SizedTypes, variable: &VarDef) -> u64 {
+    match variable.kind {
+        VarKind::Variable(t) | VarKind::ByValue(t) => {
+            value_words(types, t).saturating_add(open_words(types, t))
+        }
+        VarKind::ByVar(t) | VarKind::ByReadonly(t) | VarKind::Alias(t) => {
+            open_words(types, t).saturating_add(2)
+        }
+    }
+}
+
+/// The words of an actual: those of its value, or 2 of a place.
+pub fn words_of_actual(types: &SizedTypes, actual: &Actual) -> u64 {
+    match actual {
+        Actual::Value { kind, .. } => {
+            value_words(types, *kind).saturating_add(open_words(types, *kind))
+        }
+        Actual::Place { kind, .. } => open_words(types, *kind).saturating_add(2),
+    }
+}
+
+/// The sizes of a procedure, by the parts of each type.
+pub fn sizes_of(core: &Core, parts: &[u64], proc: &ProcDef) -> Sizes {
+    let counts = Counts::of(core, parts, proc.body);
+    let mut frame = 32u64;
+    for variable in proc.formals {
+        frame = frame.saturating_add(words_of_variable(&core.types, variable));
+    }
+    for variable in proc.locals {
+        frame = frame.saturating_add(words_of_variable(&core.types, variable));
+    }
+    frame = frame.saturating_add(counts.nodes.saturating_mul(4));
+    Sizes {
+        frame: frame.saturating_add(counts.words),
+        points: counts.points,
+        constants: counts.constants,
+        made: counts.made,
+    }
+}
+
+/// The words that a frame of a procedure may have: 32, those of its variables, 4 for each node of its
+/// checked tree, and twice those of each value that a call, a constructor, an actual or a binding of NEW
+/// handles.
+pub fn frame_words(core: &Core, proc: u32) -> u64 {
+    match core.procs.get(proc as usize) {
+        Some(proc) => sizes_of(core, &[], proc).frame,
+        None => 0,
+    }
+}

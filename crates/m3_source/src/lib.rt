@@ -1,0 +1,11 @@
+//! How large a checked program is: the words of each procedure's frame, and the size of its image, by
+//! which the limits are judged.
+#![tactic(auto)]
+
+mod counts;
+mod frames;
+mod images;
+mod parts;
+
+pub use frames::{Sizes, frame_words};
+pub use images::image_size;
