@@ -1,0 +1,8 @@
+//! The command line of `m3c`: what its words ask for.
+#![tactic(auto)]
+
+mod limits;
+mod words;
+
+pub use limits::Limits;
+pub use words::{MOST_FILES, Request, RunOptions, read_words};

@@ -1,0 +1,14 @@
+//! The commands over images: `run IMAGE` and `dump IMAGE`; and what every command needs to answer.
+#![tactic(auto)]
+
+mod answers;
+mod dumping;
+mod fetching;
+mod line;
+mod running;
+
+pub use answers::{Answer, Refusal, tell};
+pub use dumping::dump_image;
+pub use fetching::{RunFiles, fetch, fetch_run_files};
+pub use line::add_number;
+pub use running::{Run, run_bytes, run_image, schedule_of};

@@ -1,0 +1,174 @@
+use crate::answers::{Answer, Refusal};
+use crate::fetching::{fetch, fetch_run_files};
+use crate::line::{LINE_ROOM, add, add_long_number, add_number, add_outcome, longest_name};
+use m3_base::{Entry, ScheduleRefusal, read_schedule};
+use m3_command_line::{Limits, RunOptions};
+use m3_heap::{SemiSpace, Store};
+use m3_image::{ImageRefusal, ImageView};
+use m3_machine::Machine;
+use m3_ports::{Shelf, Sink};
+use std::alloc::{AllocError, Global};
+
+// The most bytes of an image.
+const IMAGE_CAP: u64 = 4_294_967_295;
+
+/// How an image is to run: within which limits, by which schedule and on which input, and whether
+/// the line tells its collections.
+#[derive(Clone, Copy)]
+pub struct Run<'a> {
+    pub limits: Limits,
+    pub schedule: &'a [Entry],
+    pub input: &'a [u8],
+    pub tells_collections: bool,
+}
+
+/// The image of some bytes, or the line that refuses them.
+pub fn read_image<'a>(
+    alloc: Global,
+    bytes: &'a [u8],
+) -> Result<ImageView<'a>, Result<Answer, Refusal<'static>>> {
+    match ImageView::read(bytes) {
+        Ok(image) => Ok(image),
+        Err(refusal) => Err(refuse(8, image_refusal_line(alloc, refusal))),
+    }
+}
+
+/// A refusal with a line of its own, if there was memory for it.
+fn refuse(status: u8, line: Result<Vec<u8>, AllocError>) -> Result<Answer, Refusal<'static>> {
+    match line {
+        Ok(line) => Ok(Answer { status, line }),
+        Err(_) => Err(Refusal::NO_MEMORY),
+    }
+}
+
+fn image_refusal_line(alloc: Global, refusal: ImageRefusal) -> Result<Vec<u8>, AllocError> {
+    let text = format!(in alloc; "image refused: {refusal}\n")?;
+    Vec::from_slice(alloc, text.as_bytes())
+}
+
+fn schedule_refusal_line(alloc: Global, refusal: ScheduleRefusal) -> Result<Vec<u8>, AllocError> {
+    let text = format!(in alloc; "schedule refused: {refusal}\n")?;
+    Vec::from_slice(alloc, text.as_bytes())
+}
+
+/// The schedule that the lines of a switch file say, or what the command answers where they say none.
+pub fn schedule_of(
+    alloc: Global,
+    switches: &[u8],
+) -> Result<Vec<Entry>, Result<Answer, Refusal<'static>>> {
+    match read_schedule(alloc, switches) {
+        Ok(schedule) => Ok(schedule),
+        Err(ScheduleRefusal::NoMemory) => Err(Err(Refusal::NO_MEMORY)),
+        Err(refusal) => Err(refuse(9, schedule_refusal_line(alloc, refusal))),
+    }
+}
+
+/// Adds the counts of a run.
+fn add_counts<S: Store>(line: &mut Vec<u8>, machine: &Machine<'_, S>, collections: bool) {
+    add(line, b" points ");
+    add_number(line, machine.points());
+    add(line, b" instructions ");
+    add_long_number(line, machine.instructions());
+    if collections {
+        add(line, b" collections ");
+        add_number(line, machine.collections());
+    }
+    add(line, b"\n");
+}
+
+/// Runs an image, and says how that ended. All memory is taken before the first instruction.
+fn run_view<O: Sink>(
+    alloc: Global,
+    image: ImageView<'_>,
+    run: Run<'_>,
+    out: &mut O,
+) -> Result<Answer, Refusal<'static>> {
+    let room = LINE_ROOM.saturating_add(longest_name(&image));
+    let Ok(mut line) = Vec::with_capacity(alloc, room) else {
+        return Err(Refusal::NO_MEMORY);
+    };
+    let Ok(store) = SemiSpace::new(alloc, run.limits.heap) else {
+        return Err(Refusal::NO_MEMORY);
+    };
+    let limits = run.limits;
+    let made = Machine::new(alloc, image, run.input, store, limits.stack, limits.threads);
+    let Ok(mut machine) = made else {
+        return Err(Refusal::NO_MEMORY);
+    };
+    match machine.run(run.schedule, limits.points, out) {
+        Ok(outcome) => {
+            let status = add_outcome(&mut line, machine.image(), outcome);
+            add_counts(&mut line, &machine, run.tells_collections);
+            Ok(Answer { status, line })
+        }
+        Err(_) => Err(Refusal::WRITE_FAULT),
+    }
+}
+
+/// Runs the image of some bytes, and says how that ended, or why they are no image.
+pub fn run_bytes<O: Sink>(
+    alloc: Global,
+    bytes: &[u8],
+    run: Run<'_>,
+    out: &mut O,
+) -> Result<Answer, Refusal<'static>> {
+    match read_image(alloc, bytes) {
+        Ok(image) => run_view(alloc, image, run, out),
+        Err(answer) => answer,
+    }
+}
+
+/// Reads an image and a schedule, and runs the one by the other.
+fn run_fetched<O: Sink>(
+    alloc: Global,
+    bytes: &[u8],
+    switches: &[u8],
+    run: Run<'_>,
+    out: &mut O,
+) -> Result<Answer, Refusal<'static>> {
+    let image = match read_image(alloc, bytes) {
+        Ok(image) => image,
+        Err(answer) => return answer,
+    };
+    match schedule_of(alloc, switches) {
+        Ok(schedule) => {
+            let run = Run {
+                schedule: &schedule,
+                ..run
+            };
+            run_view(alloc, image, run, out)
+        }
+        Err(answer) => answer,
+    }
+}
+
+/// `run IMAGE`: fetches the image, the switches and the input, and runs. The bytes of the image go
+/// to `image`.
+pub fn run_image<'a, F: Shelf, O: Sink>(
+    alloc: Global,
+    name: &'a str,
+    options: RunOptions<'a>,
+    shelf: &mut F,
+    out: &mut O,
+    image: &mut Vec<u8>,
+) -> Result<Answer, Refusal<'a>> {
+    fetch_image(alloc, name, shelf, image)?;
+    let files = fetch_run_files(alloc, shelf, options)?;
+    let run = Run {
+        limits: options.limits,
+        schedule: &[],
+        input: &files.input,
+        tells_collections: options.switches.is_some(),
+    };
+    run_fetched(alloc, image, &files.switches, run, out)
+}
+
+/// Fetches an image.
+pub fn fetch_image<'a, F: Shelf>(
+    alloc: Global,
+    name: &'a str,
+    shelf: &mut F,
+    image: &mut Vec<u8>,
+) -> Result<(), Refusal<'a>> {
+    fetch(alloc, shelf, name, IMAGE_CAP, image)
+}
