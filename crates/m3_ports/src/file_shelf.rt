@@ -69,13 +69,20 @@ fn read_to_cap<F: Read>(file: &mut F, cap: u64, into: &mut Vec<u8>) -> Result<()
     Err(ShelfFault::Failed)
 }
 
+/// Whether an error says that no file has the name, also where it could be no file's.
+fn is_absence(kind: ErrorKind) -> bool {
+    kind == ErrorKind::NotFound
+        || kind == ErrorKind::NotADirectory
+        || kind == ErrorKind::InvalidFilename
+}
+
 /// Adds the bytes of the file at a path to `into`, at most `cap`.
 fn read_file<R: Files>(rt: &R, name: &str, cap: u64, into: &mut Vec<u8>) -> Result<(), ShelfFault>
     ensures { Fetches None name.now cap into.old.items into.new.items result }
 {
     match fs::open(rt, name) {
         Ok(mut file) => read_to_cap(&mut file, cap, into),
-        Err(e) if e.kind() == ErrorKind::NotFound => Err(ShelfFault::Absent),
+        Err(e) if is_absence(e.kind()) => Err(ShelfFault::Absent),
         Err(e) if e.kind() == ErrorKind::OutOfMemory => Err(ShelfFault::NoMemory),
         Err(_) => Err(ShelfFault::Failed),
     }
