@@ -64,10 +64,7 @@ fn file_words<'a>(alloc: Global) -> Arg<'a> {
 }
 
 /// A command with the options of a run.
-fn with_run_options<'a>(
-    alloc: Global,
-    command: Command<'a>,
-) -> Result<Command<'a>, NoMemory> {
+fn with_run_options<'a>(alloc: Global, command: Command<'a>) -> Result<Command<'a>, NoMemory> {
     let command = command
         .arg(option(alloc, "switches"))?
         .arg(option(alloc, "points"))?;
@@ -134,10 +131,7 @@ fn are_files(words: &[&str]) -> bool {
 }
 
 /// The FILE words. None where there are too many, or one is empty.
-fn files_of<'a>(
-    alloc: Global,
-    matches: &ArgMatches<'a>,
-) -> Result<Option<Vec<&'a str>>, NoMemory> {
+fn files_of<'a>(alloc: Global, matches: &ArgMatches<'a>) -> Result<Option<Vec<&'a str>>, NoMemory> {
     let mut files = Vec::new(alloc);
     if let Some(words) = matches.get_strs("FILE") {
         if !are_files(words) {

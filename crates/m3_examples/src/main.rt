@@ -5,9 +5,8 @@
 use m3_ports::{FileShelf, MemSink};
 use m3c::m3c;
 use std::alloc::{AllocError, Global};
-use std::fs;
-use std::io;
 use std::rt::Files;
+use std::{fs, io};
 
 // The most bytes that a program may put.
 const ROOM: usize = 65_536;
@@ -27,10 +26,7 @@ fn words_of(alloc: Global, words: &[&str]) -> Result<Vec<String>, AllocError> {
     Ok(all)
 }
 
-fn answer_of(
-    rt: &(impl Files + AllocGlobal),
-    words: &[&str],
-) -> io::Result<Answer> {
+fn answer_of(rt: &(impl Files + AllocGlobal), words: &[&str]) -> io::Result<Answer> {
     let alloc = rt.alloc();
     let mut shelf = FileShelf::new(rt);
     let mut out = MemSink::with_room(alloc, ROOM)?;

@@ -26,11 +26,13 @@ impl Refusal<'static> {
         front: b"out of memory",
         name: b"",
     };
+
     pub const USAGE: Refusal<'static> = Refusal {
         status: 2,
         front: b"usage: m3c build, run, exec, dump or bench",
         name: b"",
     };
+
     pub const WRITE_FAULT: Refusal<'static> = Refusal {
         status: WRITE_FAULT,
         front: b"write fault",

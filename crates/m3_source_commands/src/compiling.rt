@@ -12,11 +12,7 @@ use std::alloc::{AllocError, Global};
 pub type Step<'r, T> = Result<T, Result<Answer, Refusal<'r>>>;
 
 /// The line of the least broken rule.
-fn rule_line(
-    alloc: Global,
-    sources: &[Source<'_>],
-    broken: Broken,
-) -> Result<Vec<u8>, AllocError> {
+fn rule_line(alloc: Global, sources: &[Source<'_>], broken: Broken) -> Result<Vec<u8>, AllocError> {
     let mut line = Vec::new(alloc);
     if let Some(source) = sources.get(broken.pos.file as usize) {
         line.extend_from_slice(source.name)?;
@@ -47,7 +43,9 @@ fn refuse(
 fn are_short(sources: &[Source<'_>]) -> bool
     ensures { result ≡ true → All (λ source. length source.text.now < 4294967295) sources.now }
 {
-    sources.iter().all(|source| source.text.len() < 4_294_967_295)
+    sources
+        .iter()
+        .all(|source| source.text.len() < 4_294_967_295)
 }
 
 /// The image of a program, and the schedule of a switch file, whose lines are read once the sources

@@ -213,7 +213,10 @@ fn a_store_fails(rt: HostRuntime) -> Result<(), Fail> {
 
 #[test]
 fn each_put_fails(rt: HostRuntime) -> Result<(), Fail> {
-    let Some(case) = THREADS.iter().find(|case| case.out == Some(b"123".as_slice())) else {
+    let Some(case) = THREADS
+        .iter()
+        .find(|case| case.out == Some(b"123".as_slice()))
+    else {
         return Err(Fail);
     };
     for failing in 1..4 {
@@ -228,7 +231,12 @@ fn each_put_fails(rt: HostRuntime) -> Result<(), Fail> {
 }
 
 // `bench` of a number: its output, and how its line begins.
-fn bench(rt: &(impl Abort + AllocGlobal), number: &str, out: &[u8], line: &[u8]) -> Result<(), Fail> {
+fn bench(
+    rt: &(impl Abort + AllocGlobal),
+    number: &str,
+    out: &[u8],
+    line: &[u8],
+) -> Result<(), Fail> {
     let mut shelf = MemShelf::new(rt.alloc())?;
     let words = some_words(rt.alloc(), &["bench", number])?;
     let answer = carry_out(rt.alloc(), words, &mut shelf, 0)?;
