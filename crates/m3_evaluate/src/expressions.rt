@@ -1,13 +1,10 @@
-use crate::calls::call;
+use crate::calls::{Called, begun, given_by, with_actual};
+use crate::operators::{denied, operated, signs_applied, thing_of};
 use m3_base::{NoMemory, Pos};
 use m3_core::Value;
-use m3_operate::{
-    Index, MOST_MEMBERS, Operands, Part, add_part, dereference, dot, element, negated, operate,
-    parts_for, truth, whole,
-};
-use m3_syntax::{Element, Expr, Selector};
-use m3_types::TypeNode;
-use m3_worth::{Evaluator, Known, Thing, Worth};
+use m3_operate::{Index, Part, Parts, add_part, dereference, dot, element, parts_for, whole};
+use m3_syntax::{Actual, Element, Expr, Selector, TypeExp};
+use m3_worth::{Evaluator, Thing, Worth};
 
 /// What an expression is worth as a value.
 #[cycle(expressions)]
@@ -21,113 +18,59 @@ pub fn expression<'a>(
 
 /// What an expression is.
 #[cycle(expressions)]
-pub fn operand_thing<'a>(
+fn operand_thing<'a>(
     eval: &mut Evaluator<'_, 'a>,
     value: &Expr<'a>,
 ) -> Result<Thing<'a>, NoMemory> {
-    let basic = eval.declared.basic;
     match value {
         Expr::Name(name) => eval.name(*name),
-        Expr::Number { value, .. } => Ok(eval.number(basic.integer, *value)),
-        Expr::CharLit { value, .. } => Ok(eval.number(basic.character, i64::from(*value))),
-        Expr::TextLit { pos, .. } => match eval.declared.text_at(eval.unit, *pos) {
-            Some(cell) => Ok(eval.known(basic.text, Value::Text(cell))),
-            None => Ok(Thing::Bad),
-        },
+        Expr::Number { value, .. } => Ok(eval.number(eval.declared.basic.integer, *value)),
+        Expr::CharLit { value, .. } => {
+            Ok(eval.number(eval.declared.basic.character, i64::from(*value)))
+        }
+        Expr::TextLit { pos, .. } => Ok(text_at(eval, *pos)),
         Expr::Parenthesis { inner, .. } => operand_thing(eval, inner),
         Expr::Operations { .. } => operations(eval, value),
-        Expr::Not { .. } => nots(eval, value),
-        Expr::Signed { .. } => signed(eval, value),
+        Expr::Not { words, operand, .. } => {
+            let worth = expression(eval, operand)?;
+            denied(eval, words.len(), worth)
+        }
+        Expr::Signed { signs, operand, .. } => {
+            let worth = expression(eval, operand)?;
+            signs_applied(eval, signs, worth)
+        }
         Expr::Selected { .. } => selected(eval, value),
         Expr::Constructor { .. } => constructor(eval, value),
         Expr::Missing { .. } => Ok(Thing::Bad),
     }
 }
 
+/// A text literal, by its place.
+fn text_at<'a>(eval: &Evaluator<'_, 'a>, pos: Pos) -> Thing<'a> {
+    match eval.declared.text_at(eval.unit, pos) {
+        Some(cell) => eval.known(eval.declared.basic.text, Value::Text(cell)),
+        None => Thing::Bad,
+    }
+}
+
 /// Operands with operators of one level, which group to the left.
 #[cycle(expressions)]
-pub fn operations<'a>(
-    eval: &mut Evaluator<'_, 'a>,
-    value: &Expr<'a>,
-) -> Result<Thing<'a>, NoMemory> {
+fn operations<'a>(eval: &mut Evaluator<'_, 'a>, value: &Expr<'a>) -> Result<Thing<'a>, NoMemory> {
     let Expr::Operations { pos, first, rest } = value else {
         return Ok(Thing::Bad);
     };
     let mut result = expression(eval, first)?;
-    for operation in *rest {
+    'operands: for operation in *rest {
         let right = expression(eval, operation.right)?;
-        result = match (result, right) {
-            (Some(left), Some(right)) => {
-                let operands = Operands {
-                    pos: *pos,
-                    left,
-                    right,
-                    right_pos: operation.right.pos(),
-                };
-                operate(eval, operation.operator, &operands)?
-            }
-            _ => None,
-        };
+        let right_pos = operation.right.pos();
+        result = operated(eval, *pos, result, operation.operator, right, right_pos)?;
     }
-    match result {
-        Some(worth) => Ok(Thing::Value(worth)),
-        None => Ok(Thing::Bad),
-    }
-}
-
-/// NOT, once or more.
-#[cycle(expressions)]
-pub fn nots<'a>(eval: &mut Evaluator<'_, 'a>, value: &Expr<'a>) -> Result<Thing<'a>, NoMemory> {
-    let Expr::Not { words, operand, .. } = value else {
-        return Ok(Thing::Bad);
-    };
-    let Some(worth) = expression(eval, operand)? else {
-        return Ok(Thing::Bad);
-    };
-    if !eval.is_boolean(worth.kind)? {
-        return Ok(Thing::Bad);
-    }
-    let is_odd = words.len() % 2 == 1;
-    let value = match worth.value {
-        Known::Value(Value::Number(number)) => Known::Value(truth((number != 0) != is_odd)),
-        Known::Value(_) => return Ok(Thing::Bad),
-        Known::Varies(reason) => Known::Varies(reason),
-    };
-    Ok(Thing::Value(Worth {
-        kind: eval.declared.basic.boolean,
-        value,
-        is_fixed: false,
-    }))
-}
-
-/// Signs, once or more.
-#[cycle(expressions)]
-pub fn signed<'a>(eval: &mut Evaluator<'_, 'a>, value: &Expr<'a>) -> Result<Thing<'a>, NoMemory> {
-    let Expr::Signed { signs, operand, .. } = value else {
-        return Ok(Thing::Bad);
-    };
-    let Some(worth) = expression(eval, operand)? else {
-        return Ok(Thing::Bad);
-    };
-    if !eval.is_integer(worth.kind)? {
-        return Ok(Thing::Bad);
-    }
-    let mut value = worth.value;
-    for sign in signs.iter().rev() {
-        if sign.is_minus {
-            value = negated(value, sign.pos);
-        }
-    }
-    Ok(Thing::Value(Worth {
-        kind: eval.declared.basic.integer,
-        value,
-        is_fixed: false,
-    }))
+    Ok(thing_of(result))
 }
 
 /// An operand with selectors and calls behind it.
 #[cycle(expressions)]
-pub fn selected<'a>(eval: &mut Evaluator<'_, 'a>, value: &Expr<'a>) -> Result<Thing<'a>, NoMemory> {
+fn selected<'a>(eval: &mut Evaluator<'_, 'a>, value: &Expr<'a>) -> Result<Thing<'a>, NoMemory> {
     let Expr::Selected {
         pos,
         operand,
@@ -137,7 +80,7 @@ pub fn selected<'a>(eval: &mut Evaluator<'_, 'a>, value: &Expr<'a>) -> Result<Th
         return Ok(Thing::Bad);
     };
     let mut thing = operand_thing(eval, operand)?;
-    for selector in *selectors {
+    'selectors: for selector in *selectors {
         thing = select(eval, selector, *pos, thing)?;
     }
     Ok(thing)
@@ -153,30 +96,69 @@ fn select<'a>(
     match selector {
         Selector::Dereference(_) => dereference(eval, pos, thing),
         Selector::Member(name) => dot(eval, pos, thing, *name),
-        Selector::Index(_, indexes) => {
-            let mut array = eval.value_of(pos, thing);
-            for index in *indexes {
-                let index = Index {
-                    pos: index.pos(),
-                    worth: expression(eval, index)?,
-                };
-                array = element(eval, pos, array, index)?;
-            }
-            match array {
-                Some(worth) => Ok(Thing::Value(worth)),
-                None => Ok(Thing::Bad),
-            }
-        }
+        Selector::Index(_, _) => indexed(eval, selector, pos, thing),
         Selector::Call(_, _) => call(eval, selector, pos, thing),
+    }
+}
+
+/// An element of an array, or of arrays in arrays.
+#[cycle(expressions)]
+fn indexed<'a>(
+    eval: &mut Evaluator<'_, 'a>,
+    selector: &Selector<'a>,
+    pos: Pos,
+    thing: Thing<'a>,
+) -> Result<Thing<'a>, NoMemory> {
+    let Selector::Index(_, indexes) = selector else {
+        return Ok(Thing::Bad);
+    };
+    let mut array = eval.value_of(pos, thing);
+    'indexes: for index in *indexes {
+        let worth = expression(eval, index)?;
+        let index = Index {
+            pos: index.pos(),
+            worth,
+        };
+        array = element(eval, pos, array, index)?;
+    }
+    Ok(thing_of(array))
+}
+
+/// A call of what stands before the parenthesis.
+#[cycle(expressions)]
+fn call<'a>(
+    eval: &mut Evaluator<'_, 'a>,
+    selector: &Selector<'a>,
+    pos: Pos,
+    thing: Thing<'a>,
+) -> Result<Thing<'a>, NoMemory> {
+    let Selector::Call(_, actuals) = selector else {
+        return Ok(Thing::Bad);
+    };
+    let mut called = begun(eval, pos, thing, actuals)?;
+    if let Called::Wrong = called {
+        return Ok(Thing::Bad);
+    }
+    'actuals: for (place, actual) in actuals.iter().enumerate() {
+        let thing = match actual {
+            Actual::Value(value) | Actual::Named(_, value) => operand_thing(eval, value)?,
+            Actual::Type(kind) => type_thing(eval, kind),
+        };
+        called = with_actual(eval, called, place, actual, thing)?;
+    }
+    given_by(eval, pos, called, actuals)
+}
+
+fn type_thing<'a>(eval: &Evaluator<'_, 'a>, kind: &TypeExp<'a>) -> Thing<'a> {
+    match eval.type_of(kind) {
+        Some(kind) => Thing::Type(kind),
+        None => Thing::Bad,
     }
 }
 
 /// `T {..}`: a set, record or array.
 #[cycle(expressions)]
-pub fn constructor<'a>(
-    eval: &mut Evaluator<'_, 'a>,
-    value: &Expr<'a>,
-) -> Result<Thing<'a>, NoMemory> {
+fn constructor<'a>(eval: &mut Evaluator<'_, 'a>, value: &Expr<'a>) -> Result<Thing<'a>, NoMemory> {
     let Expr::Constructor {
         kind,
         elements,
@@ -190,18 +172,26 @@ pub fn constructor<'a>(
         Some(kind) => kind,
         None => eval.declared.basic.refused,
     };
-    let node = eval.node(kind)?;
-    let mut parts = parts_for(eval, node)?;
-    if let TypeNode::SetOf(base) = node {
-        eval.node(base)?;
-        parts.is_wrong = eval.declared.types.member_count(base) > MOST_MEMBERS;
-    }
-    for element in *elements {
+    let mut parts = parts_for(eval, kind)?;
+    fill(eval, value, &mut parts)?;
+    whole(eval, &mut parts, elements.len(), *is_filled)
+}
+
+/// Adds the elements of a constructor to the parts of what it makes.
+#[cycle(expressions)]
+fn fill<'a>(
+    eval: &mut Evaluator<'_, 'a>,
+    value: &Expr<'a>,
+    parts: &mut Parts<'a>,
+) -> Result<(), NoMemory> {
+    let Expr::Constructor { elements, .. } = value else {
+        return Ok(());
+    };
+    'elements: for element in *elements {
         let part = part_worth(eval, element)?;
-        add_part(eval, &mut parts, kind, node, part)?;
+        add_part(eval, parts, part)?;
     }
-    let is_filled = *is_filled;
-    whole(eval, parts, kind, node, elements.len(), is_filled)
+    Ok(())
 }
 
 /// What an element of a constructor is worth.

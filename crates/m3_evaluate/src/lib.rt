@@ -4,5 +4,6 @@
 
 mod calls;
 mod expressions;
+mod operators;
 
 pub use expressions::expression;

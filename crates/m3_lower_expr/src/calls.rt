@@ -1,77 +1,26 @@
-use crate::actuals::{Passed, emit_actuals, plan_actuals};
-use crate::builder::{Around, Builder};
-use crate::chains::not_nil;
-use crate::conditions::choice;
-use crate::copies::load_words;
-use crate::pending::Pending;
-use crate::places::{Location, Place};
-use crate::values::Value;
+use crate::chains::emit_chain;
+use crate::exprs::emit_value;
+use crate::structures::{emit_structure, structure_into, value_into};
 use m3_base::Pos;
+use m3_builder::{Around, Builder, Pending, Value, form_of, not_nil};
 use m3_core::{Actual as CoreActual, Chain};
-use m3_mid::{Actual, Callee, Kind, MemoryWord, MidOp, Operand, Raised, Relation};
+use m3_mid::Callee;
+use m3_plans::{
+    Passed, PlannedActual, call_with, callee_of, check_method, kind_of_actual, places_of,
+    plan_actuals, signature_of, signature_of_method,
+};
+use m3_shapes::{check_shape, copy_into_cell};
 use m3_storage::Form;
-use m3_types::{Formal, Raises, TypeId, TypeNode};
-
-/// Where the result of a call will be.
-pub fn plan_result(b: &mut Builder, kind: Option<TypeId>) -> Value {
-    let Some(kind) = kind else {
-        return Value::Nothing;
-    };
-    match b.storage.form(kind) {
-        Form::Number => Value::Word(Operand::Temp(b.temp(Kind::Number))),
-        Form::Reference => Value::Word(Operand::Temp(b.temp(Kind::Tidy))),
-        Form::Numbers(count) => Value::Words {
-            first: b.temps(Kind::Number, count),
-            count,
-        },
-        Form::Structure(_) | Form::Open => Value::At(b.buffer(kind)),
-    }
-}
-
-/// What is known of a procedure that is called, by its type.
-#[derive(Clone, Copy)]
-pub struct Signature<'a> {
-    pub formals: &'a [Formal<'a>],
-    pub can_raise: bool,
-}
-
-/// The signature of a procedure type.
-pub fn signature_of<'s>(b: &Builder<'_, 's>, kind: Option<TypeId>) -> Signature<'s> {
-    if let Some(kind) = kind {
-        if let TypeNode::Procedure(formals, _, raises) = b.storage.node(kind) {
-            let can_raise = match raises {
-                Raises::Any => true,
-                Raises::Only(exceptions) => !exceptions.is_empty(),
-            };
-            return Signature { formals, can_raise };
-        }
-    }
-    Signature {
-        formals: &[],
-        can_raise: true,
-    }
-}
-
-/// The signature of a method, by the object type whose part declares it.
-fn signature_of_method<'s>(b: &Builder<'_, 's>, owner: TypeId, method: u32) -> Signature<'s> {
-    let kind = match b.storage.node(owner) {
-        TypeNode::Object(_, _, _, methods, _) => match methods.get(method as usize) {
-            Some(method) => Some(method.signature),
-            None => None,
-        },
-        _ => None,
-    };
-    signature_of(b, kind)
-}
+use m3_types::{Formal, TypeId};
 
 /// Code for the call of a procedure value, which is evaluated already.
 #[cycle(expressions)]
 pub fn emit_call<'m>(
     b: &mut Builder<'m, '_>,
     around: Around<'m>,
-    chain: &Chain,
-    kind: Option<TypeId>,
     actuals: &[CoreActual],
+    pos: Pos,
+    kind: Option<TypeId>,
     kind_of_result: Option<TypeId>,
     before: Value,
     after: Value,
@@ -81,45 +30,21 @@ pub fn emit_call<'m>(
     let (callee, is_known) = callee_of(before);
     let passed = plan_actuals(b, signature.formals, actuals, None);
     let can_raise = signature.can_raise;
-    let code = call_with(b, around, callee, &passed, can_raise, after, kind_of_result, rest);
+    let code = call_with(
+        b,
+        around,
+        callee,
+        &passed,
+        can_raise,
+        after,
+        kind_of_result,
+        rest,
+    );
     let code = emit_actuals(b, around, actuals, signature.formals, &passed, code);
     if is_known {
         code
     } else {
-        code.after(not_nil(before.word(), chain.pos))
-    }
-}
-
-fn callee_of(before: Value) -> (Callee, bool) {
-    match before {
-        Value::Known {
-            procedure,
-            environment: None,
-        } => (Callee::Outermost(procedure), true),
-        Value::Known {
-            procedure,
-            environment: Some(environment),
-        } => (
-            Callee::Inner {
-                procedure,
-                environment,
-            },
-            true,
-        ),
-        Value::Words { first, .. } => (
-            Callee::Value {
-                code: first,
-                environment: first.wrapping_add(1),
-            },
-            false,
-        ),
-        Value::Nothing | Value::Word(_) | Value::At(_) => (
-            Callee::Value {
-                code: 0,
-                environment: 0,
-            },
-            false,
-        ),
+        code.after(not_nil(before.word(), pos))
     }
 }
 
@@ -128,10 +53,10 @@ fn callee_of(before: Value) -> (Callee, bool) {
 pub fn emit_method<'m>(
     b: &mut Builder<'m, '_>,
     around: Around<'m>,
+    actuals: &[CoreActual],
     pos: Pos,
     owner: TypeId,
     method: u32,
-    actuals: &[CoreActual],
     kind_of_result: Option<TypeId>,
     before: Value,
     after: Value,
@@ -146,168 +71,101 @@ pub fn emit_method<'m>(
     let passed = plan_actuals(b, signature.formals, actuals, Some(object));
     let callee = Callee::Method(place);
     let can_raise = signature.can_raise;
-    let code = call_with(b, around, callee, &passed, can_raise, after, kind_of_result, rest);
-    let code = emit_actuals(b, around, actuals, signature.formals, &passed, code);
-    let code = match object {
-        Operand::Temp(object) => {
-            let bound = b.temp(Kind::Number);
-            let code = code.after(not_nil(Operand::Temp(bound), pos));
-            code.after(MidOp::MethodOf {
-                to: bound,
-                object,
-                method: place,
-            })
-        }
-        Operand::Number(_) => code,
-    };
-    code.after(not_nil(object, pos))
-}
-
-/// What is done with a result behind a call.
-struct Received<'m> {
-    /// The temporary of a result of one word.
-    word: Option<u32>,
-    /// The temporary for the address at which a wider one is wanted, and the slot there.
-    buffer: Option<(u32, u32)>,
-    code: Pending<'m>,
-}
-
-/// The call itself, with what becomes of its result and of an exception.
-fn call_with<'m>(
-    b: &mut Builder<'m, '_>,
-    around: Around<'m>,
-    callee: Callee,
-    passed: &Passed,
-    can_raise: bool,
-    after: Value,
-    kind: Option<TypeId>,
-    rest: Pending<'m>,
-) -> Pending<'m> {
-    let Received { word, buffer, code } = received(b, after, kind, rest);
-    let raised = if can_raise { Some(b.raised) } else { None };
-    let code = match raised {
-        Some(raised) => unless_raised(b, around, raised, code),
-        None => code,
-    };
-    let actuals = actual_row(b, passed, buffer);
-    let code = code.after(MidOp::Call {
-        callee,
-        actuals,
-        result: word,
-        raised,
-        shown: around.shown,
-    });
-    let code = match buffer {
-        Some((to, slot)) => code.after(MidOp::SlotAddress { to, slot }),
-        None => code,
-    };
-    passed.put_addresses(code)
-}
-
-/// The row of actuals of a call, with the address of a wide result behind them.
-fn actual_row<'m>(
-    b: &mut Builder<'m, '_>,
-    passed: &Passed,
-    buffer: Option<(u32, u32)>,
-) -> &'m [Actual] {
-    let Some((address, _)) = buffer else {
-        return b.actual_row(passed.row.as_slice());
-    };
-    let mut row = Vec::new(b.alloc);
-    for actual in &passed.row {
-        if row.push(*actual).is_err() {
-            b.fail();
-        }
-    }
-    if row.push(Actual::Word(Operand::Temp(address))).is_err() {
-        b.fail();
-    }
-    b.actual_row(row.as_slice())
-}
-
-/// Goes on where no exception was raised.
-pub fn unless_raised<'m>(
-    b: &mut Builder<'m, '_>,
-    around: Around<'m>,
-    raised: Raised,
-    rest: Pending<'m>,
-) -> Pending<'m> {
-    let next = b.seal(rest);
-    choice(
+    let code = call_with(
         b,
-        Relation::NotEqual,
-        Operand::Temp(raised.exception),
-        Operand::Number(0),
-        around.raised,
-        next,
-    )
+        around,
+        callee,
+        &passed,
+        can_raise,
+        after,
+        kind_of_result,
+        rest,
+    );
+    let code = emit_actuals(b, around, actuals, signature.formals, &passed, code);
+    check_method(b, object, place, pos, code)
 }
 
-fn received<'m>(
+/// Code for the actuals in the order of evaluation, and behind them the copies of open arrays in
+/// the order of the formals.
+#[cycle(expressions)]
+fn emit_actuals<'m>(
     b: &mut Builder<'m, '_>,
-    after: Value,
-    kind: Option<TypeId>,
+    around: Around<'m>,
+    actuals: &[CoreActual],
+    formals: &[Formal],
+    passed: &Passed,
     rest: Pending<'m>,
-) -> Received<'m> {
-    match after {
-        Value::Word(Operand::Temp(to)) => Received {
-            word: Some(to),
-            buffer: None,
-            code: rest,
-        },
-        Value::Words { first, count } => {
-            let slot = b.result_slots(count);
-            let from = Place::plain(Location::Slots(slot));
-            let code = load_words(b, first, count, from, rest);
-            let address = b.temp(Kind::Number);
-            Received {
-                word: None,
-                buffer: Some((address, slot)),
-                code,
+) -> Pending<'m> {
+    let mut code = rest;
+    let places = places_of(b, formals.len(), actuals);
+    for place in places.iter().rev() {
+        if let Some(actual) = actuals.get(*place as usize) {
+            if let Some(PlannedActual::NewCell { from, cell }) = passed
+                .planned
+                .get(*place as usize)
+            {
+                code = copy_into_cell(b, around, kind_of_actual(actual), *from, *cell, code);
             }
         }
-        Value::At(place) => received_at(b, place, kind, rest),
-        Value::Nothing | Value::Word(Operand::Number(_)) | Value::Known { .. } => Received {
-            word: None,
-            buffer: None,
-            code: rest,
+    }
+    for place in (0..actuals.len()).rev() {
+        if let (Some(actual), Some(planned)) = (actuals.get(place), passed.planned.get(place)) {
+            code = emit_actual(b, around, actual, *planned, code);
+        }
+    }
+    code
+}
+
+#[cycle(expressions)]
+fn emit_actual<'m>(
+    b: &mut Builder<'m, '_>,
+    around: Around<'m>,
+    actual: &CoreActual,
+    planned: PlannedActual,
+    rest: Pending<'m>,
+) -> Pending<'m> {
+    match actual {
+        CoreActual::Place {
+            kind,
+            place,
+            checks_shape,
+            ..
+        } => emit_place(b, around, *kind, place, *checks_shape, rest),
+        CoreActual::Value { kind, value, .. } => match planned {
+            PlannedActual::Scalar(planned) => emit_value(b, around, value, planned, rest),
+            PlannedActual::Copied { at, is_made, .. } => {
+                if is_made {
+                    emit_structure(b, around, value, at, rest)
+                } else {
+                    structure_into(b, around, value, *kind, at, rest)
+                }
+            }
+            PlannedActual::NewCell { from, .. } => emit_structure(b, around, value, from, rest),
+            PlannedActual::Reference { place, .. } | PlannedActual::NewVariable { place, .. } => {
+                match form_of(b, value) {
+                    Form::Open => emit_structure(b, around, value, place, rest),
+                    _ if place.dims > 0 => emit_structure(b, around, value, place, rest),
+                    _ => value_into(b, around, value, *kind, place, rest),
+                }
+            }
         },
     }
 }
 
-fn received_at<'m>(
+#[cycle(expressions)]
+fn emit_place<'m>(
     b: &mut Builder<'m, '_>,
-    place: Place,
-    kind: Option<TypeId>,
+    around: Around<'m>,
+    kind: TypeId,
+    chain: &Chain,
+    checks_shape: bool,
     rest: Pending<'m>,
-) -> Received<'m> {
-    let words = match kind {
-        Some(kind) => b.storage.words(kind),
-        None => 0,
+) -> Pending<'m> {
+    let at = b.top_stage().place();
+    let code = if checks_shape {
+        check_shape(b, chain.pos, kind, chain.kind, at, rest)
+    } else {
+        rest
     };
-    match (place.at, words) {
-        (Location::Slots(slot), 1) => {
-            let kind = b.slot_kind(slot);
-            let to = b.temp(kind);
-            let code = rest.after(MidOp::Store {
-                at: MemoryWord::Slot(slot),
-                from: Operand::Temp(to),
-            });
-            Received {
-                word: Some(to),
-                buffer: None,
-                code,
-            }
-        }
-        (Location::Slots(slot), 2..) => Received {
-            word: None,
-            buffer: Some((b.temp(Kind::Number), slot)),
-            code: rest,
-        },
-        _ => Received {
-            word: None,
-            buffer: None,
-            code: rest,
-        },
-    }
+    emit_chain(b, around, chain, code)
 }

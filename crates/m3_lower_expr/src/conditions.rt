@@ -1,64 +1,14 @@
-use crate::builder::{Around, Builder};
-use crate::compare::ordered;
-use crate::exprs::tested;
-use crate::operators::fold_before;
-use crate::pending::Pending;
-use crate::values::{fetch, source};
-use m3_core::{Compared, CoreExpr, Operation, Operator, Prefix, PrefixOperator};
-use m3_mid::{End, Operand, Relation};
+use crate::exprs::fetch;
+use crate::rows::{emit_before, operations_into};
+use m3_builder::{Around, Builder, Pending, Value, choice};
+use m3_core::{Compared, CoreExpr, Operator};
+use m3_mid::{Kind, Operand, Relation};
+use m3_operators::{is_short, is_turned, ordered, tested};
+use m3_plans::fold_before;
+use m3_variables::source;
 
-/// Whether a row of operators is one of AND or OR.
-pub fn is_short(row: &[Operation]) -> bool {
-    match row.first() {
-        Some(operation) => matches!(operation.operator, Operator::And | Operator::Or),
-        None => false,
-    }
-}
-
-/// Code that goes on at one of two blocks by a relation.
-pub fn choice<'m>(
-    b: &Builder<'m, '_>,
-    relation: Relation,
-    left: Operand,
-    right: Operand,
-    yes: u32,
-    no: u32,
-) -> Pending<'m> {
-    if yes == no {
-        return b.goto(yes);
-    }
-    if let (Operand::Number(x), Operand::Number(y)) = (left, right) {
-        return if holds(relation, x, y) {
-            b.goto(yes)
-        } else {
-            b.goto(no)
-        };
-    }
-    Pending::bare(
-        b.alloc,
-        End::If {
-            relation,
-            left,
-            right,
-            yes,
-            no,
-        },
-    )
-}
-
-/// Whether a relation holds between two numbers.
-pub fn holds(relation: Relation, x: i64, y: i64) -> bool {
-    match relation {
-        Relation::Equal => x == y,
-        Relation::NotEqual => x != y,
-        Relation::Less => x < y,
-        Relation::LessEqual => x <= y,
-        Relation::LessUnsigned => x.cast_unsigned() < y.cast_unsigned(),
-        Relation::LessEqualUnsigned => x.cast_unsigned() <= y.cast_unsigned(),
-    }
-}
-
-/// Code that evaluates a BOOLEAN expression and goes on at one block where it is TRUE, else at another.
+/// Code that evaluates a BOOLEAN expression and goes on at one block where it is TRUE, else at
+/// another.
 #[cycle(expressions)]
 pub fn condition<'m>(
     b: &mut Builder<'m, '_>,
@@ -68,15 +18,11 @@ pub fn condition<'m>(
     no: u32,
 ) -> Pending<'m> {
     match e {
-        CoreExpr::Number { value, .. } => {
-            if *value != 0 {
-                b.goto(yes)
-            } else {
-                b.goto(no)
-            }
-        }
+        CoreExpr::Number { value, .. } => { if *value != 0 { b.goto(yes) } else { b.goto(no) } }
         CoreExpr::Prefixed {
-            operators, operand, ..
+            operators,
+            operand,
+            ..
         } => {
             if is_turned(operators) {
                 condition(b, around, operand, no, yes)
@@ -84,7 +30,7 @@ pub fn condition<'m>(
                 condition(b, around, operand, yes, no)
             }
         }
-        CoreExpr::Operations { first, rest, .. } => row_condition(b, around, first, rest, yes, no),
+        CoreExpr::Operations { .. } => row_condition(b, around, e, yes, no),
         CoreExpr::TypeTest {
             operand,
             tested: kind,
@@ -111,67 +57,62 @@ fn word_condition<'m>(
     fetch(b, around, e, value, code)
 }
 
-/// Whether an odd number of NOTs stands before an operand.
-fn is_turned(operators: &[Prefix]) -> bool {
-    let mut turned = false;
-    for prefix in operators {
-        if prefix.operator == PrefixOperator::Not {
-            turned = !turned;
-        }
-    }
-    turned
-}
-
 #[cycle(expressions)]
 fn row_condition<'m>(
     b: &mut Builder<'m, '_>,
     around: Around<'m>,
-    first: &CoreExpr,
-    row: &[Operation],
+    e: &CoreExpr,
     yes: u32,
     no: u32,
 ) -> Pending<'m> {
+    let CoreExpr::Operations {
+        first,
+        rest: row,
+        ..
+    } = e
+    else {
+        return b.goto(no);
+    };
     if is_short(row) {
-        return short_condition(b, around, first, row, yes, no);
+        return short_condition(b, around, e, yes, no);
     }
-    let Some((last, before)) = row.split_last() else {
+    let count = row.len().saturating_sub(1);
+    let Some(last) = row.get(count) else {
         return b.goto(no);
     };
     if let Operator::Compare(relation, Compared::Ordinals | Compared::References) = last.operator {
-        let (left, lefts) = fold_before(b, first, before);
+        let (left, lefts) = fold_before(b, first, row, count);
         let right = source(b, last.right);
         let (relation, x, y) = ordered(relation, left, right);
         let code = choice(b, relation, x, y, yes, no);
         let code = fetch(b, around, last.right, right, code);
-        return crate::operators::emit_before(b, around, first, before, lefts, left, code);
+        return emit_before(b, around, e, count, &lefts, left, code);
     }
-    let value = Operand::Temp(b.temp(m3_mid::Kind::Number));
+    let value = Operand::Temp(b.temp(Kind::Number));
     let code = choice(b, Relation::NotEqual, value, Operand::Number(0), yes, no);
-    crate::operators::operations_into(
-        b,
-        around,
-        first,
-        row,
-        crate::values::Value::Word(value),
-        code,
-    )
+    operations_into(b, around, e, Value::Word(value), code)
 }
 
 /// A row of AND or OR: each operand is evaluated only where those before it haven't decided.
 #[cycle(expressions)]
-fn short_condition<'m>(
+pub fn short_condition<'m>(
     b: &mut Builder<'m, '_>,
     around: Around<'m>,
-    first: &CoreExpr,
-    row: &[Operation],
+    e: &CoreExpr,
     yes: u32,
     no: u32,
 ) -> Pending<'m> {
+    let CoreExpr::Operations {
+        first,
+        rest: row,
+        ..
+    } = e
+    else {
+        return b.goto(no);
+    };
     let mut next_yes = yes;
     let mut next_no = no;
-    let mut place = row.len();
-    while place > 0 {
-        place -= 1;
+    for place in (0..row.len()).rev() {
         if let Some(operation) = row.get(place) {
             let code = condition(b, around, operation.right, next_yes, next_no);
             let block = b.seal(code);

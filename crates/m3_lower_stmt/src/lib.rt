@@ -1,15 +1,11 @@
-//! Statements and procedures lowered to middle code, backward (the report, section 2.3).
+//! Statements and procedures lowered to middle code, backward: the code that follows is handed in.
 #![tactic(auto)]
 
-mod assignments;
+mod blocks;
 mod branches;
 mod exceptions;
-mod exits;
-mod finishing;
-mod landings;
 mod loops;
 mod procs;
-mod scopes;
 mod statements;
 
 pub use procs::lower_proc;

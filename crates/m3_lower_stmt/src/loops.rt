@@ -1,46 +1,35 @@
-use crate::exits::Exits;
-use crate::landings::clear_inside;
-use crate::scopes::{place_of, showing};
 use crate::statements::statements;
-use m3_core::{CoreExpr, CoreStmt};
-use m3_lower_expr::{
-    Builder, Location, Pending, arith, choice, condition, into_temp, ready, set, store_word,
-};
-use m3_mid::{Kind, MidOp, Operand, Relation, WordOperator};
+use m3_builder::{Builder, Location, Pending, store_word};
+use m3_core::CoreStmt;
+use m3_exits::{Exits, clear_inside, place_of, showing};
+use m3_lower_expr::condition;
+use m3_mid::{Kind, MidOp, Operand};
+use m3_simple_stmts::{Course, begin, first_test, limit, pace_of, turned};
 
-/// A step of FOR, as far as it is known.
-#[derive(Clone, Copy)]
-enum Pace {
-    Known(i64),
-    Temp(u32),
-}
-
-/// The parts of a FOR that its code names over and over.
-#[derive(Clone, Copy)]
-struct Course {
-    index: u32,
-    last: Operand,
-    pace: Pace,
-    head: u32,
-    exit: u32,
-}
-
-/// FOR: first, last and step once; the body with its point while the variable hasn't passed the last.
+/// FOR: first, last and step once; the body with its point while the variable hasn't passed the
+/// last.
 #[cycle(statements)]
 pub fn for_loop<'m>(
     b: &mut Builder<'m, '_>,
     exits: Exits<'m>,
-    variable: u32,
-    first: &CoreExpr,
-    last: &CoreExpr,
-    step: Option<&CoreExpr>,
-    body: &[CoreStmt],
+    s: &CoreStmt,
     rest: Pending<'m>,
 ) -> Pending<'m> {
+    let CoreStmt::For {
+        variable,
+        first,
+        last,
+        step,
+        body,
+        ..
+    } = s
+    else {
+        return rest;
+    };
     let after = clear_inside(b, body, rest);
     let exit = b.seal(after);
     let head = b.reserve();
-    let place = place_of(b, variable);
+    let place = place_of(b, *variable);
     let index = match place.at {
         Location::Temps(temp) => temp,
         _ => b.temp(Kind::Number),
@@ -48,13 +37,13 @@ pub fn for_loop<'m>(
     let course = Course {
         index,
         last: limit(b, last),
-        pace: pace_of(b, step),
+        pace: pace_of(b, *step),
         head,
         exit,
     };
     let inside = Exits {
         exit,
-        ..showing(b, exits, &[variable])
+        ..showing(b, exits, &[*variable])
     };
     let turn = turned(b, course).after(MidOp::Point {
         shown: inside.around.shown,
@@ -66,166 +55,7 @@ pub fn for_loop<'m>(
     };
     b.set(head, code);
     let code = first_test(b, course);
-    begin(b, exits, course, first, last, step, code)
-}
-
-/// Code for first, last and step in order.
-fn begin<'m>(
-    b: &mut Builder<'m, '_>,
-    exits: Exits<'m>,
-    course: Course,
-    first: &CoreExpr,
-    last: &CoreExpr,
-    step: Option<&CoreExpr>,
-    rest: Pending<'m>,
-) -> Pending<'m> {
-    let code = match (step, course.pace) {
-        (Some(step), Pace::Temp(to)) => evaluated(b, exits, step, to, rest),
-        _ => rest,
-    };
-    let code = match course.last {
-        Operand::Temp(to) => evaluated(b, exits, last, to, code),
-        Operand::Number(_) => code,
-    };
-    evaluated(b, exits, first, course.index, code)
-}
-
-fn evaluated<'m>(
-    b: &mut Builder<'m, '_>,
-    exits: Exits<'m>,
-    e: &CoreExpr,
-    to: u32,
-    rest: Pending<'m>,
-) -> Pending<'m> {
-    match ready(b, e) {
-        Some(operand) => set(to, operand, rest),
-        None => into_temp(b, exits.around, e, to, rest),
-    }
-}
-
-/// The last value: a number, or a temporary of its own, since the body may set a variable.
-fn limit(b: &mut Builder, last: &CoreExpr) -> Operand {
-    match ready(b, last) {
-        Some(Operand::Number(number)) => Operand::Number(number),
-        _ => Operand::Temp(b.temp(Kind::Number)),
-    }
-}
-
-fn pace_of(b: &mut Builder, step: Option<&CoreExpr>) -> Pace {
-    let Some(step) = step else {
-        return Pace::Known(1);
-    };
-    match ready(b, step) {
-        Some(Operand::Number(number)) => Pace::Known(number),
-        _ => Pace::Temp(b.temp(Kind::Number)),
-    }
-}
-
-/// Goes to the first turn, or out where there is none.
-fn first_test<'m>(b: &mut Builder<'m, '_>, course: Course) -> Pending<'m> {
-    let index = Operand::Temp(course.index);
-    let (head, exit) = (course.head, course.exit);
-    match course.pace {
-        Pace::Known(step) if step >= 0 => {
-            choice(b, Relation::LessEqual, index, course.last, head, exit)
-        }
-        Pace::Known(_) => choice(b, Relation::LessEqual, course.last, index, head, exit),
-        Pace::Temp(step) => {
-            let up = choice(b, Relation::LessEqual, index, course.last, head, exit);
-            let up = b.seal(up);
-            let down = choice(b, Relation::LessEqual, course.last, index, head, exit);
-            let down = b.seal(down);
-            choice(
-                b,
-                Relation::Less,
-                Operand::Temp(step),
-                Operand::Number(0),
-                down,
-                up,
-            )
-        }
-    }
-}
-
-/// Goes to the next turn, or out where the next value would pass the last one or leave INTEGER.
-fn turned<'m>(b: &mut Builder<'m, '_>, course: Course) -> Pending<'m> {
-    let index = Operand::Temp(course.index);
-    match course.pace {
-        Pace::Known(0) => b.goto(course.head),
-        Pace::Known(1) => {
-            let next = stepped(b, course, Operand::Number(1));
-            choice(b, Relation::Less, index, course.last, next, course.exit)
-        }
-        Pace::Known(-1) => {
-            let next = stepped(b, course, Operand::Number(-1));
-            choice(b, Relation::Less, course.last, index, next, course.exit)
-        }
-        Pace::Known(step) => {
-            let next = stepped(b, course, Operand::Number(step));
-            let width = Operand::Number(step.wrapping_abs());
-            further(b, course, step >= 0, width, next)
-        }
-        Pace::Temp(step) => turned_by(b, course, step),
-    }
-}
-
-fn turned_by<'m>(b: &mut Builder<'m, '_>, course: Course, step: u32) -> Pending<'m> {
-    let next = stepped(b, course, Operand::Temp(step));
-    let up = further(b, course, true, Operand::Temp(step), next);
-    let up = b.seal(up);
-    let width = b.temp(Kind::Number);
-    let down = further(b, course, false, Operand::Temp(width), next).after(arith(
-        width,
-        WordOperator::Subtract,
-        Operand::Number(0),
-        Operand::Temp(step),
-    ));
-    let down = b.seal(down);
-    choice(
-        b,
-        Relation::Less,
-        Operand::Temp(step),
-        Operand::Number(0),
-        down,
-        up,
-    )
-}
-
-/// The block that sets the variable for the next turn.
-fn stepped(b: &mut Builder, course: Course, by: Operand) -> u32 {
-    let code = b.goto(course.head).after(arith(
-        course.index,
-        WordOperator::Add,
-        Operand::Temp(course.index),
-        by,
-    ));
-    b.seal(code)
-}
-
-/// Goes to the next turn where the distance to the last value is at least the step's width, else out.
-fn further<'m>(
-    b: &mut Builder<'m, '_>,
-    course: Course,
-    is_up: bool,
-    width: Operand,
-    next: u32,
-) -> Pending<'m> {
-    let index = Operand::Temp(course.index);
-    let (left, right) = if is_up {
-        (course.last, index)
-    } else {
-        (index, course.last)
-    };
-    let distance = b.temp(Kind::Number);
-    let code = choice(
-        b,
-        Relation::LessUnsigned,
-        Operand::Temp(distance),
-        width,
-        course.exit,
-        next,
-    );
-    code.after(arith(distance, WordOperator::Subtract, left, right))
+    begin(b, exits, course, first, last, *step, code)
 }
 
 /// LOOP: the body with its point, for ever.
@@ -253,10 +83,17 @@ pub fn plain_loop<'m>(
 pub fn while_loop<'m>(
     b: &mut Builder<'m, '_>,
     exits: Exits<'m>,
-    test: &CoreExpr,
-    body: &[CoreStmt],
+    s: &CoreStmt,
     rest: Pending<'m>,
 ) -> Pending<'m> {
+    let CoreStmt::While {
+        condition: test,
+        body,
+        ..
+    } = s
+    else {
+        return rest;
+    };
     let after = clear_inside(b, body, rest);
     let exit = b.seal(after);
     let head = b.reserve();
@@ -276,10 +113,17 @@ pub fn while_loop<'m>(
 pub fn repeat_loop<'m>(
     b: &mut Builder<'m, '_>,
     exits: Exits<'m>,
-    body: &[CoreStmt],
-    test: &CoreExpr,
+    s: &CoreStmt,
     rest: Pending<'m>,
 ) -> Pending<'m> {
+    let CoreStmt::Repeat {
+        body,
+        condition: test,
+        ..
+    } = s
+    else {
+        return rest;
+    };
     let after = clear_inside(b, body, rest);
     let exit = b.seal(after);
     let head = b.reserve();

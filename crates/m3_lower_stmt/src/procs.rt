@@ -1,21 +1,15 @@
-use crate::exits::{Exits, Outcome, Returning};
-use crate::scopes::showing;
 use crate::statements::statements;
 use bumpalo::Bump;
-use m3_base::{FaultKind, NoMemory};
-use m3_core::{CoreExpr, ProcDef, VarDef, VarKind};
-use m3_lower_expr::{
-    Around, Builder, Location, Pending, Place, choice, dims_of, emit_value, kind_of, kind_of_form,
-    plan_value, store_default, store_value,
-};
-use m3_mid::{End, Kind, MemoryWord, MidOp, Operand, Proc, Raised, Relation};
-use m3_storage::{
-    Form, Storage, VarPlace, number_of, stores_result, word_number, words_of_variable,
-};
+use m3_base::NoMemory;
+use m3_builder::Builder;
+use m3_exits::{declare, ending, exits_of, first_moves};
+use m3_mid::Proc;
+use m3_simple_stmts::init_globals;
+use m3_storage::Storage;
 use std::alloc::Global;
 
-/// The middle code of a procedure of the program, by its number. The module body that runs first gives
-/// all global variables their defaults and their constants before anything else.
+/// The middle code of a procedure of the program, by its number. The module body that runs first
+/// gives all global variables their defaults and their constants before anything else.
 pub fn lower_proc<'m>(
     alloc: Global,
     arena: &'m Bump,
@@ -31,235 +25,11 @@ pub fn lower_proc<'m>(
     let code = ending(&b, proc);
     let code = statements(&mut b, exits, proc.body, code);
     let code = if storage.core.order.first() == Some(&number) {
-        globals(&mut b, exits.around, code)
+        init_globals(&mut b, exits.around, code)
     } else {
         code
     };
-    let code = entry(&b, proc, code);
+    let code = first_moves(&b, proc, code);
     let formals = storage.room(number).formals;
     b.finish(code, formals)
-}
-
-/// What stands behind the body: a function's END is a fault.
-fn ending<'m>(b: &Builder<'m, '_>, proc: &ProcDef) -> Pending<'m> {
-    match proc.result {
-        Some(_) => b.fault(FaultKind::NoReturn, proc.end),
-        None => Pending::bare(b.alloc, End::Return { value: None }),
-    }
-}
-
-/// The temporaries and slots of the variables, in the order of their places.
-fn declare(b: &mut Builder, proc: &ProcDef) {
-    let mut variable = 0u32;
-    for formal in proc.formals {
-        add_formal(b, variable, formal);
-        variable = variable.saturating_add(1);
-    }
-    if stores_result(&b.storage.core.types, proc) {
-        b.slot(Kind::Number, false);
-    }
-    for local in proc.locals {
-        add_local(b, variable, local);
-        variable = variable.saturating_add(1);
-    }
-    b.raised = Raised {
-        exception: b.temp(Kind::Number),
-        number: b.temp(Kind::Number),
-        tidy: b.temp(Kind::Tidy),
-    };
-}
-
-fn add_formal(b: &mut Builder, variable: u32, formal: &VarDef) {
-    let is_shared = b.storage.is_shared(b.number, variable);
-    match formal.kind {
-        VarKind::ByVar(t) | VarKind::ByReadonly(t) => {
-            b.slot(Kind::Address, is_shared);
-            b.slot(Kind::Tidy, is_shared);
-            for _ in 0..dims_of(b, t) {
-                b.slot(Kind::Number, is_shared);
-            }
-        }
-        VarKind::ByValue(t) | VarKind::Variable(t) | VarKind::Alias(t) => {
-            match b.storage.form(t) {
-                Form::Open => {
-                    b.slot(Kind::Tidy, is_shared);
-                }
-                Form::Structure(_) => b.add_value(t),
-                form => add_slots(b, form, is_shared),
-            }
-        }
-    }
-    if let VarPlace::Temps(_) = b.storage.place(b.number, variable) {
-        add_temps(b, formal);
-    }
-}
-
-fn add_slots(b: &mut Builder, form: Form, is_shared: bool) {
-    for _ in 0..form.words() {
-        b.slot(kind_of_form(form), is_shared);
-    }
-}
-
-fn add_local(b: &mut Builder, variable: u32, local: &VarDef) {
-    match b.storage.place(b.number, variable) {
-        VarPlace::Temps(_) => add_temps(b, local),
-        VarPlace::Slots(_) => {
-            let t = b.storage.type_of(local);
-            match (local.kind, b.storage.form(t)) {
-                (VarKind::Alias(_), _) | (_, Form::Open) => {
-                    b.slot(Kind::Tidy, true);
-                    b.slot(Kind::Number, true);
-                    for _ in 0..dims_of(b, t) {
-                        b.slot(Kind::Number, true);
-                    }
-                }
-                (_, Form::Structure(_)) => b.add_value(t),
-                (_, form) => add_slots(b, form, true),
-            }
-        }
-    }
-}
-
-fn add_temps(b: &mut Builder, variable: &VarDef) {
-    let t = b.storage.type_of(variable);
-    let form = b.storage.form(t);
-    let is_alias = matches!(variable.kind, VarKind::Alias(_));
-    if is_alias || form == Form::Open {
-        b.temp(Kind::Address);
-        b.temp(Kind::Tidy);
-        for _ in 0..dims_of(b, t) {
-            b.temp(Kind::Number);
-        }
-        return;
-    }
-    for _ in 0..form.words() {
-        b.temp(kind_of_form(form));
-    }
-}
-
-/// Loads the formals that temporaries keep.
-fn entry<'m>(b: &Builder<'m, '_>, proc: &ProcDef, rest: Pending<'m>) -> Pending<'m> {
-    let mut code = rest;
-    let mut slot = 0u32;
-    for (variable, formal) in proc.formals.iter().enumerate() {
-        let words = word_number(words_of_variable(&b.storage.core.types, formal.kind));
-        if let VarPlace::Temps(first) = b.storage.place(b.number, number_of(variable)) {
-            for word in 0..words {
-                code = code.after(MidOp::Load {
-                    to: first.wrapping_add(word),
-                    from: MemoryWord::Slot(slot.wrapping_add(word)),
-                });
-            }
-        }
-        slot = slot.wrapping_add(words);
-    }
-    code
-}
-
-/// The exits of a procedure's body.
-fn exits_of<'m>(b: &mut Builder<'m, '_>, proc: &ProcDef) -> Exits<'m> {
-    let outcome = outcome_of(b, proc);
-    let raised = left_by_exception(b, proc);
-    let exits = Exits {
-        around: Around {
-            shown: &[],
-            raised,
-        },
-        exit: raised,
-        returning: Returning::Ends,
-        outcome,
-    };
-    let mut formals = Vec::new(b.alloc);
-    for variable in 0..proc.formals.len() {
-        if formals.push(number_of(variable)).is_err() {
-            b.fail();
-        }
-    }
-    showing(b, exits, formals.as_slice())
-}
-
-fn outcome_of(b: &mut Builder, proc: &ProcDef) -> Outcome {
-    let Some(kind) = proc.result else {
-        return Outcome::Nothing;
-    };
-    let form = b.storage.form(kind);
-    match form.words() {
-        0 => Outcome::Nothing,
-        1 => {
-            let is_tidy = crate::exceptions::is_reference_word(b, kind);
-            let word = if is_tidy { Kind::Tidy } else { Kind::Number };
-            Outcome::Word {
-                temp: b.temp(word),
-                kind,
-            }
-        }
-        _ => Outcome::Wide {
-            slot: b.storage.room(b.number).formals.saturating_sub(1),
-            kind,
-        },
-    }
-}
-
-/// The block that leaves the procedure by an exception, or faults where its heading lacks it.
-fn left_by_exception(b: &mut Builder, proc: &ProcDef) -> u32 {
-    let travels = b.raised;
-    let leaving = Pending::bare(
-        b.alloc,
-        End::Raise {
-            exception: Operand::Temp(travels.exception),
-            number: Operand::Temp(travels.number),
-            tidy: Operand::Temp(travels.tidy),
-        },
-    );
-    let Some(raises) = proc.raises else {
-        return b.seal(leaving);
-    };
-    let leave = b.seal(leaving);
-    let mut code = b.fault(FaultKind::Raises, proc.pos);
-    for exception in raises.iter().rev() {
-        let no = b.seal(code);
-        code = choice(
-            b,
-            Relation::Equal,
-            Operand::Temp(travels.exception),
-            Operand::Number(i64::from(*exception).wrapping_add(1)),
-            leave,
-            no,
-        );
-    }
-    b.seal(code)
-}
-
-/// Gives all global variables their defaults, and interface variables their constants.
-fn globals<'m>(b: &mut Builder<'m, '_>, around: Around<'m>, rest: Pending<'m>) -> Pending<'m> {
-    let mut code = rest;
-    let core = b.storage.core;
-    for (variable, global) in core.globals.iter().enumerate().rev() {
-        if let Some(initial) = global.initial {
-            let place = global_place(b, number_of(variable));
-            code = stored(b, around, initial, place, code);
-        }
-    }
-    for (variable, global) in core.globals.iter().enumerate().rev() {
-        let place = global_place(b, number_of(variable));
-        let kind = b.storage.type_of(global);
-        code = store_default(b, kind, place, true, code);
-    }
-    code
-}
-
-fn global_place(b: &Builder, variable: u32) -> Place {
-    Place::plain(Location::Globals(b.storage.global(variable)))
-}
-
-fn stored<'m>(
-    b: &mut Builder<'m, '_>,
-    around: Around<'m>,
-    e: &CoreExpr,
-    to: Place,
-    rest: Pending<'m>,
-) -> Pending<'m> {
-    let planned = plan_value(b, e);
-    let code = store_value(b, planned, kind_of(e), to, rest);
-    emit_value(b, around, e, planned, code)
 }

@@ -1,12 +1,12 @@
-use crate::assignments::{assign, change, evaluate};
+use crate::blocks::{block, with};
 use crate::branches::{case_of, if_arms, type_case};
-use crate::exceptions::{raise, return_value, try_except};
-use crate::exits::Exits;
-use crate::finishing::try_finally;
+use crate::exceptions::{try_except, try_finally};
 use crate::loops::{for_loop, plain_loop, repeat_loop, while_loop};
-use crate::scopes::{block, with};
-use m3_core::{Chain, CoreStmt};
-use m3_lower_expr::{Builder, Pending, builtin_into, emit_chain, plan_chain};
+use m3_builder::{Builder, Pending};
+use m3_core::CoreStmt;
+use m3_exits::Exits;
+use m3_lower_expr::builtin_into;
+use m3_simple_stmts::{assign, called, change, evaluate, raise, return_value};
 
 /// Code for a row of statements.
 #[cycle(statements)]
@@ -17,9 +17,7 @@ pub fn statements<'m>(
     rest: Pending<'m>,
 ) -> Pending<'m> {
     let mut code = rest;
-    let mut place = row.len();
-    while place > 0 {
-        place -= 1;
+    for place in (0..row.len()).rev() {
         if let Some(s) = row.get(place) {
             code = statement(b, exits, s, code);
         }
@@ -29,7 +27,7 @@ pub fn statements<'m>(
 
 /// Code for a statement, with what follows it.
 #[cycle(statements)]
-pub fn statement<'m>(
+fn statement<'m>(
     b: &mut Builder<'m, '_>,
     exits: Exits<'m>,
     s: &CoreStmt,
@@ -50,67 +48,24 @@ pub fn statement<'m>(
             target,
             amount,
         } => change(b, exits, *pos, *is_decrement, target, *amount, rest),
-        CoreStmt::Block {
-            variables,
-            initial,
-            body,
-            ..
-        } => block(b, exits, variables, initial, body, rest),
-        CoreStmt::Case {
-            pos,
-            value,
-            branches,
-            otherwise,
-        } => case_of(b, exits, *pos, value, branches, *otherwise, rest),
+        CoreStmt::Block { .. } => block(b, exits, s, rest),
+        CoreStmt::Case { .. } => case_of(b, exits, s, rest),
         CoreStmt::Exit { .. } => b.goto(exits.exit),
         CoreStmt::Eval { value, .. } => evaluate(b, exits, value, rest),
-        CoreStmt::For {
-            variable,
-            first,
-            last,
-            step,
-            body,
-            ..
-        } => for_loop(b, exits, *variable, first, last, *step, body, rest),
-        CoreStmt::If {
-            arms, otherwise, ..
-        } => if_arms(b, exits, arms, *otherwise, rest),
+        CoreStmt::For { .. } => for_loop(b, exits, s, rest),
+        CoreStmt::If { .. } => if_arms(b, exits, s, rest),
         CoreStmt::Loop { body, .. } => plain_loop(b, exits, body, rest),
         CoreStmt::Raise {
             exception,
             argument,
             ..
         } => raise(b, exits, *exception, *argument),
-        CoreStmt::Repeat {
-            body, condition, ..
-        } => repeat_loop(b, exits, body, condition, rest),
+        CoreStmt::Repeat { .. } => repeat_loop(b, exits, s, rest),
         CoreStmt::Return { value, .. } => return_value(b, exits, *value),
-        CoreStmt::TryExcept {
-            body,
-            handlers,
-            otherwise,
-            ..
-        } => try_except(b, exits, body, handlers, *otherwise, rest),
-        CoreStmt::TryFinally { body, last, .. } => try_finally(b, exits, body, last, rest),
-        CoreStmt::TypeCase {
-            pos,
-            value,
-            branches,
-            otherwise,
-        } => type_case(b, exits, *pos, value, branches, *otherwise, rest),
-        CoreStmt::While {
-            condition, body, ..
-        } => while_loop(b, exits, condition, body, rest),
-        CoreStmt::With { bindings, body, .. } => with(b, exits, bindings, body, rest),
+        CoreStmt::TryExcept { .. } => try_except(b, exits, s, rest),
+        CoreStmt::TryFinally { .. } => try_finally(b, exits, s, rest),
+        CoreStmt::TypeCase { .. } => type_case(b, exits, s, rest),
+        CoreStmt::While { .. } => while_loop(b, exits, s, rest),
+        CoreStmt::With { .. } => with(b, exits, s, rest),
     }
-}
-
-fn called<'m>(
-    b: &mut Builder<'m, '_>,
-    exits: Exits<'m>,
-    call: &Chain,
-    rest: Pending<'m>,
-) -> Pending<'m> {
-    plan_chain(b, call);
-    emit_chain(b, exits.around, call, rest)
 }

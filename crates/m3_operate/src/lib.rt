@@ -8,7 +8,7 @@ mod routines;
 mod words;
 
 pub use operators::{Operands, negated, operate, truth};
-pub use parts::{MOST_MEMBERS, Part, Parts, add_part, parts_for, whole};
+pub use parts::{Part, Parts, add_part, parts_for, whole};
 pub use places::{Index, dereference, dot, element};
 pub use routines::{Given, has_name, limits, made, routine_result, take};
 pub use words::{

@@ -13,17 +13,20 @@ pub const MOST_MEMBERS: u128 = 256;
 /// The parts of a set, record or array in the making.
 #[derive(Drop)]
 pub struct Parts<'a> {
+    /// The type, with its definition.
+    kind: TypeId,
+    node: TypeNode<'a>,
     /// Whether they don't fit the type, or one of them has no worth.
-    pub is_wrong: bool,
+    is_wrong: bool,
     /// Why it is no constant.
-    pub reason: Option<Reason>,
-    pub members: &'a [i64],
-    pub values: Vec<ValueId, &'a Bump>,
+    reason: Option<Reason>,
+    members: &'a [i64],
+    values: Vec<ValueId, &'a Bump>,
     /// Of each field of a record, its value.
-    pub fields: Vec<Option<ValueId>>,
+    fields: Vec<Option<ValueId>>,
     /// The next field by its place.
-    pub next: usize,
-    pub is_named: bool,
+    next: usize,
+    is_named: bool,
 }
 
 impl Parts<'_> {
@@ -43,13 +46,18 @@ pub enum Part<'a> {
     Named(Name<'a>, Pos, Option<Worth<'a>>),
 }
 
-pub fn parts_for<'a>(eval: &Evaluator<'_, 'a>, node: TypeNode<'a>) -> Result<Parts<'a>, NoMemory> {
+/// The parts, none yet, of a value of a type.
+pub fn parts_for<'a>(eval: &mut Evaluator<'_, 'a>, kind: TypeId) -> Result<Parts<'a>, NoMemory> {
+    let node = eval.node(kind)?;
+    let is_wrong = has_many_members(eval, node)?;
     let count = match node {
         TypeNode::Fields(fields) => fields.len(),
         _ => 0,
     };
     Ok(Parts {
-        is_wrong: false,
+        kind,
+        node,
+        is_wrong,
         reason: None,
         members: &[],
         values: Vec::new(eval.arena),
@@ -59,14 +67,28 @@ pub fn parts_for<'a>(eval: &Evaluator<'_, 'a>, node: TypeNode<'a>) -> Result<Par
     })
 }
 
+/// Whether a definition is that of a set whose base has too many members.
+fn has_many_members<'a>(
+    eval: &mut Evaluator<'_, 'a>,
+    node: TypeNode<'a>,
+) -> Result<bool, NoMemory> {
+    match node {
+        TypeNode::SetOf(base) => {
+            eval.node(base)?;
+            Ok(eval.declared.types.member_count(base) > MOST_MEMBERS)
+        }
+        _ => Ok(false),
+    }
+}
+
+/// Adds an element to the parts.
 pub fn add_part<'a>(
     eval: &mut Evaluator<'_, 'a>,
     parts: &mut Parts<'a>,
-    kind: TypeId,
-    node: TypeNode<'a>,
     part: Part<'a>,
 ) -> Result<(), NoMemory> {
-    match node {
+    let kind = parts.kind;
+    match parts.node {
         TypeNode::SetOf(base) => add_to_set(eval, parts, base, part),
         TypeNode::FixedArray(_, element) | TypeNode::OpenArray(element) => {
             add_to_array(eval, parts, element, part)
@@ -231,17 +253,16 @@ fn add_field<'a>(
     Ok(())
 }
 
-/// The value that the parts make.
+/// The value that the parts make, of so many elements, the last of them with `..` behind it where it
+/// fills the rest.
 pub fn whole<'a>(
     eval: &mut Evaluator<'_, 'a>,
-    parts: Parts<'a>,
-    kind: TypeId,
-    node: TypeNode<'a>,
+    parts: &mut Parts<'a>,
     written: usize,
     is_filled: bool,
 ) -> Result<Thing<'a>, NoMemory> {
-    let mut parts = parts;
-    let value = match node {
+    let kind = parts.kind;
+    let value = match parts.node {
         TypeNode::SetOf(_) => {
             parts.is_wrong = parts.is_wrong || is_filled;
             Value::Set(parts.members)
@@ -249,23 +270,15 @@ pub fn whole<'a>(
         TypeNode::FixedArray(index, _) => {
             eval.node(index)?;
             let count = eval.declared.types.member_count(index);
-            let written = written as u128;
-            let has_all = written == count || is_filled && written < count;
-            parts.is_wrong = parts.is_wrong || !has_all;
-            let values = std::mem::replace(&mut parts.values, Vec::new(eval.arena));
-            Value::Array(
-                into_bump_slice(values),
-                u64::try_from(count).unwrap_or(u64::MAX),
-            )
+            fixed_array(eval, parts, written, is_filled, count)
         }
         TypeNode::OpenArray(_) => {
             parts.is_wrong = parts.is_wrong || is_filled;
-            let values = std::mem::replace(&mut parts.values, Vec::new(eval.arena));
-            Value::Array(into_bump_slice(values), written as u64)
+            Value::Array(taken(eval, parts), written as u64)
         }
         TypeNode::Fields(fields) => {
             parts.is_wrong = parts.is_wrong || is_filled;
-            record_value(eval, &mut parts, fields)?
+            record_value(eval, parts, fields)?
         }
         _ => return Ok(Thing::Bad),
     };
@@ -276,6 +289,26 @@ pub fn whole<'a>(
         Some(reason) => Ok(eval.varies(kind, reason.pos, reason.rule)),
         None => Ok(eval.known(kind, value)),
     }
+}
+
+/// The elements, which are taken out of the parts.
+fn taken<'a>(eval: &Evaluator<'_, 'a>, parts: &mut Parts<'a>) -> &'a [ValueId] {
+    into_bump_slice(std::mem::replace(&mut parts.values, Vec::new(eval.arena)))
+}
+
+/// An array of so many elements as its index type has members.
+fn fixed_array<'a>(
+    eval: &Evaluator<'_, 'a>,
+    parts: &mut Parts<'a>,
+    written: usize,
+    is_filled: bool,
+    count: u128,
+) -> Value<'a> {
+    let written = written as u128;
+    let has_all = written == count || is_filled && written < count;
+    parts.is_wrong = parts.is_wrong || !has_all;
+    let count = u64::try_from(count).unwrap_or(u64::MAX);
+    Value::Array(taken(eval, parts), count)
 }
 
 /// A record of its fields, as written, and of the defaults of the others.

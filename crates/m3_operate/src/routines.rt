@@ -397,20 +397,18 @@ fn bound_method<'a>(
 
 /// The number of the procedure that an expression names, through parentheses.
 fn procedure_named<'a>(eval: &Evaluator<'_, 'a>, value: &Expr<'a>) -> Option<u32> {
-    let mut value = value;
-    'parentheses: loop {
-        match value {
-            Expr::Parenthesis { inner, .. } => value = inner,
-            _ => break 'parentheses,
-        }
-    }
-    let pos = match value {
-        Expr::Name(name) => name.pos,
-        Expr::Selected { selectors, .. } => member_pos(selectors)?,
-        _ => return None,
-    };
-    let id = eval.program.binds.at(eval.unit, pos)?;
+    let id = eval.program.binds.at(eval.unit, naming_pos(value)?)?;
     eval.declared.procedure_number(id)
+}
+
+/// The place of the name that an expression is, or that stands behind its one dot.
+fn naming_pos(value: &Expr<'_>) -> Option<Pos> {
+    match value {
+        Expr::Parenthesis { inner, .. } => naming_pos(inner),
+        Expr::Name(name) => Some(name.pos),
+        Expr::Selected { selectors, .. } => member_pos(selectors),
+        _ => None,
+    }
 }
 
 /// The place of the name behind the one dot of a row of selectors.

@@ -1,4 +1,5 @@
 use crate::counts::Counts;
+use crate::statements::count_statements;
 use m3_core::{Actual, Core, ProcDef, VarDef, VarKind};
 use m3_sizes::SizedTypes;
 use m3_types::{TypeId, TypeNode};
@@ -74,19 +75,25 @@ pub fn words_of_actual(types: &SizedTypes, actual: &Actual) -> u64 {
     }
 }
 
+/// The words of a row of variables.
+fn words_of_row(types: &SizedTypes, row: &[VarDef]) -> u64 {
+    let mut words = 0u64;
+    for variable in row {
+        words = words.saturating_add(words_of_variable(types, variable));
+    }
+    words
+}
+
 /// The sizes of a procedure, by the parts of each type.
 pub fn sizes_of(core: &Core, parts: &[u64], proc: &ProcDef) -> Sizes {
-    let counts = Counts::of(core, parts, proc.body);
-    let mut frame = 32u64;
-    for variable in proc.formals {
-        frame = frame.saturating_add(words_of_variable(&core.types, variable));
-    }
-    for variable in proc.locals {
-        frame = frame.saturating_add(words_of_variable(&core.types, variable));
-    }
-    frame = frame.saturating_add(counts.nodes.saturating_mul(4));
+    let mut counts = Counts::new(&core.types, parts);
+    count_statements(&mut counts, proc.body);
+    let formals = words_of_row(&core.types, proc.formals);
+    let locals = words_of_row(&core.types, proc.locals);
+    let variables = formals.saturating_add(locals);
+    let values = counts.nodes.saturating_mul(4).saturating_add(counts.words);
     Sizes {
-        frame: frame.saturating_add(counts.words),
+        frame: variables.saturating_add(values).saturating_add(32),
         points: counts.points,
         constants: counts.constants,
         made: counts.made,

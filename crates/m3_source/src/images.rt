@@ -11,22 +11,32 @@ use std::alloc::Global;
 pub fn image_size(alloc: Global, core: &Core) -> Result<u128, NoMemory> {
     let measures = Measures::of(alloc, &core.types)?;
     let parts = measures.cell_parts(alloc, &core.types)?;
-    let mut size = names(core);
+    let mut size = names(core).saturating_add(cells_size(core, &measures));
     for proc in core.procs {
         size = size.saturating_add(proc_size(core, &measures, parts.as_slice(), proc));
     }
+    Ok(size)
+}
+
+/// The pointers and methods of all types of cells.
+fn cells_size(core: &Core, measures: &Measures) -> u128 {
+    let mut size = 0u128;
     for (place, node) in core.types.graph.nodes.iter().enumerate() {
-        let cell = match node {
-            TypeNode::RefTo(_, target) => u128::from(measures.value(*target).pointers),
-            TypeNode::Object(_, _, _, _, _) => {
-                let line = measures.line(TypeId(number_of(place)));
-                u128::from(line.pointers).saturating_add(u128::from(line.methods))
-            }
-            _ => 0,
-        };
+        let cell = cell_size(measures, TypeId(number_of(place)), *node);
         size = size.saturating_add(cell);
     }
-    Ok(size)
+    size
+}
+
+fn cell_size(measures: &Measures, kind: TypeId, node: TypeNode) -> u128 {
+    match node {
+        TypeNode::RefTo(_, target) => u128::from(measures.value(target).pointers),
+        TypeNode::Object(_, _, _, _, _) => {
+            let line = measures.line(kind);
+            u128::from(line.pointers).saturating_add(u128::from(line.methods))
+        }
+        _ => 0,
+    }
 }
 
 fn proc_size(core: &Core, measures: &Measures, parts: &[u64], proc: &ProcDef) -> u128 {
@@ -34,14 +44,11 @@ fn proc_size(core: &Core, measures: &Measures, parts: &[u64], proc: &ProcDef) ->
     let frames = u128::from(sizes.frame).saturating_mul(u128::from(sizes.points) + 1);
     let mut size = frames
         .saturating_add(sizes.constants)
-        .saturating_add(sizes.made);
+        .saturating_add(sizes.made)
+        .saturating_add(names_of(proc.formals))
+        .saturating_add(names_of(proc.locals));
     for formal in proc.formals {
-        size = size
-            .saturating_add(bytes_of(formal))
-            .saturating_add(copied(core, measures, formal));
-    }
-    for local in proc.locals {
-        size = size.saturating_add(bytes_of(local));
+        size = size.saturating_add(copied(core, measures, formal));
     }
     size
 }
@@ -56,27 +63,34 @@ fn copied(core: &Core, measures: &Measures, formal: &VarDef) -> u128 {
     }
 }
 
-fn bytes_of(variable: &VarDef) -> u128 {
-    let bytes = variable.name.len().saturating_add(variable.unit.len());
-    bytes as u128
+/// The bytes of the names of variables and of their units.
+fn names_of(row: &[VarDef]) -> u128 {
+    let mut size = 0u128;
+    for variable in row {
+        size = size
+            .saturating_add(variable.name.len() as u128)
+            .saturating_add(variable.unit.len() as u128);
+    }
+    size
+}
+
+fn bytes_of(row: &[&[u8]]) -> u128 {
+    let mut size = 0u128;
+    for text in row {
+        size = size.saturating_add(text.len() as u128);
+    }
+    size
 }
 
 /// The bytes of texts, files, exceptions and global variables.
 fn names(core: &Core) -> u128 {
-    let mut size = 0u128;
-    for text in core.texts {
-        size = size.saturating_add(text.len() as u128);
-    }
-    for file in core.files {
-        size = size.saturating_add(file.len() as u128);
-    }
+    let mut size = bytes_of(core.texts)
+        .saturating_add(bytes_of(core.files))
+        .saturating_add(names_of(core.globals));
     for exception in core.exceptions {
         size = size
             .saturating_add(exception.name.len() as u128)
             .saturating_add(exception.unit.len() as u128);
-    }
-    for global in core.globals {
-        size = size.saturating_add(bytes_of(global));
     }
     size
 }

@@ -3,9 +3,11 @@
 #![tactic(auto)]
 
 mod counts;
+mod expressions;
 mod frames;
 mod images;
 mod parts;
+mod statements;
 
 pub use frames::{Sizes, frame_words};
 pub use images::image_size;

@@ -104,25 +104,37 @@ impl Measures {
     ) -> Result<(), NoMemory> {
         let mut waiting = Vec::new(alloc);
         waiting.push(t)?;
-        for _ in 0..u32::MAX {
+        'waiting: for _ in 0..u64::MAX {
             let Some(top) = waiting.last().copied() else {
-                break;
+                break 'waiting;
             };
-            match state(&self.values, top) {
-                State::Known(_) => {
-                    waiting.pop();
-                }
-                State::Unknown => {
-                    set(&mut self.values, top, State::Waiting);
-                    self.add_parts(types, top, &mut waiting)?;
-                }
-                State::Waiting => {
-                    let measure = self.measured(types, top);
-                    set(&mut self.values, top, State::Known(measure));
-                }
-            }
+            self.measure_next(types, top, &mut waiting)?;
         }
         Ok(())
+    }
+
+    /// Measures the type that waits last, or puts what it is made of behind it.
+    fn measure_next(
+        &mut self,
+        types: &SizedTypes,
+        top: TypeId,
+        waiting: &mut Vec<TypeId>,
+    ) -> Result<(), NoMemory> {
+        match state_of(&self.values, top) {
+            State::Known(_) => {
+                waiting.pop();
+                Ok(())
+            }
+            State::Unknown => {
+                set(&mut self.values, top, State::Waiting);
+                self.add_parts(types, top, waiting)
+            }
+            State::Waiting => {
+                let measure = self.measured(types, top);
+                set(&mut self.values, top, State::Known(measure));
+                Ok(())
+            }
+        }
     }
 
     fn add_parts(
@@ -165,7 +177,11 @@ impl Measures {
             }
             TypeNode::Fields(fields) => self.sum(NOTHING, fields),
             at => Measure {
-                parts: if types.has_size(t) { types.words_of(t) } else { 0 },
+                parts: if types.has_size(t) {
+                    types.words_of(t)
+                } else {
+                    0
+                },
                 pointers: u64::from(is_reference(at)),
                 methods: 0,
             },
@@ -188,23 +204,34 @@ impl Measures {
         types: &SizedTypes,
         t: TypeId,
     ) -> Result<(), NoMemory> {
+        let waiting = self.unmeasured(alloc, types, t)?;
+        for top in waiting.iter().rev() {
+            let measure = self.added(types, *top);
+            set(&mut self.lines, *top, State::Known(measure));
+        }
+        Ok(())
+    }
+
+    /// A type and its ancestors, as far as they have no measure.
+    fn unmeasured(
+        &self,
+        alloc: Global,
+        types: &SizedTypes,
+        t: TypeId,
+    ) -> Result<Vec<TypeId>, NoMemory> {
         let mut waiting = Vec::new(alloc);
         let mut at = t;
-        for _ in 0..types.graph.nodes.len() {
-            if let State::Known(_) = state(&self.lines, at) {
-                break;
+        'ancestors: for _ in 0..types.graph.nodes.len() {
+            if let State::Known(_) = state_of(&self.lines, at) {
+                break 'ancestors;
             }
             waiting.push(at)?;
             match node(types, at) {
                 TypeNode::Object(_, parent, _, _, _) => at = unveiled(types, parent),
-                _ => break,
+                _ => break 'ancestors,
             }
         }
-        while let Some(top) = waiting.pop() {
-            let measure = self.added(types, top);
-            set(&mut self.lines, top, State::Known(measure));
-        }
-        Ok(())
+        Ok(waiting)
     }
 
     fn added(&self, types: &SizedTypes, t: TypeId) -> Measure {
@@ -234,7 +261,7 @@ impl Measures {
     }
 }
 
-fn state(states: &[State], t: TypeId) -> State {
+fn state_of(states: &[State], t: TypeId) -> State {
     match states.get(t.0 as usize) {
         Some(state) => *state,
         None => State::Known(NOTHING),
@@ -242,7 +269,7 @@ fn state(states: &[State], t: TypeId) -> State {
 }
 
 fn known(states: &[State], t: TypeId) -> Measure {
-    match state(states, t) {
+    match state_of(states, t) {
         State::Known(measure) => measure,
         State::Unknown | State::Waiting => NOTHING,
     }
@@ -255,12 +282,8 @@ fn set(states: &mut Vec<State>, t: TypeId, state: State) {
     }
 }
 
-fn add_unknown(
-    states: &[State],
-    t: TypeId,
-    waiting: &mut Vec<TypeId>,
-) -> Result<(), NoMemory> {
-    if state(states, t) == State::Unknown {
+fn add_unknown(states: &[State], t: TypeId, waiting: &mut Vec<TypeId>) -> Result<(), NoMemory> {
+    if state_of(states, t) == State::Unknown {
         waiting.push(t)?;
     }
     Ok(())

@@ -1,6 +1,6 @@
-use crate::forms::{node, number_of};
 use m3_base::NoMemory;
 use m3_core::{Core, Value};
+use m3_objects::{node_of, number_of};
 use m3_sizes::SizedTypes;
 use m3_types::{Field, TypeId, TypeNode};
 use std::alloc::Global;
@@ -78,7 +78,7 @@ impl ZeroDefaults {
         t: TypeId,
         waiting: &mut Vec<TypeId>,
     ) -> Result<(), NoMemory> {
-        match node(types, t) {
+        match node_of(types, t) {
             TypeNode::FixedArray(_, element) => self.add_part(element, waiting),
             TypeNode::Fields(fields) => {
                 for field in fields {
@@ -100,7 +100,7 @@ impl ZeroDefaults {
     }
 
     fn judged(&self, core: &Core, t: TypeId) -> State {
-        let is_zero = match node(&core.types, t) {
+        let is_zero = match node_of(&core.types, t) {
             TypeNode::FixedArray(_, element) => self.state(element) != State::Other,
             TypeNode::Fields(fields) => self.are_zero(core, fields),
             TypeNode::Subrange(_, first, last) => first <= 0 && 0 <= last,
@@ -130,4 +130,3 @@ impl ZeroDefaults {
         self.state(t) != State::Other
     }
 }
-

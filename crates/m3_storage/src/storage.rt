@@ -1,15 +1,15 @@
-use crate::cells::Cells;
 use crate::defaults::ZeroDefaults;
-use crate::forms::{Form, bounds, form_of, members, node, words};
-use crate::objects::{Objects, unveiled};
-use crate::uses::mark_all;
-use crate::variables::{
-    Marks, Room, VarPlace, marks_at, place_all, place_globals, shown_places, type_of,
-};
-use m3_base::{NoMemory, place_number};
+use crate::placed::Placed;
+use crate::statements::mark_statements;
+use crate::uses::Uses;
+use crate::variables::{Room, VarPlace, marks_at, place_globals, type_of};
+use m3_base::NoMemory;
 use m3_core::{Core, CoreExpr, ProcDef, VarDef};
 use m3_layout::{Shape, shape_of_value};
-use m3_types::{TypeId, TypeNode};
+use m3_objects::{
+    Cells, Form, Objects, bounds, form_of, members, node_of, number_of, unveiled, words_of,
+};
+use m3_types::{Field, TypeId, TypeNode};
 use std::alloc::Global;
 
 /// Where a checked program keeps its things.
@@ -22,67 +22,48 @@ pub struct Storage<'a> {
     globals: Vec<u32>,
     /// The words of all global variables, with the four in front of them.
     pub global_words: u32,
-    outers: Vec<Option<u32>>,
-    levels: Vec<u32>,
-    /// For each procedure the place of its first variable in the three lists below.
-    starts: Vec<u32>,
-    marks: Vec<Marks>,
-    places: Vec<VarPlace>,
-    shown: Vec<Option<u32>>,
-    rooms: Vec<Room>,
-    constants: Vec<Option<TypeId>>,
+    uses: Uses,
+    placed: Placed,
 }
 
-/// The procedure at a level around another, or that other itself.
-pub fn owner_at(outers: &[Option<u32>], levels: &[u32], proc: u32, level: u32) -> u32 {
-    let mut at = proc;
-    for _ in 0..outers.len() {
-        let is_there = match levels.get(at as usize) {
-            Some(own) => *own <= level,
-            None => true,
-        };
-        if is_there {
-            break;
-        }
-        match outers.get(at as usize) {
-            Some(Some(outer)) => at = *outer,
-            _ => break,
+/// What the bodies of procedures do to variables, and which constants the program names.
+fn uses_of(alloc: Global, core: &Core) -> Result<Uses, NoMemory> {
+    let mut uses = Uses::new(alloc, core.values.len())?;
+    for proc in core.procs {
+        uses.add_proc(proc)?;
+    }
+    for (place, proc) in core.procs.iter().enumerate() {
+        uses.read(number_of(place));
+        mark_statements(&mut uses, proc.body);
+    }
+    note_initials(core, &mut uses);
+    note_defaults(core, &mut uses);
+    Ok(uses)
+}
+
+/// Notes the types of the constants that global variables get.
+fn note_initials(core: &Core, uses: &mut Uses) {
+    for global in core.globals {
+        if let Some(CoreExpr::Constant { kind, value, .. }) = global.initial {
+            uses.note_constant(value.0, *kind);
         }
     }
-    at
 }
 
-/// The places of the variables of all procedures.
-#[derive(Drop)]
-struct Placed {
-    places: Vec<VarPlace>,
-    shown: Vec<Option<u32>>,
-    rooms: Vec<Room>,
-}
-
-impl Placed {
-    fn of(
-        alloc: Global,
-        core: &Core,
-        starts: &[u32],
-        marks: &[Marks],
-    ) -> Result<Placed, NoMemory> {
-        let mut placed = Placed {
-            places: Vec::new(alloc),
-            shown: Vec::new(alloc),
-            rooms: Vec::new(alloc),
-        };
-        for (place, proc) in core.procs.iter().enumerate() {
-            let start = match starts.get(place) {
-                Some(start) => *start as usize,
-                None => 0,
-            };
-            let own = marks.get(start..).unwrap_or(&[]);
-            let room = place_all(&core.types, proc, own, &mut placed.places)?;
-            placed.rooms.push(room)?;
-            shown_places(&core.types, proc, &mut placed.shown)?;
+/// Notes the types of the constants that are defaults of fields.
+fn note_defaults(core: &Core, uses: &mut Uses) {
+    for node in &core.types.graph.nodes {
+        if let TypeNode::Fields(fields) | TypeNode::Object(_, _, fields, _, _) = node {
+            note_fields(fields, uses);
         }
-        Ok(placed)
+    }
+}
+
+fn note_fields(fields: &[Field], uses: &mut Uses) {
+    for field in fields {
+        if let Some(default) = field.default {
+            uses.note_constant(default.source, field.kind);
+        }
     }
 }
 
@@ -93,96 +74,23 @@ impl<'a> Storage<'a> {
         let cells = Cells::of(alloc, &core.types, &objects)?;
         let zeros = ZeroDefaults::of(alloc, core)?;
         let (globals, global_words) = place_globals(alloc, core)?;
-        let mut storage = Storage {
+        let uses = uses_of(alloc, core)?;
+        let placed = Placed::of(alloc, core, &uses)?;
+        Ok(Storage {
             core,
             objects,
             cells,
             zeros,
             globals,
             global_words,
-            outers: Vec::new(alloc),
-            levels: Vec::new(alloc),
-            starts: Vec::new(alloc),
-            marks: Vec::new(alloc),
-            places: Vec::new(alloc),
-            shown: Vec::new(alloc),
-            rooms: Vec::new(alloc),
-            constants: vec![in alloc; None; core.values.len()]?,
-        };
-        storage.add_procs(core)?;
-        let placed = Placed::of(alloc, core, &storage.starts, &storage.marks)?;
-        let Placed {
-            places,
-            shown,
-            rooms,
-        } = placed;
-        storage.places = places;
-        storage.shown = shown;
-        storage.rooms = rooms;
-        Ok(storage)
-    }
-
-    fn add_procs(&mut self, core: &Core) -> Result<(), NoMemory> {
-        for proc in core.procs {
-            self.outers.push(proc.outer)?;
-            self.levels.push(proc.level)?;
-            self.starts.push(place_number(self.marks.len())?)?;
-            let count = proc.formals.len().saturating_add(proc.locals.len());
-            for _ in 0..count {
-                self.marks.push(Marks {
-                    is_shared: false,
-                    is_written: false,
-                })?;
-            }
-        }
-        mark_all(
-            core,
-            &self.starts,
-            &self.outers,
-            &self.levels,
-            &mut self.marks,
-            &mut self.constants,
-        );
-        self.add_initials(core);
-        self.add_defaults();
-        Ok(())
-    }
-
-    /// Notes the types of the constants that global variables get.
-    fn add_initials(&mut self, core: &Core) {
-        for global in core.globals {
-            if let Some(CoreExpr::Constant { kind, value, .. }) = global.initial {
-                self.note_constant(value.0, *kind);
-            }
-        }
-    }
-
-    /// Notes the types of the constants that are defaults of fields.
-    fn add_defaults(&mut self) {
-        for node in &self.core.types.graph.nodes {
-            if let TypeNode::Fields(fields) | TypeNode::Object(_, _, fields, _, _) = node {
-                for field in *fields {
-                    if let Some(default) = field.default {
-                        self.note_constant(default.source, field.kind);
-                    }
-                }
-            }
-        }
-    }
-
-    fn note_constant(&mut self, constant: u32, kind: TypeId) {
-        let place = constant as usize;
-        if place < self.constants.len() {
-            self.constants[place] = Some(kind);
-        }
+            uses,
+            placed,
+        })
     }
 
     /// The type of a constant that code may copy; none where no code names it.
     pub fn constant_kind(&self, constant: u32) -> Option<TypeId> {
-        match self.constants.get(constant as usize) {
-            Some(kind) => *kind,
-            None => None,
-        }
+        self.uses.kind(constant)
     }
 
     pub fn proc(&self, proc: u32) -> Option<&'a ProcDef<'a>> {
@@ -191,12 +99,12 @@ impl<'a> Storage<'a> {
 
     /// The procedure at a level around a procedure, or that procedure itself.
     pub fn owner(&self, proc: u32, level: u32) -> u32 {
-        owner_at(&self.outers, &self.levels, proc, level)
+        self.uses.owner(proc, level)
     }
 
     fn variable_index(&self, proc: u32, variable: u32) -> usize {
-        match self.starts.get(proc as usize) {
-            Some(start) => (*start as usize).saturating_add(variable as usize),
+        match self.uses.start(proc) {
+            Some(start) => start.saturating_add(variable as usize),
             None => usize::MAX,
         }
     }
@@ -214,35 +122,23 @@ impl<'a> Storage<'a> {
 
     /// Where a variable of a procedure is kept.
     pub fn place(&self, proc: u32, variable: u32) -> VarPlace {
-        match self.places.get(self.variable_index(proc, variable)) {
-            Some(place) => *place,
-            None => VarPlace::Slots(0),
-        }
+        self.placed.place(self.variable_index(proc, variable))
     }
 
     /// Whether the address of a variable is taken, or an inner procedure reaches it.
     pub fn is_shared(&self, proc: u32, variable: u32) -> bool {
-        marks_at(&self.marks, self.variable_index(proc, variable)).is_shared
+        let at = self.variable_index(proc, variable);
+        marks_at(self.uses.marks_from(0), at).is_shared
     }
 
     /// The place of a variable among the shown variables of its procedure, if it is one of these.
     pub fn shown(&self, proc: u32, variable: u32) -> Option<u32> {
-        match self.shown.get(self.variable_index(proc, variable)) {
-            Some(shown) => *shown,
-            None => None,
-        }
+        self.placed.shown(self.variable_index(proc, variable))
     }
 
     /// The slots and temporaries that the variables of a procedure take.
     pub fn room(&self, proc: u32) -> Room {
-        match self.rooms.get(proc as usize) {
-            Some(room) => *room,
-            None => Room {
-                formals: 0,
-                slots: 0,
-                temps: 0,
-            },
-        }
+        self.placed.room(proc)
     }
 
     /// The first word of a global variable, counted from the start of the globals.
@@ -254,7 +150,7 @@ impl<'a> Storage<'a> {
     }
 
     pub fn node(&self, t: TypeId) -> TypeNode<'a> {
-        node(&self.core.types, t)
+        node_of(&self.core.types, t)
     }
 
     pub fn form(&self, t: TypeId) -> Form {
@@ -263,7 +159,7 @@ impl<'a> Storage<'a> {
 
     /// The words of a value, and 0 for an open array.
     pub fn words(&self, t: TypeId) -> u64 {
-        words(&self.core.types, t)
+        words_of(&self.core.types, t)
     }
 
     /// The first and the last value of an ordinal type.

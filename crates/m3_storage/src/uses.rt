@@ -1,50 +1,107 @@
-use crate::forms::number_of;
-use crate::storage::owner_at;
 use crate::variables::Marks;
-use m3_core::{
-    Actual, Base, Binding, Bound, Chain, Core, CoreExpr, CoreStmt, FieldValue, Operation,
-    SetElement, Step, WithBinding,
-};
+use m3_base::{NoMemory, place_number};
+use m3_core::ProcDef;
 use m3_types::TypeId;
+use std::alloc::Global;
 
-/// Finds the variables whose address is taken or that inner procedures reach, and the formals that are
-/// written.
+/// Which variables have their address taken or are reached by inner procedures, which formals are
+/// written, and which constants are named.
 #[derive(Drop)]
-pub struct Uses<'u> {
+pub struct Uses {
+    /// The procedure around each procedure.
+    outers: Vec<Option<u32>>,
+    levels: Vec<u32>,
     /// For each procedure the place of its first variable in `marks`.
-    starts: &'u [u32],
-    outers: &'u [Option<u32>],
-    levels: &'u [u32],
-    marks: &'u mut Vec<Marks>,
-    /// For each constant the type under which an expression names it.
-    kinds: &'u mut Vec<Option<TypeId>>,
+    starts: Vec<u32>,
+    marks: Vec<Marks>,
+    /// For each constant the type under which something names it.
+    kinds: Vec<Option<TypeId>>,
     /// The procedure that is read.
     proc: u32,
 }
 
-/// Marks what the body of each procedure does to variables.
-pub fn mark_all(
-    core: &Core,
-    starts: &[u32],
-    outers: &[Option<u32>],
-    levels: &[u32],
-    marks: &mut Vec<Marks>,
-    kinds: &mut Vec<Option<TypeId>>,
-) {
-    for (place, proc) in core.procs.iter().enumerate() {
-        let mut uses = Uses {
-            starts,
-            outers,
-            levels,
-            marks: &mut *marks,
-            kinds: &mut *kinds,
-            proc: number_of(place),
-        };
-        uses.statements(proc.body);
+impl Uses {
+    /// No procedures yet, and so many constants.
+    pub fn new(alloc: Global, constants: usize) -> Result<Uses, NoMemory> {
+        Ok(Uses {
+            outers: Vec::new(alloc),
+            levels: Vec::new(alloc),
+            starts: Vec::new(alloc),
+            marks: Vec::new(alloc),
+            kinds: vec![in alloc; None; constants]?,
+            proc: 0,
+        })
     }
-}
 
-impl Uses<'_> {
+    /// Adds a procedure whose variables nothing uses yet.
+    pub fn add_proc(&mut self, proc: &ProcDef) -> Result<(), NoMemory> {
+        self.outers.push(proc.outer)?;
+        self.levels.push(proc.level)?;
+        self.starts.push(place_number(self.marks.len())?)?;
+        for _ in 0..proc.formals.len() {
+            self.marks.push(Marks::none())?;
+        }
+        for _ in 0..proc.locals.len() {
+            self.marks.push(Marks::none())?;
+        }
+        Ok(())
+    }
+
+    /// From now on the body of this procedure is read.
+    pub fn read(&mut self, proc: u32) {
+        self.proc = proc;
+    }
+
+    /// The procedure at a level around another, or that other itself.
+    pub fn owner(&self, proc: u32, level: u32) -> u32 {
+        let mut at = proc;
+        for _ in 0..self.outers.len() {
+            let is_there = match self.levels.get(at as usize) {
+                Some(own) => *own <= level,
+                None => true,
+            };
+            if is_there {
+                break;
+            }
+            match self.outers.get(at as usize) {
+                Some(Some(outer)) => at = *outer,
+                _ => break,
+            }
+        }
+        at
+    }
+
+    /// The place of a procedure's first variable in a list of all variables.
+    pub fn start(&self, proc: u32) -> Option<usize> {
+        match self.starts.get(proc as usize) {
+            Some(start) => Some(*start as usize),
+            None => None,
+        }
+    }
+
+    /// What is known of the variables from a place on.
+    pub fn marks_from(&self, start: usize) -> &[Marks] {
+        match self.marks.get(start..) {
+            Some(marks) => marks,
+            None => &[],
+        }
+    }
+
+    /// The type under which a constant is named; none where nothing names it.
+    pub fn kind(&self, constant: u32) -> Option<TypeId> {
+        match self.kinds.get(constant as usize) {
+            Some(kind) => *kind,
+            None => None,
+        }
+    }
+
+    /// A constant is named under a type.
+    pub fn note_constant(&mut self, constant: u32, kind: TypeId) {
+        if let Some(item) = self.kinds.get_mut(constant as usize) {
+            *item = Some(kind);
+        }
+    }
+
     fn level(&self) -> u32 {
         match self.levels.get(self.proc as usize) {
             Some(level) => *level,
@@ -53,300 +110,32 @@ impl Uses<'_> {
     }
 
     fn mark(&mut self, level: u32, variable: u32, is_written: bool) {
-        let owner = owner_at(self.outers, self.levels, self.proc, level);
-        let start = match self.starts.get(owner as usize) {
-            Some(start) => *start as usize,
-            None => return,
+        let owner = self.owner(self.proc, level);
+        let Some(start) = self.start(owner) else {
+            return;
         };
-        let place = start.saturating_add(variable as usize);
-        if place < self.marks.len() {
-            let old = self.marks[place];
-            self.marks[place] = Marks {
-                is_shared: old.is_shared || !is_written,
+        if let Some(marks) = self.marks.get_mut(start.saturating_add(variable as usize)) {
+            *marks = Marks {
+                is_shared: marks.is_shared || !is_written,
                 is_written: true,
             };
         }
     }
 
-    /// The base of a place that is written, where nothing is selected from it.
-    fn written(&mut self, chain: &Chain) {
-        if let Base::Local { level, variable, .. } = chain.base {
-            self.mark(level, variable, true);
-        }
+    /// A variable is written.
+    pub fn note_written(&mut self, level: u32, variable: u32) {
+        self.mark(level, variable, true);
     }
 
-    /// The variable behind a place whose address is taken.
-    #[cycle(chains)]
-    fn taken(&mut self, chain: &Chain) {
-        match chain.base {
-            Base::Local { level, variable, .. } => self.mark(level, variable, false),
-            Base::Alias { .. } | Base::Global { .. } | Base::Value(_) => {}
-            Base::Inner(inner) => self.taken(inner),
-            Base::Subarray { array, .. } => self.taken(array),
-        }
+    /// The address of a variable is taken.
+    pub fn note_taken(&mut self, level: u32, variable: u32) {
+        self.mark(level, variable, false);
     }
 
-    #[cycle(expressions)]
-    fn chain(&mut self, chain: &Chain) {
-        match chain.base {
-            Base::Global { .. } => {}
-            Base::Local { level, variable, .. } | Base::Alias { level, variable, .. } => {
-                if level != self.level() {
-                    self.mark(level, variable, false);
-                }
-            }
-            Base::Inner(inner) => self.chain(inner),
-            Base::Subarray {
-                array,
-                start,
-                count,
-                ..
-            } => {
-                self.chain(array);
-                self.expr(start);
-                self.expr(count);
-            }
-            Base::Value(value) => self.expr(value),
-        }
-        for step in chain.steps {
-            match step {
-                Step::Element { index, .. } => self.expr(index),
-                Step::Call { actuals, .. } | Step::MethodCall { actuals, .. } => {
-                    self.actuals(actuals);
-                }
-                Step::Read { .. }
-                | Step::Keep { .. }
-                | Step::Dereference { .. }
-                | Step::Field { .. }
-                | Step::ObjectField { .. } => {}
-            }
-        }
-    }
-
-    #[cycle(expressions)]
-    fn actuals(&mut self, actuals: &[Actual]) {
-        for actual in actuals {
-            match actual {
-                Actual::Value { value, .. } => self.expr(value),
-                Actual::Place { place, .. } => {
-                    self.taken(place);
-                    self.chain(place);
-                }
-            }
-        }
-    }
-
-    #[cycle(expressions)]
-    fn expr(&mut self, e: &CoreExpr) {
-        match e {
-            CoreExpr::Number { .. }
-            | CoreExpr::Text { .. }
-            | CoreExpr::Nil { .. }
-            | CoreExpr::Procedure { .. }
-            | CoreExpr::InnerProcedure { .. } => {}
-            CoreExpr::Constant { kind, value, .. } => {
-                let place = value.0 as usize;
-                if place < self.kinds.len() {
-                    self.kinds[place] = Some(*kind);
-                }
-            }
-            CoreExpr::Chain(chain) => self.chain(chain),
-            CoreExpr::Builtin(call) => self.exprs(call.actuals),
-            CoreExpr::Prefixed { operand, .. }
-            | CoreExpr::Convert { operand, .. }
-            | CoreExpr::TypeTest { operand, .. } => self.expr(operand),
-            CoreExpr::Operations { first, rest, .. } => {
-                self.expr(first);
-                self.operations(rest);
-            }
-            CoreExpr::SetOf { elements, .. } => self.elements(elements),
-            CoreExpr::ArrayOf { elements, .. } => self.exprs(elements),
-            CoreExpr::RecordOf { fields, .. } => self.fields(fields),
-            CoreExpr::New {
-                sizes, bindings, ..
-            } => {
-                self.exprs(sizes);
-                self.bindings(bindings);
-            }
-            CoreExpr::ArrayLimit { array, .. } => self.chain(array),
-        }
-    }
-
-    #[cycle(expressions)]
-    fn exprs(&mut self, row: &[CoreExpr]) {
-        for e in row {
-            self.expr(e);
-        }
-    }
-
-    #[cycle(expressions)]
-    fn operations(&mut self, row: &[Operation]) {
-        for operation in row {
-            self.expr(operation.right);
-        }
-    }
-
-    #[cycle(expressions)]
-    fn elements(&mut self, row: &[SetElement]) {
-        for element in row {
-            match element {
-                SetElement::One(e) => self.expr(e),
-                SetElement::Range(first, last) => {
-                    self.expr(first);
-                    self.expr(last);
-                }
-            }
-        }
-    }
-
-    #[cycle(expressions)]
-    fn fields(&mut self, row: &[FieldValue]) {
-        for field in row {
-            self.expr(field.value);
-        }
-    }
-
-    #[cycle(expressions)]
-    fn bindings(&mut self, row: &[Binding]) {
-        for binding in row {
-            self.expr(binding.value);
-        }
-    }
-
-    fn optional(&mut self, e: Option<&CoreExpr>) {
-        if let Some(e) = e {
-            self.expr(e);
-        }
-    }
-
-    #[cycle(statements)]
-    fn statements(&mut self, row: &[CoreStmt]) {
-        for statement in row {
-            self.statement(statement);
-        }
-    }
-
-    #[cycle(statements)]
-    fn statement(&mut self, s: &CoreStmt) {
-        match s {
-            CoreStmt::Assign { target, value, .. } => {
-                self.written(target);
-                self.chain(target);
-                self.expr(value);
-            }
-            CoreStmt::Call { call, .. } => self.chain(call),
-            CoreStmt::Builtin { call, .. } => self.exprs(call.actuals),
-            CoreStmt::Change { target, amount, .. } => {
-                self.written(target);
-                self.chain(target);
-                self.optional(*amount);
-            }
-            CoreStmt::Block { initial, body, .. } => {
-                self.statements(initial);
-                self.statements(body);
-            }
-            CoreStmt::Case {
-                value,
-                branches,
-                otherwise,
-                ..
-            } => {
-                self.expr(value);
-                for branch in *branches {
-                    self.statements(branch.body);
-                }
-                if let Some(row) = otherwise {
-                    self.statements(row);
-                }
-            }
-            CoreStmt::Exit { .. } => {}
-            CoreStmt::Eval { value, .. } => self.expr(value),
-            CoreStmt::For {
-                first,
-                last,
-                step,
-                body,
-                ..
-            } => {
-                self.expr(first);
-                self.expr(last);
-                self.optional(*step);
-                self.statements(body);
-            }
-            CoreStmt::If {
-                arms, otherwise, ..
-            } => {
-                for arm in *arms {
-                    self.expr(arm.condition);
-                    self.statements(arm.body);
-                }
-                if let Some(row) = otherwise {
-                    self.statements(row);
-                }
-            }
-            CoreStmt::Loop { body, .. } => self.statements(body),
-            CoreStmt::Raise { argument, .. } => self.optional(*argument),
-            CoreStmt::Repeat {
-                body, condition, ..
-            } => {
-                self.statements(body);
-                self.expr(condition);
-            }
-            CoreStmt::Return { value, .. } => self.optional(*value),
-            CoreStmt::TryExcept {
-                body,
-                handlers,
-                otherwise,
-                ..
-            } => {
-                self.statements(body);
-                for handler in *handlers {
-                    self.statements(handler.body);
-                }
-                if let Some(row) = otherwise {
-                    self.statements(row);
-                }
-            }
-            CoreStmt::TryFinally { body, last, .. } => {
-                self.statements(body);
-                self.statements(last);
-            }
-            CoreStmt::TypeCase {
-                value,
-                branches,
-                otherwise,
-                ..
-            } => {
-                self.expr(value);
-                for branch in *branches {
-                    self.statements(branch.body);
-                }
-                if let Some(row) = otherwise {
-                    self.statements(row);
-                }
-            }
-            CoreStmt::While {
-                condition, body, ..
-            } => {
-                self.expr(condition);
-                self.statements(body);
-            }
-            CoreStmt::With { bindings, body, .. } => {
-                self.bound(bindings);
-                self.statements(body);
-            }
-        }
-    }
-
-    fn bound(&mut self, bindings: &[WithBinding]) {
-        for binding in bindings {
-            match binding.bound {
-                Bound::Place(place) => {
-                    self.taken(place);
-                    self.chain(place);
-                }
-                Bound::Value(value) => self.expr(value),
-            }
+    /// A variable is named; from inside an inner procedure its address is needed.
+    pub fn note_named(&mut self, level: u32, variable: u32) {
+        if level != self.level() {
+            self.mark(level, variable, false);
         }
     }
 }

@@ -1,6 +1,6 @@
-use crate::forms::{Form, form_of, node};
 use m3_base::{NoMemory, place_number};
 use m3_core::{Core, ProcDef, Role, VarDef, VarKind};
+use m3_objects::{Form, form_of, node_of};
 use m3_sizes::SizedTypes;
 use m3_types::{TypeId, TypeNode};
 use std::alloc::Global;
@@ -28,12 +28,22 @@ pub struct Marks {
     pub is_written: bool,
 }
 
+impl Marks {
+    /// Nothing is known yet.
+    pub fn none() -> Marks {
+        Marks {
+            is_shared: false,
+            is_written: false,
+        }
+    }
+}
+
 /// The dimensions of an open array type, and 0 for any other type.
 pub fn open_dims(types: &SizedTypes, t: TypeId) -> u32 {
     let mut dims = 0u32;
     let mut at = t;
     for _ in 0..types.graph.nodes.len() {
-        match node(types, at) {
+        match node_of(types, at) {
             TypeNode::OpenArray(element) => {
                 dims = dims.saturating_add(1);
                 at = element;
@@ -180,10 +190,7 @@ pub fn marks_at(marks: &[Marks], variable: usize) -> Marks {
 }
 
 /// The first word of each global variable, counted from the start of the globals, and the words of all.
-pub fn place_globals(
-    alloc: Global,
-    core: &Core,
-) -> Result<(Vec<u32>, u32), NoMemory> {
+pub fn place_globals(alloc: Global, core: &Core) -> Result<(Vec<u32>, u32), NoMemory> {
     let mut places = Vec::new(alloc);
     let mut next = 4u32;
     for global in core.globals {
@@ -237,7 +244,7 @@ pub fn is_shown(types: &SizedTypes, variable: &VarDef) -> bool {
 }
 
 fn is_ordinal_or_reference(types: &SizedTypes, t: TypeId) -> bool {
-    match node(types, t) {
+    match node_of(types, t) {
         TypeNode::SetOf(_) => false,
         _ => match form_of(types, t) {
             Form::Number | Form::Reference => true,
