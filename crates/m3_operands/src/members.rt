@@ -117,10 +117,13 @@ impl<'a> Checker<'_, 'a> {
 
     /// The formals of a signature.
     pub fn formals_of(&self, signature: TypeId) -> &'a [Formal<'a>] {
-        let node = self.node(signature);
-        match node {
-            TypeNode::Procedure(formals, _, _) => formals,
-            _ => &[],
-        }
+        formals_in(self.node(signature))
+    }
+}
+
+fn formals_in<'a>(node: TypeNode<'a>) -> &'a [Formal<'a>] {
+    match node {
+        TypeNode::Procedure(formals, _, _) => formals,
+        _ => &[],
     }
 }
