@@ -12,10 +12,10 @@ const ENDP: Code = Code(50, 0, 0, 0, 0);
 // The types of every image: texts, and the cells of threads; and cells of three words with a pointer, and open
 // arrays of one dimension.
 const TYPES: [u8; 104] = [
-    2, 0, 0, 0, 255, 255, 255, 255, 0, 0, 0, 0, 0, 0, 0, 0, 0, 0, 0, 0, 0, 0, 0, 0, 0, 0, 0, 0, 255,
-    255, 255, 255, 4, 0, 0, 0, 0, 0, 0, 0, 0, 0, 0, 0, 1, 0, 0, 0, 3, 0, 0, 0, 0, 0, 0, 0, 255, 255,
-    255, 255, 3, 0, 0, 0, 0, 0, 0, 0, 0, 0, 0, 0, 1, 0, 0, 0, 2, 0, 0, 0, 1, 0, 0, 0, 2, 0, 0, 0, 1,
-    0, 0, 0, 1, 0, 0, 0, 0, 0, 0, 0, 0, 0, 0, 0,
+    2, 0, 0, 0, 255, 255, 255, 255, 0, 0, 0, 0, 0, 0, 0, 0, 0, 0, 0, 0, 0, 0, 0, 0, 0, 0, 0, 0,
+    255, 255, 255, 255, 4, 0, 0, 0, 0, 0, 0, 0, 0, 0, 0, 0, 1, 0, 0, 0, 3, 0, 0, 0, 0, 0, 0, 0,
+    255, 255, 255, 255, 3, 0, 0, 0, 0, 0, 0, 0, 0, 0, 0, 0, 1, 0, 0, 0, 2, 0, 0, 0, 1, 0, 0, 0, 2,
+    0, 0, 0, 1, 0, 0, 0, 1, 0, 0, 0, 0, 0, 0, 0, 0, 0, 0, 0,
 ];
 
 fn add(bytes: &mut Vec<u8>, number: u32) -> Result<(), AllocError> {
@@ -28,8 +28,7 @@ fn add_code(bytes: &mut Vec<u8>, code: Code) -> Result<(), AllocError> {
 }
 
 fn is_point(number: u8) -> bool {
-    matches!(number, 39 | 40 | 41 | 45 | 46 | 47 | 52 | 53 | 54)
-        || (57..=73).contains(&number)
+    matches!(number, 39 | 40 | 41 | 45 | 46 | 47 | 52 | 53 | 54) || (57..=73).contains(&number)
 }
 
 /// A table with an empty row for each point.
@@ -84,8 +83,12 @@ pub fn image_of(alloc: Global, code: &[Code]) -> Result<Vec<u8>, AllocError> {
     add(&mut bytes, 104)?;
     bytes.extend_from_slice(&TYPES)?;
     bytes.extend_from_slice(&[8, 0, 0, 0, 6, 0, 0, 0, 0, 0, 0, 0])?;
-    bytes.extend_from_slice(&[20, 0, 0, 0, 2, 0, 0, 0, 7, 0, 0, 0, 0, 0, 0, 0, 9, 0, 0, 0, 0, 0, 0, 0])?;
-    bytes.extend_from_slice(&[24, 0, 0, 0, 1, 0, 0, 0, 4, 0, 0, 0, 65, 46, 109, 51, 1, 0, 0, 0, 0, 0, 0, 0, 3, 0, 0, 0])?;
+    bytes.extend_from_slice(&[
+        20, 0, 0, 0, 2, 0, 0, 0, 7, 0, 0, 0, 0, 0, 0, 0, 9, 0, 0, 0, 0, 0, 0, 0,
+    ])?;
+    bytes.extend_from_slice(&[
+        24, 0, 0, 0, 1, 0, 0, 0, 4, 0, 0, 0, 65, 46, 109, 51, 1, 0, 0, 0, 0, 0, 0, 0, 3, 0, 0, 0,
+    ])?;
     bytes.extend_from_slice(&[11, 0, 0, 0, 1, 0, 0, 0, 3, 0, 0, 0, 65, 46, 69])?;
     add_table(&mut bytes, &all)?;
     Ok(bytes)

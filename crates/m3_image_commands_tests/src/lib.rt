@@ -1,4 +1,4 @@
-//! The tests of m3_commands: small images, built by hand, run and refused.
+//! The tests of m3_image_commands: small images, built by hand, run and refused.
 #![tactic(auto)]
 
 #[cfg(test)]

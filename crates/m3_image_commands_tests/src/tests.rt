@@ -1,5 +1,6 @@
 use crate::images::{Code, image_of};
-use m3_commands::command_of_image;
+use m3_command_line::{Request, read_words};
+use m3_image_commands::{run_image, tell};
 use m3_ports::{MemShelf, MemSink, Shelf};
 use std::alloc::Global;
 use std::test::Fail;
@@ -26,9 +27,19 @@ fn run(alloc: Global, bytes: &[u8], more: &[&str]) -> Result<Answer, Fail> {
     let mut out = MemSink::with_room(alloc, 4096)?;
     let mut err = MemSink::with_room(alloc, 4096)?;
     let mut image = Vec::new(alloc);
-    let status = command_of_image(
-        alloc, &words, &mut shelf, &mut out, &mut err, &mut image,
-    );
+    let Ok(
+        Some(
+            Request::Run {
+                image: name,
+                options,
+            },
+        ),
+    ) = read_words(alloc, &words)
+    else {
+        return Err(Fail);
+    };
+    let answer = run_image(alloc, name, options, &mut shelf, &mut out, &mut image);
+    let status = tell(&mut err, answer);
     Ok(Answer { status, out, err })
 }
 
@@ -45,7 +56,12 @@ struct Case {
 const CASES: [Case; 70] = [
     Case {
         what: "LI is sign extended",
-        code: &[Code(47, 0, 0, 0, 0), Code(2, 1, 0, 0, -5), Code(66, 1, 0, 0, 0), Code(50, 0, 0, 0, 0)],
+        code: &[
+            Code(47, 0, 0, 0, 0),
+            Code(2, 1, 0, 0, -5),
+            Code(66, 1, 0, 0, 0),
+            Code(50, 0, 0, 0, 0),
+        ],
         words: &[],
         status: 0,
         out: b"-5",
@@ -53,7 +69,13 @@ const CASES: [Case; 70] = [
     },
     Case {
         what: "LIH sets the high half",
-        code: &[Code(47, 0, 0, 0, 0), Code(2, 1, 0, 0, -1), Code(3, 1, 0, 0, 0), Code(66, 1, 0, 0, 0), Code(50, 0, 0, 0, 0)],
+        code: &[
+            Code(47, 0, 0, 0, 0),
+            Code(2, 1, 0, 0, -1),
+            Code(3, 1, 0, 0, 0),
+            Code(66, 1, 0, 0, 0),
+            Code(50, 0, 0, 0, 0),
+        ],
         words: &[],
         status: 0,
         out: b"4294967295",
@@ -61,7 +83,13 @@ const CASES: [Case; 70] = [
     },
     Case {
         what: "MOVE",
-        code: &[Code(47, 0, 0, 0, 0), Code(2, 2, 0, 0, 8), Code(1, 1, 2, 0, 0), Code(66, 1, 0, 0, 0), Code(50, 0, 0, 0, 0)],
+        code: &[
+            Code(47, 0, 0, 0, 0),
+            Code(2, 2, 0, 0, 8),
+            Code(1, 1, 2, 0, 0),
+            Code(66, 1, 0, 0, 0),
+            Code(50, 0, 0, 0, 0),
+        ],
         words: &[],
         status: 0,
         out: b"8",
@@ -69,7 +97,13 @@ const CASES: [Case; 70] = [
     },
     Case {
         what: "CON and LD",
-        code: &[Code(47, 0, 0, 0, 0), Code(4, 2, 0, 0, 1), Code(9, 1, 2, 0, 0), Code(66, 1, 0, 0, 0), Code(50, 0, 0, 0, 0)],
+        code: &[
+            Code(47, 0, 0, 0, 0),
+            Code(4, 2, 0, 0, 1),
+            Code(9, 1, 2, 0, 0),
+            Code(66, 1, 0, 0, 0),
+            Code(50, 0, 0, 0, 0),
+        ],
         words: &[],
         status: 0,
         out: b"9",
@@ -77,7 +111,15 @@ const CASES: [Case; 70] = [
     },
     Case {
         what: "GLB, ST and LD",
-        code: &[Code(47, 0, 0, 0, 0), Code(5, 2, 0, 0, 5), Code(2, 3, 0, 0, 44), Code(10, 3, 2, 0, 0), Code(9, 1, 2, 0, 0), Code(66, 1, 0, 0, 0), Code(50, 0, 0, 0, 0)],
+        code: &[
+            Code(47, 0, 0, 0, 0),
+            Code(5, 2, 0, 0, 5),
+            Code(2, 3, 0, 0, 44),
+            Code(10, 3, 2, 0, 0),
+            Code(9, 1, 2, 0, 0),
+            Code(66, 1, 0, 0, 0),
+            Code(50, 0, 0, 0, 0),
+        ],
         words: &[],
         status: 0,
         out: b"44",
@@ -85,7 +127,13 @@ const CASES: [Case; 70] = [
     },
     Case {
         what: "global 0 is the header of the main thread",
-        code: &[Code(47, 0, 0, 0, 0), Code(5, 2, 0, 0, 0), Code(9, 1, 2, 0, 0), Code(66, 1, 0, 0, 0), Code(50, 0, 0, 0, 0)],
+        code: &[
+            Code(47, 0, 0, 0, 0),
+            Code(5, 2, 0, 0, 0),
+            Code(9, 1, 2, 0, 0),
+            Code(66, 1, 0, 0, 0),
+            Code(50, 0, 0, 0, 0),
+        ],
         words: &[],
         status: 0,
         out: b"17179869185",
@@ -93,7 +141,14 @@ const CASES: [Case; 70] = [
     },
     Case {
         what: "STS and LDS",
-        code: &[Code(47, 0, 0, 0, 0), Code(2, 3, 0, 0, 12), Code(8, 3, 0, 0, 5), Code(7, 1, 0, 0, 5), Code(66, 1, 0, 0, 0), Code(50, 0, 0, 0, 0)],
+        code: &[
+            Code(47, 0, 0, 0, 0),
+            Code(2, 3, 0, 0, 12),
+            Code(8, 3, 0, 0, 5),
+            Code(7, 1, 0, 0, 5),
+            Code(66, 1, 0, 0, 0),
+            Code(50, 0, 0, 0, 0),
+        ],
         words: &[],
         status: 0,
         out: b"12",
@@ -101,7 +156,16 @@ const CASES: [Case; 70] = [
     },
     Case {
         what: "SLOT is an address of the frame",
-        code: &[Code(47, 0, 0, 0, 0), Code(6, 2, 0, 0, 0), Code(2, 3, 0, 0, 1), Code(2, 4, 0, 0, 40), Code(28, 3, 3, 4, 0), Code(15, 1, 2, 3, 0), Code(66, 1, 0, 0, 0), Code(50, 0, 0, 0, 0)],
+        code: &[
+            Code(47, 0, 0, 0, 0),
+            Code(6, 2, 0, 0, 0),
+            Code(2, 3, 0, 0, 1),
+            Code(2, 4, 0, 0, 40),
+            Code(28, 3, 3, 4, 0),
+            Code(15, 1, 2, 3, 0),
+            Code(66, 1, 0, 0, 0),
+            Code(50, 0, 0, 0, 0),
+        ],
         words: &[],
         status: 0,
         out: b"0",
@@ -109,7 +173,14 @@ const CASES: [Case; 70] = [
     },
     Case {
         what: "ADD is modulo 2^64",
-        code: &[Code(47, 0, 0, 0, 0), Code(2, 2, 0, 0, -1), Code(2, 3, 0, 0, 3), Code(14, 1, 2, 3, 0), Code(66, 1, 0, 0, 0), Code(50, 0, 0, 0, 0)],
+        code: &[
+            Code(47, 0, 0, 0, 0),
+            Code(2, 2, 0, 0, -1),
+            Code(2, 3, 0, 0, 3),
+            Code(14, 1, 2, 3, 0),
+            Code(66, 1, 0, 0, 0),
+            Code(50, 0, 0, 0, 0),
+        ],
         words: &[],
         status: 0,
         out: b"2",
@@ -117,7 +188,14 @@ const CASES: [Case; 70] = [
     },
     Case {
         what: "SUB",
-        code: &[Code(47, 0, 0, 0, 0), Code(2, 2, 0, 0, 3), Code(2, 3, 0, 0, 5), Code(15, 1, 2, 3, 0), Code(66, 1, 0, 0, 0), Code(50, 0, 0, 0, 0)],
+        code: &[
+            Code(47, 0, 0, 0, 0),
+            Code(2, 2, 0, 0, 3),
+            Code(2, 3, 0, 0, 5),
+            Code(15, 1, 2, 3, 0),
+            Code(66, 1, 0, 0, 0),
+            Code(50, 0, 0, 0, 0),
+        ],
         words: &[],
         status: 0,
         out: b"-2",
@@ -125,7 +203,14 @@ const CASES: [Case; 70] = [
     },
     Case {
         what: "MUL",
-        code: &[Code(47, 0, 0, 0, 0), Code(2, 2, 0, 0, -3), Code(2, 3, 0, 0, 5), Code(16, 1, 2, 3, 0), Code(66, 1, 0, 0, 0), Code(50, 0, 0, 0, 0)],
+        code: &[
+            Code(47, 0, 0, 0, 0),
+            Code(2, 2, 0, 0, -3),
+            Code(2, 3, 0, 0, 5),
+            Code(16, 1, 2, 3, 0),
+            Code(66, 1, 0, 0, 0),
+            Code(50, 0, 0, 0, 0),
+        ],
         words: &[],
         status: 0,
         out: b"-15",
@@ -133,7 +218,13 @@ const CASES: [Case; 70] = [
     },
     Case {
         what: "ADDI",
-        code: &[Code(47, 0, 0, 0, 0), Code(2, 2, 0, 0, 3), Code(17, 1, 2, 0, -4), Code(66, 1, 0, 0, 0), Code(50, 0, 0, 0, 0)],
+        code: &[
+            Code(47, 0, 0, 0, 0),
+            Code(2, 2, 0, 0, 3),
+            Code(17, 1, 2, 0, -4),
+            Code(66, 1, 0, 0, 0),
+            Code(50, 0, 0, 0, 0),
+        ],
         words: &[],
         status: 0,
         out: b"-1",
@@ -141,7 +232,14 @@ const CASES: [Case; 70] = [
     },
     Case {
         what: "DIVF rounds down",
-        code: &[Code(47, 0, 0, 0, 0), Code(2, 2, 0, 0, -7), Code(2, 3, 0, 0, 2), Code(21, 1, 2, 3, 0), Code(66, 1, 0, 0, 0), Code(50, 0, 0, 0, 0)],
+        code: &[
+            Code(47, 0, 0, 0, 0),
+            Code(2, 2, 0, 0, -7),
+            Code(2, 3, 0, 0, 2),
+            Code(21, 1, 2, 3, 0),
+            Code(66, 1, 0, 0, 0),
+            Code(50, 0, 0, 0, 0),
+        ],
         words: &[],
         status: 0,
         out: b"-4",
@@ -149,7 +247,14 @@ const CASES: [Case; 70] = [
     },
     Case {
         what: "MODF has the sign of the divisor",
-        code: &[Code(47, 0, 0, 0, 0), Code(2, 2, 0, 0, -7), Code(2, 3, 0, 0, 2), Code(22, 1, 2, 3, 0), Code(66, 1, 0, 0, 0), Code(50, 0, 0, 0, 0)],
+        code: &[
+            Code(47, 0, 0, 0, 0),
+            Code(2, 2, 0, 0, -7),
+            Code(2, 3, 0, 0, 2),
+            Code(22, 1, 2, 3, 0),
+            Code(66, 1, 0, 0, 0),
+            Code(50, 0, 0, 0, 0),
+        ],
         words: &[],
         status: 0,
         out: b"1",
@@ -157,7 +262,14 @@ const CASES: [Case; 70] = [
     },
     Case {
         what: "DIVU is unsigned",
-        code: &[Code(47, 0, 0, 0, 0), Code(2, 2, 0, 0, -1), Code(2, 3, 0, 0, 2), Code(23, 1, 2, 3, 0), Code(66, 1, 0, 0, 0), Code(50, 0, 0, 0, 0)],
+        code: &[
+            Code(47, 0, 0, 0, 0),
+            Code(2, 2, 0, 0, -1),
+            Code(2, 3, 0, 0, 2),
+            Code(23, 1, 2, 3, 0),
+            Code(66, 1, 0, 0, 0),
+            Code(50, 0, 0, 0, 0),
+        ],
         words: &[],
         status: 0,
         out: b"9223372036854775807",
@@ -165,7 +277,14 @@ const CASES: [Case; 70] = [
     },
     Case {
         what: "MODU",
-        code: &[Code(47, 0, 0, 0, 0), Code(2, 2, 0, 0, 17), Code(2, 3, 0, 0, 5), Code(24, 1, 2, 3, 0), Code(66, 1, 0, 0, 0), Code(50, 0, 0, 0, 0)],
+        code: &[
+            Code(47, 0, 0, 0, 0),
+            Code(2, 2, 0, 0, 17),
+            Code(2, 3, 0, 0, 5),
+            Code(24, 1, 2, 3, 0),
+            Code(66, 1, 0, 0, 0),
+            Code(50, 0, 0, 0, 0),
+        ],
         words: &[],
         status: 0,
         out: b"2",
@@ -173,7 +292,14 @@ const CASES: [Case; 70] = [
     },
     Case {
         what: "AND",
-        code: &[Code(47, 0, 0, 0, 0), Code(2, 2, 0, 0, 12), Code(2, 3, 0, 0, 10), Code(25, 1, 2, 3, 0), Code(66, 1, 0, 0, 0), Code(50, 0, 0, 0, 0)],
+        code: &[
+            Code(47, 0, 0, 0, 0),
+            Code(2, 2, 0, 0, 12),
+            Code(2, 3, 0, 0, 10),
+            Code(25, 1, 2, 3, 0),
+            Code(66, 1, 0, 0, 0),
+            Code(50, 0, 0, 0, 0),
+        ],
         words: &[],
         status: 0,
         out: b"8",
@@ -181,7 +307,14 @@ const CASES: [Case; 70] = [
     },
     Case {
         what: "OR",
-        code: &[Code(47, 0, 0, 0, 0), Code(2, 2, 0, 0, 12), Code(2, 3, 0, 0, 10), Code(26, 1, 2, 3, 0), Code(66, 1, 0, 0, 0), Code(50, 0, 0, 0, 0)],
+        code: &[
+            Code(47, 0, 0, 0, 0),
+            Code(2, 2, 0, 0, 12),
+            Code(2, 3, 0, 0, 10),
+            Code(26, 1, 2, 3, 0),
+            Code(66, 1, 0, 0, 0),
+            Code(50, 0, 0, 0, 0),
+        ],
         words: &[],
         status: 0,
         out: b"14",
@@ -189,7 +322,14 @@ const CASES: [Case; 70] = [
     },
     Case {
         what: "XOR",
-        code: &[Code(47, 0, 0, 0, 0), Code(2, 2, 0, 0, 12), Code(2, 3, 0, 0, 10), Code(27, 1, 2, 3, 0), Code(66, 1, 0, 0, 0), Code(50, 0, 0, 0, 0)],
+        code: &[
+            Code(47, 0, 0, 0, 0),
+            Code(2, 2, 0, 0, 12),
+            Code(2, 3, 0, 0, 10),
+            Code(27, 1, 2, 3, 0),
+            Code(66, 1, 0, 0, 0),
+            Code(50, 0, 0, 0, 0),
+        ],
         words: &[],
         status: 0,
         out: b"6",
@@ -197,7 +337,14 @@ const CASES: [Case; 70] = [
     },
     Case {
         what: "SHF up",
-        code: &[Code(47, 0, 0, 0, 0), Code(2, 2, 0, 0, 3), Code(2, 3, 0, 0, 4), Code(28, 1, 2, 3, 0), Code(66, 1, 0, 0, 0), Code(50, 0, 0, 0, 0)],
+        code: &[
+            Code(47, 0, 0, 0, 0),
+            Code(2, 2, 0, 0, 3),
+            Code(2, 3, 0, 0, 4),
+            Code(28, 1, 2, 3, 0),
+            Code(66, 1, 0, 0, 0),
+            Code(50, 0, 0, 0, 0),
+        ],
         words: &[],
         status: 0,
         out: b"48",
@@ -205,7 +352,14 @@ const CASES: [Case; 70] = [
     },
     Case {
         what: "SHF down",
-        code: &[Code(47, 0, 0, 0, 0), Code(2, 2, 0, 0, 48), Code(2, 3, 0, 0, -4), Code(28, 1, 2, 3, 0), Code(66, 1, 0, 0, 0), Code(50, 0, 0, 0, 0)],
+        code: &[
+            Code(47, 0, 0, 0, 0),
+            Code(2, 2, 0, 0, 48),
+            Code(2, 3, 0, 0, -4),
+            Code(28, 1, 2, 3, 0),
+            Code(66, 1, 0, 0, 0),
+            Code(50, 0, 0, 0, 0),
+        ],
         words: &[],
         status: 0,
         out: b"3",
@@ -213,7 +367,14 @@ const CASES: [Case; 70] = [
     },
     Case {
         what: "SHF by 64 is 0",
-        code: &[Code(47, 0, 0, 0, 0), Code(2, 2, 0, 0, 48), Code(2, 3, 0, 0, 64), Code(28, 1, 2, 3, 0), Code(66, 1, 0, 0, 0), Code(50, 0, 0, 0, 0)],
+        code: &[
+            Code(47, 0, 0, 0, 0),
+            Code(2, 2, 0, 0, 48),
+            Code(2, 3, 0, 0, 64),
+            Code(28, 1, 2, 3, 0),
+            Code(66, 1, 0, 0, 0),
+            Code(50, 0, 0, 0, 0),
+        ],
         words: &[],
         status: 0,
         out: b"0",
@@ -221,7 +382,14 @@ const CASES: [Case; 70] = [
     },
     Case {
         what: "ROT",
-        code: &[Code(47, 0, 0, 0, 0), Code(2, 2, 0, 0, -2), Code(2, 3, 0, 0, 1), Code(29, 1, 2, 3, 0), Code(66, 1, 0, 0, 0), Code(50, 0, 0, 0, 0)],
+        code: &[
+            Code(47, 0, 0, 0, 0),
+            Code(2, 2, 0, 0, -2),
+            Code(2, 3, 0, 0, 1),
+            Code(29, 1, 2, 3, 0),
+            Code(66, 1, 0, 0, 0),
+            Code(50, 0, 0, 0, 0),
+        ],
         words: &[],
         status: 0,
         out: b"-3",
@@ -229,7 +397,14 @@ const CASES: [Case; 70] = [
     },
     Case {
         what: "SEQ",
-        code: &[Code(47, 0, 0, 0, 0), Code(2, 2, 0, 0, 3), Code(2, 3, 0, 0, 3), Code(30, 1, 2, 3, 0), Code(66, 1, 0, 0, 0), Code(50, 0, 0, 0, 0)],
+        code: &[
+            Code(47, 0, 0, 0, 0),
+            Code(2, 2, 0, 0, 3),
+            Code(2, 3, 0, 0, 3),
+            Code(30, 1, 2, 3, 0),
+            Code(66, 1, 0, 0, 0),
+            Code(50, 0, 0, 0, 0),
+        ],
         words: &[],
         status: 0,
         out: b"1",
@@ -237,7 +412,14 @@ const CASES: [Case; 70] = [
     },
     Case {
         what: "SLT is signed",
-        code: &[Code(47, 0, 0, 0, 0), Code(2, 2, 0, 0, -3), Code(2, 3, 0, 0, 3), Code(31, 1, 2, 3, 0), Code(66, 1, 0, 0, 0), Code(50, 0, 0, 0, 0)],
+        code: &[
+            Code(47, 0, 0, 0, 0),
+            Code(2, 2, 0, 0, -3),
+            Code(2, 3, 0, 0, 3),
+            Code(31, 1, 2, 3, 0),
+            Code(66, 1, 0, 0, 0),
+            Code(50, 0, 0, 0, 0),
+        ],
         words: &[],
         status: 0,
         out: b"1",
@@ -245,7 +427,14 @@ const CASES: [Case; 70] = [
     },
     Case {
         what: "SLTU is unsigned",
-        code: &[Code(47, 0, 0, 0, 0), Code(2, 2, 0, 0, -3), Code(2, 3, 0, 0, 3), Code(32, 1, 2, 3, 0), Code(66, 1, 0, 0, 0), Code(50, 0, 0, 0, 0)],
+        code: &[
+            Code(47, 0, 0, 0, 0),
+            Code(2, 2, 0, 0, -3),
+            Code(2, 3, 0, 0, 3),
+            Code(32, 1, 2, 3, 0),
+            Code(66, 1, 0, 0, 0),
+            Code(50, 0, 0, 0, 0),
+        ],
         words: &[],
         status: 0,
         out: b"0",
@@ -253,7 +442,20 @@ const CASES: [Case; 70] = [
     },
     Case {
         what: "COPY to higher words that overlap",
-        code: &[Code(47, 0, 0, 0, 0), Code(2, 2, 0, 0, 1), Code(8, 2, 0, 0, 3), Code(2, 2, 0, 0, 2), Code(8, 2, 0, 0, 4), Code(6, 4, 0, 0, 4), Code(6, 5, 0, 0, 3), Code(2, 6, 0, 0, 2), Code(11, 4, 5, 6, 0), Code(7, 1, 0, 0, 5), Code(66, 1, 0, 0, 0), Code(50, 0, 0, 0, 0)],
+        code: &[
+            Code(47, 0, 0, 0, 0),
+            Code(2, 2, 0, 0, 1),
+            Code(8, 2, 0, 0, 3),
+            Code(2, 2, 0, 0, 2),
+            Code(8, 2, 0, 0, 4),
+            Code(6, 4, 0, 0, 4),
+            Code(6, 5, 0, 0, 3),
+            Code(2, 6, 0, 0, 2),
+            Code(11, 4, 5, 6, 0),
+            Code(7, 1, 0, 0, 5),
+            Code(66, 1, 0, 0, 0),
+            Code(50, 0, 0, 0, 0),
+        ],
         words: &[],
         status: 0,
         out: b"2",
@@ -261,7 +463,18 @@ const CASES: [Case; 70] = [
     },
     Case {
         what: "FILL repeats",
-        code: &[Code(47, 0, 0, 0, 0), Code(2, 2, 0, 0, 6), Code(8, 2, 0, 0, 3), Code(6, 4, 0, 0, 3), Code(2, 5, 0, 0, 3), Code(2, 6, 0, 0, 1), Code(12, 4, 5, 6, 0), Code(7, 1, 0, 0, 6), Code(66, 1, 0, 0, 0), Code(50, 0, 0, 0, 0)],
+        code: &[
+            Code(47, 0, 0, 0, 0),
+            Code(2, 2, 0, 0, 6),
+            Code(8, 2, 0, 0, 3),
+            Code(6, 4, 0, 0, 3),
+            Code(2, 5, 0, 0, 3),
+            Code(2, 6, 0, 0, 1),
+            Code(12, 4, 5, 6, 0),
+            Code(7, 1, 0, 0, 6),
+            Code(66, 1, 0, 0, 0),
+            Code(50, 0, 0, 0, 0),
+        ],
         words: &[],
         status: 0,
         out: b"6",
@@ -269,7 +482,13 @@ const CASES: [Case; 70] = [
     },
     Case {
         what: "EQW of no words is 1",
-        code: &[Code(47, 0, 0, 0, 0), Code(2, 1, 0, 0, 0), Code(13, 1, 2, 3, 0), Code(66, 1, 0, 0, 0), Code(50, 0, 0, 0, 0)],
+        code: &[
+            Code(47, 0, 0, 0, 0),
+            Code(2, 1, 0, 0, 0),
+            Code(13, 1, 2, 3, 0),
+            Code(66, 1, 0, 0, 0),
+            Code(50, 0, 0, 0, 0),
+        ],
         words: &[],
         status: 0,
         out: b"1",
@@ -277,7 +496,17 @@ const CASES: [Case; 70] = [
     },
     Case {
         what: "ADDO jumps on overflow and leaves its register",
-        code: &[Code(47, 0, 0, 0, 0), Code(2, 1, 0, 0, 5), Code(2, 2, 0, 0, -1), Code(2, 4, 0, 0, 1), Code(3, 2, 0, 0, 2147483647), Code(18, 1, 2, 4, 7), Code(50, 0, 0, 0, 0), Code(66, 1, 0, 0, 0), Code(50, 0, 0, 0, 0)],
+        code: &[
+            Code(47, 0, 0, 0, 0),
+            Code(2, 1, 0, 0, 5),
+            Code(2, 2, 0, 0, -1),
+            Code(2, 4, 0, 0, 1),
+            Code(3, 2, 0, 0, 2147483647),
+            Code(18, 1, 2, 4, 7),
+            Code(50, 0, 0, 0, 0),
+            Code(66, 1, 0, 0, 0),
+            Code(50, 0, 0, 0, 0),
+        ],
         words: &[],
         status: 0,
         out: b"5",
@@ -285,7 +514,14 @@ const CASES: [Case; 70] = [
     },
     Case {
         what: "DIVU jumps where the divisor is 0",
-        code: &[Code(47, 0, 0, 0, 0), Code(2, 1, 0, 0, 5), Code(23, 1, 2, 3, 4), Code(50, 0, 0, 0, 0), Code(66, 1, 0, 0, 0), Code(50, 0, 0, 0, 0)],
+        code: &[
+            Code(47, 0, 0, 0, 0),
+            Code(2, 1, 0, 0, 5),
+            Code(23, 1, 2, 3, 4),
+            Code(50, 0, 0, 0, 0),
+            Code(66, 1, 0, 0, 0),
+            Code(50, 0, 0, 0, 0),
+        ],
         words: &[],
         status: 0,
         out: b"5",
@@ -293,7 +529,16 @@ const CASES: [Case; 70] = [
     },
     Case {
         what: "BZ and BNZ",
-        code: &[Code(47, 0, 0, 0, 0), Code(34, 1, 0, 0, 3), Code(50, 0, 0, 0, 0), Code(2, 1, 0, 0, 4), Code(35, 1, 0, 0, 6), Code(50, 0, 0, 0, 0), Code(66, 1, 0, 0, 0), Code(50, 0, 0, 0, 0)],
+        code: &[
+            Code(47, 0, 0, 0, 0),
+            Code(34, 1, 0, 0, 3),
+            Code(50, 0, 0, 0, 0),
+            Code(2, 1, 0, 0, 4),
+            Code(35, 1, 0, 0, 6),
+            Code(50, 0, 0, 0, 0),
+            Code(66, 1, 0, 0, 0),
+            Code(50, 0, 0, 0, 0),
+        ],
         words: &[],
         status: 0,
         out: b"4",
@@ -301,7 +546,18 @@ const CASES: [Case; 70] = [
     },
     Case {
         what: "BLT, BLTU and BEQ",
-        code: &[Code(47, 0, 0, 0, 0), Code(2, 1, 0, 0, -1), Code(36, 1, 2, 0, 4), Code(50, 0, 0, 0, 0), Code(37, 2, 1, 0, 6), Code(50, 0, 0, 0, 0), Code(38, 2, 3, 0, 8), Code(50, 0, 0, 0, 0), Code(66, 1, 0, 0, 0), Code(50, 0, 0, 0, 0)],
+        code: &[
+            Code(47, 0, 0, 0, 0),
+            Code(2, 1, 0, 0, -1),
+            Code(36, 1, 2, 0, 4),
+            Code(50, 0, 0, 0, 0),
+            Code(37, 2, 1, 0, 6),
+            Code(50, 0, 0, 0, 0),
+            Code(38, 2, 3, 0, 8),
+            Code(50, 0, 0, 0, 0),
+            Code(66, 1, 0, 0, 0),
+            Code(50, 0, 0, 0, 0),
+        ],
         words: &[],
         status: 0,
         out: b"-1",
@@ -309,7 +565,11 @@ const CASES: [Case; 70] = [
     },
     Case {
         what: "CALL enters a procedure",
-        code: &[Code(47, 0, 0, 0, 0), Code(39, 0, 0, 0, 1), Code(50, 0, 0, 0, 0)],
+        code: &[
+            Code(47, 0, 0, 0, 0),
+            Code(39, 0, 0, 0, 1),
+            Code(50, 0, 0, 0, 0),
+        ],
         words: &[],
         status: 0,
         out: b"",
@@ -317,7 +577,12 @@ const CASES: [Case; 70] = [
     },
     Case {
         what: "CALLR of procedure 1",
-        code: &[Code(47, 0, 0, 0, 0), Code(2, 1, 0, 0, 2), Code(40, 1, 0, 0, 0), Code(50, 0, 0, 0, 0)],
+        code: &[
+            Code(47, 0, 0, 0, 0),
+            Code(2, 1, 0, 0, 2),
+            Code(40, 1, 0, 0, 0),
+            Code(50, 0, 0, 0, 0),
+        ],
         words: &[],
         status: 0,
         out: b"",
@@ -325,7 +590,11 @@ const CASES: [Case; 70] = [
     },
     Case {
         what: "CALLR of 0",
-        code: &[Code(47, 0, 0, 0, 0), Code(40, 1, 0, 0, 0), Code(50, 0, 0, 0, 0)],
+        code: &[
+            Code(47, 0, 0, 0, 0),
+            Code(40, 1, 0, 0, 0),
+            Code(50, 0, 0, 0, 0),
+        ],
         words: &[],
         status: 17,
         out: b"",
@@ -333,7 +602,12 @@ const CASES: [Case; 70] = [
     },
     Case {
         what: "CALLR past the procedures",
-        code: &[Code(47, 0, 0, 0, 0), Code(2, 1, 0, 0, 3), Code(40, 1, 0, 0, 0), Code(50, 0, 0, 0, 0)],
+        code: &[
+            Code(47, 0, 0, 0, 0),
+            Code(2, 1, 0, 0, 3),
+            Code(40, 1, 0, 0, 0),
+            Code(50, 0, 0, 0, 0),
+        ],
         words: &[],
         status: 17,
         out: b"",
@@ -349,7 +623,11 @@ const CASES: [Case; 70] = [
     },
     Case {
         what: "a load of nothing",
-        code: &[Code(47, 0, 0, 0, 0), Code(7, 0, 0, 0, 2000000), Code(50, 0, 0, 0, 0)],
+        code: &[
+            Code(47, 0, 0, 0, 0),
+            Code(7, 0, 0, 0, 2000000),
+            Code(50, 0, 0, 0, 0),
+        ],
         words: &[],
         status: 17,
         out: b"",
@@ -357,7 +635,12 @@ const CASES: [Case; 70] = [
     },
     Case {
         what: "a store to a constant",
-        code: &[Code(47, 0, 0, 0, 0), Code(4, 2, 0, 0, 0), Code(10, 1, 2, 0, 0), Code(50, 0, 0, 0, 0)],
+        code: &[
+            Code(47, 0, 0, 0, 0),
+            Code(4, 2, 0, 0, 0),
+            Code(10, 1, 2, 0, 0),
+            Code(50, 0, 0, 0, 0),
+        ],
         words: &[],
         status: 17,
         out: b"",
@@ -365,7 +648,12 @@ const CASES: [Case; 70] = [
     },
     Case {
         what: "a store to global 0",
-        code: &[Code(47, 0, 0, 0, 0), Code(5, 2, 0, 0, 0), Code(10, 1, 2, 0, 0), Code(50, 0, 0, 0, 0)],
+        code: &[
+            Code(47, 0, 0, 0, 0),
+            Code(5, 2, 0, 0, 0),
+            Code(10, 1, 2, 0, 0),
+            Code(50, 0, 0, 0, 0),
+        ],
         words: &[],
         status: 17,
         out: b"",
@@ -373,7 +661,11 @@ const CASES: [Case; 70] = [
     },
     Case {
         what: "NEW of an open type",
-        code: &[Code(47, 0, 0, 0, 0), Code(45, 1, 0, 0, 3), Code(50, 0, 0, 0, 0)],
+        code: &[
+            Code(47, 0, 0, 0, 0),
+            Code(45, 1, 0, 0, 3),
+            Code(50, 0, 0, 0, 0),
+        ],
         words: &[],
         status: 17,
         out: b"",
@@ -381,7 +673,11 @@ const CASES: [Case; 70] = [
     },
     Case {
         what: "NEWO of a fixed type",
-        code: &[Code(47, 0, 0, 0, 0), Code(46, 1, 2, 0, 2), Code(50, 0, 0, 0, 0)],
+        code: &[
+            Code(47, 0, 0, 0, 0),
+            Code(46, 1, 2, 0, 2),
+            Code(50, 0, 0, 0, 0),
+        ],
         words: &[],
         status: 17,
         out: b"",
@@ -389,7 +685,16 @@ const CASES: [Case; 70] = [
     },
     Case {
         what: "NEWO writes its size",
-        code: &[Code(47, 0, 0, 0, 0), Code(2, 1, 0, 0, 3), Code(8, 1, 0, 0, 5), Code(6, 2, 0, 0, 5), Code(46, 3, 2, 0, 3), Code(9, 1, 3, 0, 1), Code(66, 1, 0, 0, 0), Code(50, 0, 0, 0, 0)],
+        code: &[
+            Code(47, 0, 0, 0, 0),
+            Code(2, 1, 0, 0, 3),
+            Code(8, 1, 0, 0, 5),
+            Code(6, 2, 0, 0, 5),
+            Code(46, 3, 2, 0, 3),
+            Code(9, 1, 3, 0, 1),
+            Code(66, 1, 0, 0, 0),
+            Code(50, 0, 0, 0, 0),
+        ],
         words: &[],
         status: 0,
         out: b"3",
@@ -397,7 +702,14 @@ const CASES: [Case; 70] = [
     },
     Case {
         what: "a size below 0",
-        code: &[Code(47, 0, 0, 0, 0), Code(2, 1, 0, 0, -1), Code(8, 1, 0, 0, 5), Code(6, 2, 0, 0, 5), Code(46, 3, 2, 0, 3), Code(50, 0, 0, 0, 0)],
+        code: &[
+            Code(47, 0, 0, 0, 0),
+            Code(2, 1, 0, 0, -1),
+            Code(8, 1, 0, 0, 5),
+            Code(6, 2, 0, 0, 5),
+            Code(46, 3, 2, 0, 3),
+            Code(50, 0, 0, 0, 0),
+        ],
         words: &[],
         status: 17,
         out: b"",
@@ -405,7 +717,14 @@ const CASES: [Case; 70] = [
     },
     Case {
         what: "a cell that never fits has one collection",
-        code: &[Code(47, 0, 0, 0, 0), Code(2, 1, 0, 0, 100), Code(8, 1, 0, 0, 5), Code(6, 2, 0, 0, 5), Code(46, 3, 2, 0, 3), Code(50, 0, 0, 0, 0)],
+        code: &[
+            Code(47, 0, 0, 0, 0),
+            Code(2, 1, 0, 0, 100),
+            Code(8, 1, 0, 0, 5),
+            Code(6, 2, 0, 0, 5),
+            Code(46, 3, 2, 0, 3),
+            Code(50, 0, 0, 0, 0),
+        ],
         words: &["--heap", "64", "--switches", "none"],
         status: 15,
         out: b"",
@@ -413,7 +732,14 @@ const CASES: [Case; 70] = [
     },
     Case {
         what: "a loop that fills the heap with garbage",
-        code: &[Code(47, 0, 0, 0, 0), Code(45, 1, 0, 0, 2), Code(17, 2, 2, 0, 1), Code(2, 3, 0, 0, 100), Code(36, 2, 3, 0, 1), Code(50, 0, 0, 0, 0)],
+        code: &[
+            Code(47, 0, 0, 0, 0),
+            Code(45, 1, 0, 0, 2),
+            Code(17, 2, 2, 0, 1),
+            Code(2, 3, 0, 0, 100),
+            Code(36, 2, 3, 0, 1),
+            Code(50, 0, 0, 0, 0),
+        ],
         words: &["--heap", "64", "--switches", "none"],
         status: 0,
         out: b"",
@@ -421,7 +747,11 @@ const CASES: [Case; 70] = [
     },
     Case {
         what: "METH of nothing",
-        code: &[Code(47, 0, 0, 0, 0), Code(43, 1, 2, 0, 0), Code(50, 0, 0, 0, 0)],
+        code: &[
+            Code(47, 0, 0, 0, 0),
+            Code(43, 1, 2, 0, 0),
+            Code(50, 0, 0, 0, 0),
+        ],
         words: &[],
         status: 17,
         out: b"",
@@ -429,7 +759,12 @@ const CASES: [Case; 70] = [
     },
     Case {
         what: "METH past the list",
-        code: &[Code(47, 0, 0, 0, 0), Code(45, 2, 0, 0, 2), Code(43, 1, 2, 0, 0), Code(50, 0, 0, 0, 0)],
+        code: &[
+            Code(47, 0, 0, 0, 0),
+            Code(45, 2, 0, 0, 2),
+            Code(43, 1, 2, 0, 0),
+            Code(50, 0, 0, 0, 0),
+        ],
         words: &[],
         status: 17,
         out: b"",
@@ -437,7 +772,13 @@ const CASES: [Case; 70] = [
     },
     Case {
         what: "SUBT of the type itself",
-        code: &[Code(47, 0, 0, 0, 0), Code(45, 2, 0, 0, 2), Code(44, 1, 2, 0, 2), Code(66, 1, 0, 0, 0), Code(50, 0, 0, 0, 0)],
+        code: &[
+            Code(47, 0, 0, 0, 0),
+            Code(45, 2, 0, 0, 2),
+            Code(44, 1, 2, 0, 2),
+            Code(66, 1, 0, 0, 0),
+            Code(50, 0, 0, 0, 0),
+        ],
         words: &[],
         status: 0,
         out: b"1",
@@ -445,7 +786,13 @@ const CASES: [Case; 70] = [
     },
     Case {
         what: "SUBT of another type",
-        code: &[Code(47, 0, 0, 0, 0), Code(45, 2, 0, 0, 2), Code(44, 1, 2, 0, 1), Code(66, 1, 0, 0, 0), Code(50, 0, 0, 0, 0)],
+        code: &[
+            Code(47, 0, 0, 0, 0),
+            Code(45, 2, 0, 0, 2),
+            Code(44, 1, 2, 0, 1),
+            Code(66, 1, 0, 0, 0),
+            Code(50, 0, 0, 0, 0),
+        ],
         words: &[],
         status: 0,
         out: b"0",
@@ -461,7 +808,11 @@ const CASES: [Case; 70] = [
     },
     Case {
         what: "UNC of none",
-        code: &[Code(47, 0, 0, 0, 0), Code(2, 1, 0, 0, 1), Code(49, 1, 0, 0, 0)],
+        code: &[
+            Code(47, 0, 0, 0, 0),
+            Code(2, 1, 0, 0, 1),
+            Code(49, 1, 0, 0, 0),
+        ],
         words: &[],
         status: 17,
         out: b"",
@@ -493,7 +844,11 @@ const CASES: [Case; 70] = [
     },
     Case {
         what: "one point allowed",
-        code: &[Code(47, 0, 0, 0, 0), Code(47, 0, 0, 0, 0), Code(50, 0, 0, 0, 0)],
+        code: &[
+            Code(47, 0, 0, 0, 0),
+            Code(47, 0, 0, 0, 0),
+            Code(50, 0, 0, 0, 0),
+        ],
         words: &["--points", "1"],
         status: 14,
         out: b"",
@@ -501,7 +856,16 @@ const CASES: [Case; 70] = [
     },
     Case {
         what: "TCHR, CAT and PUT",
-        code: &[Code(47, 0, 0, 0, 0), Code(2, 1, 0, 0, 65), Code(53, 2, 1, 0, 0), Code(2, 1, 0, 0, 66), Code(53, 3, 1, 0, 0), Code(52, 4, 2, 3, 0), Code(65, 4, 0, 0, 0), Code(50, 0, 0, 0, 0)],
+        code: &[
+            Code(47, 0, 0, 0, 0),
+            Code(2, 1, 0, 0, 65),
+            Code(53, 2, 1, 0, 0),
+            Code(2, 1, 0, 0, 66),
+            Code(53, 3, 1, 0, 0),
+            Code(52, 4, 2, 3, 0),
+            Code(65, 4, 0, 0, 0),
+            Code(50, 0, 0, 0, 0),
+        ],
         words: &[],
         status: 0,
         out: b"AB",
@@ -509,7 +873,17 @@ const CASES: [Case; 70] = [
     },
     Case {
         what: "TSUB takes what is there",
-        code: &[Code(47, 0, 0, 0, 0), Code(2, 1, 0, 0, 65), Code(53, 2, 1, 0, 0), Code(52, 3, 2, 2, 0), Code(2, 4, 0, 0, 1), Code(2, 5, 0, 0, 9), Code(54, 6, 3, 4, 5), Code(65, 6, 0, 0, 0), Code(50, 0, 0, 0, 0)],
+        code: &[
+            Code(47, 0, 0, 0, 0),
+            Code(2, 1, 0, 0, 65),
+            Code(53, 2, 1, 0, 0),
+            Code(52, 3, 2, 2, 0),
+            Code(2, 4, 0, 0, 1),
+            Code(2, 5, 0, 0, 9),
+            Code(54, 6, 3, 4, 5),
+            Code(65, 6, 0, 0, 0),
+            Code(50, 0, 0, 0, 0),
+        ],
         words: &[],
         status: 0,
         out: b"A",
@@ -517,7 +891,14 @@ const CASES: [Case; 70] = [
     },
     Case {
         what: "TGET",
-        code: &[Code(47, 0, 0, 0, 0), Code(2, 2, 0, 0, 65), Code(53, 3, 2, 0, 0), Code(55, 1, 3, 4, 0), Code(66, 1, 0, 0, 0), Code(50, 0, 0, 0, 0)],
+        code: &[
+            Code(47, 0, 0, 0, 0),
+            Code(2, 2, 0, 0, 65),
+            Code(53, 3, 2, 0, 0),
+            Code(55, 1, 3, 4, 0),
+            Code(66, 1, 0, 0, 0),
+            Code(50, 0, 0, 0, 0),
+        ],
         words: &[],
         status: 0,
         out: b"65",
@@ -525,7 +906,15 @@ const CASES: [Case; 70] = [
     },
     Case {
         what: "TEQ of equal texts",
-        code: &[Code(47, 0, 0, 0, 0), Code(2, 2, 0, 0, 65), Code(53, 3, 2, 0, 0), Code(53, 4, 2, 0, 0), Code(56, 1, 3, 4, 0), Code(66, 1, 0, 0, 0), Code(50, 0, 0, 0, 0)],
+        code: &[
+            Code(47, 0, 0, 0, 0),
+            Code(2, 2, 0, 0, 65),
+            Code(53, 3, 2, 0, 0),
+            Code(53, 4, 2, 0, 0),
+            Code(56, 1, 3, 4, 0),
+            Code(66, 1, 0, 0, 0),
+            Code(50, 0, 0, 0, 0),
+        ],
         words: &[],
         status: 0,
         out: b"1",
@@ -533,7 +922,12 @@ const CASES: [Case; 70] = [
     },
     Case {
         what: "PUTC puts the low byte",
-        code: &[Code(47, 0, 0, 0, 0), Code(2, 1, 0, 0, 321), Code(67, 1, 0, 0, 0), Code(50, 0, 0, 0, 0)],
+        code: &[
+            Code(47, 0, 0, 0, 0),
+            Code(2, 1, 0, 0, 321),
+            Code(67, 1, 0, 0, 0),
+            Code(50, 0, 0, 0, 0),
+        ],
         words: &[],
         status: 0,
         out: b"A",
@@ -541,7 +935,16 @@ const CASES: [Case; 70] = [
     },
     Case {
         what: "GETC, EOF and the end of the input",
-        code: &[Code(47, 0, 0, 0, 0), Code(72, 1, 0, 0, 5), Code(67, 1, 0, 0, 0), Code(33, 0, 0, 0, 1), Code(50, 0, 0, 0, 0), Code(73, 1, 0, 0, 0), Code(66, 1, 0, 0, 0), Code(50, 0, 0, 0, 0)],
+        code: &[
+            Code(47, 0, 0, 0, 0),
+            Code(72, 1, 0, 0, 5),
+            Code(67, 1, 0, 0, 0),
+            Code(33, 0, 0, 0, 1),
+            Code(50, 0, 0, 0, 0),
+            Code(73, 1, 0, 0, 0),
+            Code(66, 1, 0, 0, 0),
+            Code(50, 0, 0, 0, 0),
+        ],
         words: &["--input", "in"],
         status: 0,
         out: b"xyz1",
@@ -549,7 +952,13 @@ const CASES: [Case; 70] = [
     },
     Case {
         what: "a mutex that its own thread holds",
-        code: &[Code(47, 0, 0, 0, 0), Code(45, 1, 0, 0, 2), Code(59, 1, 0, 0, 0), Code(59, 1, 0, 0, 0), Code(50, 0, 0, 0, 0)],
+        code: &[
+            Code(47, 0, 0, 0, 0),
+            Code(45, 1, 0, 0, 2),
+            Code(59, 1, 0, 0, 0),
+            Code(59, 1, 0, 0, 0),
+            Code(50, 0, 0, 0, 0),
+        ],
         words: &[],
         status: 12,
         out: b"",
@@ -557,7 +966,15 @@ const CASES: [Case; 70] = [
     },
     Case {
         what: "REL of a mutex that is free jumps",
-        code: &[Code(47, 0, 0, 0, 0), Code(45, 1, 0, 0, 2), Code(60, 1, 0, 0, 4), Code(50, 0, 0, 0, 0), Code(2, 1, 0, 0, 6), Code(66, 1, 0, 0, 0), Code(50, 0, 0, 0, 0)],
+        code: &[
+            Code(47, 0, 0, 0, 0),
+            Code(45, 1, 0, 0, 2),
+            Code(60, 1, 0, 0, 4),
+            Code(50, 0, 0, 0, 0),
+            Code(2, 1, 0, 0, 6),
+            Code(66, 1, 0, 0, 0),
+            Code(50, 0, 0, 0, 0),
+        ],
         words: &[],
         status: 0,
         out: b"6",
@@ -565,7 +982,12 @@ const CASES: [Case; 70] = [
     },
     Case {
         what: "FORK, and the new thread ends the program",
-        code: &[Code(47, 0, 0, 0, 0), Code(57, 1, 2, 0, 0), Code(58, 3, 1, 0, 0), Code(50, 0, 0, 0, 0)],
+        code: &[
+            Code(47, 0, 0, 0, 0),
+            Code(57, 1, 2, 0, 0),
+            Code(58, 3, 1, 0, 0),
+            Code(50, 0, 0, 0, 0),
+        ],
         words: &[],
         status: 0,
         out: b"",
@@ -573,7 +995,11 @@ const CASES: [Case; 70] = [
     },
     Case {
         what: "FORK past the allowed threads",
-        code: &[Code(47, 0, 0, 0, 0), Code(57, 1, 2, 0, 0), Code(50, 0, 0, 0, 0)],
+        code: &[
+            Code(47, 0, 0, 0, 0),
+            Code(57, 1, 2, 0, 0),
+            Code(50, 0, 0, 0, 0),
+        ],
         words: &["--threads", "1"],
         status: 13,
         out: b"",
@@ -581,7 +1007,14 @@ const CASES: [Case; 70] = [
     },
     Case {
         what: "SELF is the cell of the main thread",
-        code: &[Code(47, 0, 0, 0, 0), Code(64, 1, 0, 0, 0), Code(5, 2, 0, 0, 0), Code(15, 1, 1, 2, 0), Code(66, 1, 0, 0, 0), Code(50, 0, 0, 0, 0)],
+        code: &[
+            Code(47, 0, 0, 0, 0),
+            Code(64, 1, 0, 0, 0),
+            Code(5, 2, 0, 0, 0),
+            Code(15, 1, 1, 2, 0),
+            Code(66, 1, 0, 0, 0),
+            Code(50, 0, 0, 0, 0),
+        ],
         words: &[],
         status: 0,
         out: b"0",
@@ -589,7 +1022,13 @@ const CASES: [Case; 70] = [
     },
     Case {
         what: "TALERT of no alert",
-        code: &[Code(47, 0, 0, 0, 0), Code(2, 1, 0, 0, 9), Code(69, 1, 0, 0, 0), Code(66, 1, 0, 0, 0), Code(50, 0, 0, 0, 0)],
+        code: &[
+            Code(47, 0, 0, 0, 0),
+            Code(2, 1, 0, 0, 9),
+            Code(69, 1, 0, 0, 0),
+            Code(66, 1, 0, 0, 0),
+            Code(50, 0, 0, 0, 0),
+        ],
         words: &[],
         status: 0,
         out: b"0",

@@ -6,11 +6,13 @@ use Rattle.m3_base.specs.declared.outcomes.Outcome.{Outcome}
 use Rattle.m3_base.specs.declared.outcomes.Outcome.TheVariants.{Done, Fault}
 use Rattle.std.specs.FinMap.{get}
 use Rattle.m3_ports.specs.Counts.{Rose}
+use Rattle.m3_ports.specs.Files.{Files}
+use Rattle.m3_build.specs.PlainForm.{IsPlain}
 use Rattle.m3_isa.specs.declared.instructions.Instr.{Instr}
 use Rattle.m3_build.specs.Terms.{Term, Value, Gives, Overflows, value_of, ended_by, outcome_of, output_of, points_of}
 use Rattle.m3_build.specs.Machine.{State, Ends, run, start}
 use Rattle.m3c.specs.declared.machine.Ended.{Ended}
-use Rattle.m3c.specs.Command.{Call, CountRose, Took, IsSilent, Says, IsRead, report, Ran, Refuses, Answers}
+use Rattle.m3c.specs.Command.{Call, CountRose, Took, IsSilent, Says, IsRead, report, Ran, Refuses, NotPlain, Answers}
 use Rattle.m3c.specs.Compiled.{Compiles}
 use Rattle.m3c.proofs.Loops.{same_end}
 
@@ -95,6 +97,19 @@ row_fault call row = record {
   too_long = λ e. absurd (omega arith);
   fault = λ e. row;
 }
+
+-- a text that was read and isn't in the plain form
+pub not_plain_text : (held : Option Files) (name text before after bytes : List ℕ) → after ≡ before ++ bytes → before ≡ [] → text ≡ after → length bytes ≤ 1048576 → IfSome held (λ files. get files name ≡ Some bytes) → ((puts : List Term) → IsPlain text puts → ⊥) → NotPlain (Some name) held
+not_plain_text held name text before after bytes e empty same short told other =
+    let t : bytes ≡ text = sym (same ∙ e ∙ ap (λ b. b ++ bytes) empty) in
+    record {
+      name = name;
+      text = text;
+      named = refl;
+      short = subst (λ b. length b ≤ 1048576) t short;
+      told = subst (λ b. IfSome held (λ files. get files name ≡ Some b)) t told;
+      other = other;
+    }
 
 -- ---- a run
 
