@@ -36,7 +36,7 @@ fn run(alloc: Global, bytes: &[u8], more: &[&str]) -> Result<Answer, Fail> {
         ),
     ) = read_words(alloc, &words)
     else {
-        return Err(Fail);
+        return Err(Fail::new("no words of run"));
     };
     let answer = run_image(alloc, name, options, &mut shelf, &mut out, &mut image);
     let status = tell(&mut err, answer);

@@ -217,7 +217,7 @@ fn each_put_fails(rt: HostRuntime) -> Result<(), Fail> {
         .iter()
         .find(|case| case.out == Some(b"123".as_slice()))
     else {
-        return Err(Fail);
+        return Err(Fail::new("no such case"));
     };
     for failing in 1..4 {
         let mut shelf = shelf_of(rt.alloc(), case)?;
