@@ -40,15 +40,22 @@ fn computed<'a>(
     kind: TypeId,
 ) -> Result<Thing<'a>, NoMemory> {
     let actuals = &*checker.arena.try_alloc_slice_copy(values)?;
-    let order: &'a [u32] = if values.len() == 1 { &[0] } else { &[0, 1] };
     let call = BuiltinCall {
         pos,
         routine,
         actuals,
-        order,
+        order: order_of(values.len()),
         kind: Some(kind),
     };
     built(checker, call)
+}
+
+/// The places of one or two values, in their order.
+fn order_of(values: usize) -> &'static [u32] {
+    match values {
+        1 => &[0],
+        _ => &[0, 1],
+    }
 }
 
 /// MAX and MIN of ordinals with one base (rule 68).

@@ -45,8 +45,10 @@ pub fn matched<'a>(
     };
     let is_good = match_all(checker, &mut matching, signature, actuals)?
         && add_defaults(checker, &mut matching, formals)?;
+    let Matching { given, order } = matching;
+    drop(given);
     if is_good {
-        Ok(Some(into_bump_slice(matching.order)))
+        Ok(Some(into_bump_slice(order)))
     } else {
         Ok(None)
     }

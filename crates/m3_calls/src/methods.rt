@@ -3,7 +3,7 @@ use m3_base::NoMemory;
 use m3_core::CoreExpr;
 use m3_operands::{Checker, Valued};
 use m3_syntax::Name;
-use m3_types::{ConstId, ConstValue, Mode, Override, TypeId, TypeNode};
+use m3_types::{ConstId, ConstValue, Field, Method, Mode, Override, TypeId, TypeNode};
 
 /// A method that NEW binds: its name, what it is bound to, and its signature.
 #[derive(Clone, Copy)]
@@ -62,8 +62,17 @@ fn overriding<'a>(
             })?;
         }
     }
-    let node = TypeNode::Object(None, parent, &[], &[], into_bump_slice(overrides));
+    let overrides = into_bump_slice(overrides);
+    let node = TypeNode::Object(None, parent, no_fields(), no_methods(), overrides);
     checker.declared.types.push(node)
+}
+
+fn no_fields<'a>() -> &'a [Field<'a>] {
+    &[]
+}
+
+fn no_methods<'a>() -> &'a [Method<'a>] {
+    &[]
 }
 
 fn constant(checker: &mut Checker<'_, '_>, procedure: u32) -> Result<ConstId, NoMemory> {

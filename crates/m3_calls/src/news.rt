@@ -90,15 +90,22 @@ fn new_of<'a>(
         is_bad: false,
     };
     read_parts(checker, &mut parts, pos, kinds, others)?;
-    let bound = bind_methods(checker, kinds, parts.methods.as_slice())?;
-    match bound {
-        Some((kind, made)) if !parts.is_bad => {
+    let Parts {
+        sizes,
+        bindings,
+        methods,
+        is_bad,
+    } = parts;
+    let sizes = into_bump_slice(sizes);
+    let bindings = into_bump_slice(bindings);
+    match bind_methods(checker, kinds, into_bump_slice(methods))? {
+        Some((kind, made)) if !is_bad => {
             let expr = CoreExpr::New {
                 pos,
                 kind,
                 made,
-                sizes: into_bump_slice(parts.sizes),
-                bindings: into_bump_slice(parts.bindings),
+                sizes,
+                bindings,
             };
             checker.value(expr, kind)
         }

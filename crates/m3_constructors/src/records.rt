@@ -35,7 +35,7 @@ pub fn record_of<'a>(
     kind: TypeId,
     parts: &[Part<'a>],
 ) -> Result<Made<'a>, NoMemory> {
-    let fields = fields_of(checker, kind);
+    let fields = fields_in(checker.node(kind));
     let mut making = Making {
         given: vec![in checker.arena; false; fields.len()]?,
         row: Vec::new(checker.arena),
@@ -46,17 +46,16 @@ pub fn record_of<'a>(
     };
     add_parts(checker, &mut making, kind, fields, parts)?;
     add_defaults(checker, &mut making, written.pos, fields)?;
-    Ok(
-        making.judged.make(CoreExpr::RecordOf {
-            pos: written.pos,
-            kind,
-            fields: into_bump_slice(making.row),
-        }),
-    )
+    let Making { given, row, judged } = making;
+    drop(given);
+    Ok(judged.make(CoreExpr::RecordOf {
+        pos: written.pos,
+        kind,
+        fields: into_bump_slice(row),
+    }))
 }
 
-fn fields_of<'a>(checker: &Checker<'_, 'a>, kind: TypeId) -> &'a [Field<'a>] {
-    let node = checker.node(kind);
+fn fields_in<'a>(node: TypeNode<'a>) -> &'a [Field<'a>] {
     match node {
         TypeNode::Fields(fields) => fields,
         _ => &[],

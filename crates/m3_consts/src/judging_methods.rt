@@ -1,13 +1,47 @@
 use indexmap::IndexSet;
-use m3_base::{NoMemory, Pos, place_number};
+use m3_base::{NoMemory, place_number};
 use m3_declarer::{Declarer, MethodValue};
 use m3_gather::TypeAt;
 use m3_syntax::TypeExp;
 use m3_types::{Mode, Secret, TypeId, TypeNode};
 use m3_worth::Member;
 
+/// How many ancestors are passed between two that are noted as being below a type.
+const NOTED_EVERY: usize = 64;
+
+/// Object types with types above them that were found.
+#[derive(Drop)]
+struct Lines {
+    below: IndexSet<(TypeId, TypeId)>,
+}
+
+impl Lines {
+    fn note(&mut self, passed: &[TypeId], above: TypeId) -> Result<(), NoMemory> {
+        for object in passed {
+            self.below.insert((*object, above))?;
+        }
+        Ok(())
+    }
+}
+
 /// Rule 49 on the parents, methods and overrides of object types.
 pub fn judge_methods<'a>(declarer: &mut Declarer<'_, 'a>) -> Result<(), NoMemory> {
+    let orphans = orphans(declarer)?;
+    let mut lines = Lines {
+        below: IndexSet::new(declarer.eval.alloc),
+    };
+    for place in 0..declarer.values.len() {
+        if let Some(value) = declarer.values.get(place).copied() {
+            if !orphans.contains(&value.object) {
+                judge_value(declarer, &mut lines, &value)?;
+            }
+        }
+    }
+    Ok(())
+}
+
+/// The parts of object types whose parents are refused.
+fn orphans<'a>(declarer: &mut Declarer<'_, 'a>) -> Result<IndexSet<TypeId>, NoMemory> {
     let mut orphans = IndexSet::new(declarer.eval.alloc);
     for place in 0..declarer.gathered.types.len() {
         if let Some(written) = declarer.gathered.types.get(place).copied() {
@@ -16,14 +50,7 @@ pub fn judge_methods<'a>(declarer: &mut Declarer<'_, 'a>) -> Result<(), NoMemory
             }
         }
     }
-    for place in 0..declarer.values.len() {
-        if let Some(value) = declarer.values.get(place).copied() {
-            if !orphans.contains(&value.object) {
-                judge_value(declarer, &value)?;
-            }
-        }
-    }
-    Ok(())
+    Ok(orphans)
 }
 
 /// Refuses a parent that is no object type, or Thread.T. The part whose parent is refused is
@@ -72,6 +99,7 @@ fn is_parent<'a>(declarer: &mut Declarer<'_, 'a>, kind: TypeId) -> Result<bool, 
 /// Refuses what is bound to a method and doesn't fit it, and an override of no method.
 fn judge_value<'a>(
     declarer: &mut Declarer<'_, 'a>,
+    lines: &mut Lines,
     value: &MethodValue<'a>,
 ) -> Result<(), NoMemory> {
     declarer.eval.unit = value.unit;
@@ -79,23 +107,17 @@ fn judge_value<'a>(
         Some(signature) => Some(signature),
         None => overridden(declarer, value)?,
     };
-    let Some(signature) = signature else {
-        declarer.note(value.unit, value.pos, 49);
-        return Ok(());
-    };
-    match value.procedure {
-        Some(procedure) => {
-            judge_fit(
-                declarer,
-                value.unit,
-                value.pos,
-                value.object,
-                signature,
-                procedure,
-            )
+    let is_good = match (signature, value.procedure) {
+        (None, _) => false,
+        (Some(_), None) => true,
+        (Some(signature), Some(procedure)) => {
+            fits(declarer, lines, value.object, signature, procedure)?
         }
-        None => Ok(()),
+    };
+    if !is_good {
+        declarer.note(value.unit, value.pos, 49);
     }
+    Ok(())
 }
 
 /// The signature of the method that is overridden.
@@ -115,49 +137,65 @@ fn overridden<'a>(
     }
 }
 
-fn judge_fit<'a>(
+/// Whether a procedure can be a method of an object type, or one of them is refused.
+fn fits<'a>(
     declarer: &mut Declarer<'_, 'a>,
-    unit: u32,
-    pos: Pos,
+    lines: &mut Lines,
     object: TypeId,
     signature: TypeId,
     procedure: TypeId,
-) -> Result<(), NoMemory> {
+) -> Result<bool, NoMemory> {
     if declarer.is_refused(procedure) || declarer.is_refused(signature) {
-        return Ok(());
+        return Ok(true);
     }
-    if !method_fits(declarer, object, signature, procedure)? {
-        declarer.note(unit, pos, 49);
-    }
-    Ok(())
+    method_fits(declarer, lines, object, signature, procedure)
 }
 
 /// Whether an object type is a subtype of another type, which mostly stands among its ancestors.
 fn is_object_below<'a>(
     declarer: &Declarer<'_, 'a>,
+    lines: &mut Lines,
     object: TypeId,
     above: TypeId,
 ) -> Result<bool, NoMemory> {
-    if above == declarer.eval.declared.basic.root {
+    let mut passed = Vec::new(declarer.eval.alloc);
+    if !has_ancestor(declarer, lines, &mut passed, object, above)? {
         return declarer.eval.is_subtype(object, above);
     }
+    lines.note(passed.as_slice(), above)?;
+    Ok(true)
+}
+
+/// Whether a type is an object type or one of its ancestors; some of those that are passed are
+/// listed.
+fn has_ancestor<'a>(
+    declarer: &Declarer<'_, 'a>,
+    lines: &Lines,
+    passed: &mut Vec<TypeId>,
+    object: TypeId,
+    above: TypeId,
+) -> Result<bool, NoMemory> {
     let mut at = object;
-    'ancestors: for _ in 0..declarer.eval.declared.types.nodes.len() {
-        if at == above {
+    for step in 0..declarer.eval.declared.types.nodes.len() {
+        if at == above || lines.below.contains(&(at, above)) {
             return Ok(true);
+        }
+        if step % NOTED_EVERY == 0 {
+            passed.push(at)?;
         }
         match declarer.eval.definition(at) {
             TypeNode::Object(_, parent, _, _, _) => at = parent,
-            _ => break 'ancestors,
+            _ => return Ok(false),
         }
     }
-    declarer.eval.is_subtype(object, above)
+    Ok(false)
 }
 
 /// Whether a procedure can be a method of an object type: its first formal is by VALUE and takes
 /// the object, and the rest is a subtype of the method's signature.
 fn method_fits<'a>(
     declarer: &mut Declarer<'_, 'a>,
+    lines: &mut Lines,
     object: TypeId,
     signature: TypeId,
     procedure: TypeId,
@@ -171,7 +209,7 @@ fn method_fits<'a>(
     if first.mode != Mode::Value {
         return Ok(false);
     }
-    if !declarer.is_refused(first.kind) && !is_object_below(declarer, object, first.kind)? {
+    if !declarer.is_refused(first.kind) && !is_object_below(declarer, lines, object, first.kind)? {
         return Ok(false);
     }
     let node = TypeNode::Procedure(rest, result, raises);

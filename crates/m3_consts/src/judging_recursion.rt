@@ -25,6 +25,10 @@ impl Search {
         self.lows.get(place as usize).copied().unwrap_or(0)
     }
 
+    fn is_on_cycle(&self, place: u32) -> bool {
+        self.is_cyclic.get(place as usize).copied().unwrap_or(false)
+    }
+
     /// Numbers a type that is met for the first time.
     fn enter(&mut self, place: u32) -> Result<(), NoMemory> {
         let number = self.next;
@@ -111,30 +115,44 @@ fn search_from<'a>(
     let mut work = Vec::new(declarer.eval.alloc);
     search.enter(first)?;
     work.push((first, 0usize))?;
-    for _ in 0..u64::MAX {
+    'work: for _ in 0..u64::MAX {
         let Some((place, step)) = work.pop() else {
-            return Ok(());
+            break 'work;
         };
         match held(declarer, TypeId(place), step) {
             Some(TypeId(held)) => {
                 work.push((place, step.saturating_add(1)))?;
-                if search.number(held) == 0 {
-                    search.enter(held)?;
-                    work.push((held, 0))?;
-                } else {
-                    search.meet(place, held);
-                }
+                go_to(search, &mut work, place, held)?;
             }
-            None => {
-                search.leave(place);
-                if let Some((around, _)) = work.last().copied() {
-                    let low = search.low(place);
-                    search.lower(around, low);
-                }
-            }
+            None => go_back(search, work.as_slice(), place),
         }
     }
     Ok(())
+}
+
+/// Goes from a type to one that it contains.
+fn go_to(
+    search: &mut Search,
+    work: &mut Vec<(u32, usize)>,
+    place: u32,
+    held: u32,
+) -> Result<(), NoMemory> {
+    if search.number(held) == 0 {
+        search.enter(held)?;
+        work.push((held, 0))?;
+    } else {
+        search.meet(place, held);
+    }
+    Ok(())
+}
+
+/// Goes back from a type to the one around it.
+fn go_back(search: &mut Search, work: &[(u32, usize)], place: u32) {
+    search.leave(place);
+    if let Some((around, _)) = work.last() {
+        let low = search.low(place);
+        search.lower(*around, low);
+    }
 }
 
 /// The types that a type contains without a reference between, one by one.
@@ -167,21 +185,28 @@ fn parent_behind<'a>(declarer: &Declarer<'_, 'a>, parent: TypeId) -> TypeId {
 }
 
 fn refuse_cyclic<'a>(declarer: &mut Declarer<'_, 'a>, search: &Search) -> Result<(), NoMemory> {
-    for (place, entity) in declarer.eval.program.binds.entities().iter().enumerate() {
-        if matches!(entity.kind, EntityKind::Type | EntityKind::Opaque) {
-            let id = EntityId(place_number(place)?);
-            let is_cyclic = match declarer.eval.declared.type_named(id) {
-                Some(kind) => search
-                    .is_cyclic
-                    .get(kind.0 as usize)
-                    .copied()
-                    .unwrap_or(false),
-                None => false,
-            };
-            if is_cyclic {
-                declarer.note(entity.unit, entity.pos, 46);
-            }
+    let program = declarer.eval.program;
+    for (place, entity) in program.binds.entities().iter().enumerate() {
+        let id = EntityId(place_number(place)?);
+        if names_cyclic(declarer, search, id, entity.kind) {
+            declarer.note(entity.unit, entity.pos, 46);
         }
     }
     Ok(())
+}
+
+/// Whether an entity is the name of a type that is on a cycle.
+fn names_cyclic<'a>(
+    declarer: &Declarer<'_, 'a>,
+    search: &Search,
+    id: EntityId,
+    kind: EntityKind,
+) -> bool {
+    if !matches!(kind, EntityKind::Type | EntityKind::Opaque) {
+        return false;
+    }
+    match declarer.eval.declared.type_named(id) {
+        Some(kind) => search.is_on_cycle(kind.0),
+        None => false,
+    }
 }

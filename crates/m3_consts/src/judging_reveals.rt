@@ -15,19 +15,38 @@ pub fn judge_reveals<'a>(declarer: &mut Declarer<'_, 'a>) -> Result<(), NoMemory
         let Some(found) = told.get(place).copied() else {
             return Ok(());
         };
-        if told.get(first).map(|other| other.opaque) != Some(found.opaque) {
+        if !is_of(&told, first, found.opaque) {
             first = place;
         }
-        if declarer.is_refused(found.kind) {
-            continue;
-        }
-        if found.is_partial {
-            judge_partial(declarer, &told, first, place, &found)?;
-        } else {
-            judge_full(declarer, &told, first, &found)?;
-        }
+        judge_reveal(declarer, &told, first, place, &found)?;
     }
     Ok(())
+}
+
+/// Whether the reveal at a place is one of an opaque type.
+fn is_of(told: &[Told], place: usize, opaque: TypeId) -> bool {
+    match told.get(place) {
+        Some(found) => found.opaque == opaque,
+        None => false,
+    }
+}
+
+/// Judges the reveal at a place; those of the same opaque type stand from the first place on.
+fn judge_reveal<'a>(
+    declarer: &mut Declarer<'_, 'a>,
+    told: &[Told],
+    first: usize,
+    place: usize,
+    found: &Told,
+) -> Result<(), NoMemory> {
+    if declarer.is_refused(found.kind) {
+        return Ok(());
+    }
+    if found.is_partial {
+        judge_partial(declarer, told, first, place, found)
+    } else {
+        judge_full(declarer, told, first, found)
+    }
 }
 
 /// A full reveal: a branded type, below the bound and the types of all partial reveals.
@@ -42,29 +61,52 @@ fn judge_full<'a>(
         declarer.eval.definition(kind),
         TypeNode::RefTo(Some(_), _) | TypeNode::Object(Some(_), _, _, _, _)
     );
-    let mut is_good = is_branded;
-    if let TypeNode::Opaque(bound, _) = declarer.eval.definition(found.opaque) {
-        if !declarer.is_refused(bound) && !is_fully_below(declarer, kind, bound)? {
-            is_good = false;
-        }
+    if !is_branded
+        || !is_below_bound(declarer, kind, found.opaque)?
+        || !is_below_partial(declarer, told, first, found.opaque, kind)?
+    {
+        declarer.note(found.unit, found.pos, 45);
     }
+    Ok(())
+}
+
+/// Whether a type is below the bound of an opaque type.
+fn is_below_bound<'a>(
+    declarer: &Declarer<'_, 'a>,
+    kind: TypeId,
+    opaque: TypeId,
+) -> Result<bool, NoMemory> {
+    match declarer.eval.definition(opaque) {
+        TypeNode::Opaque(bound, _) if !declarer.is_refused(bound) => {
+            is_fully_below(declarer, kind, bound)
+        }
+        _ => Ok(true),
+    }
+}
+
+/// Whether a type is below the types of all partial reveals of an opaque type, which stand from a
+/// place on.
+fn is_below_partial<'a>(
+    declarer: &Declarer<'_, 'a>,
+    told: &[Told],
+    first: usize,
+    opaque: TypeId,
+    kind: TypeId,
+) -> Result<bool, NoMemory> {
     for place in first..told.len() {
         match told.get(place) {
-            Some(other) if other.opaque == found.opaque => {
+            Some(other) if other.opaque == opaque => {
                 if other.is_partial
                     && !declarer.is_refused(other.kind)
                     && !is_fully_below(declarer, kind, other.kind)?
                 {
-                    is_good = false;
+                    return Ok(false);
                 }
             }
-            _ => break,
+            _ => return Ok(true),
         }
     }
-    if !is_good {
-        declarer.note(found.unit, found.pos, 45);
-    }
-    Ok(())
+    Ok(true)
 }
 
 /// A partial reveal: its type and that of each earlier one of the same opaque type are ordered.

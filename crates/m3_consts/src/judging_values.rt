@@ -2,11 +2,12 @@ use crate::judging_methods::judge_methods;
 use crate::judging_parts::judge_parts;
 use crate::judging_recursion::judge_recursion;
 use crate::judging_reveals::judge_reveals;
-use crate::wideness::{new_words, words_of};
+use crate::wideness::{Words, new_words, words_of};
 use m3_base::{NoMemory, Pos, place_number};
 use m3_declared::{Constant, Doubtful};
 use m3_declarer::{Declarer, Promise, argument_of};
-use m3_scopes::{EntityId, EntityKind};
+use m3_gather::LabelAt;
+use m3_scopes::{Entity, EntityId, EntityKind};
 use m3_subtype::Assign;
 use m3_syntax::{Decl, Expr, Init, VarDecl};
 use m3_types::TypeId;
@@ -65,19 +66,31 @@ fn judge_promise<'a>(
 
 /// Rule 49 on the arguments of exceptions.
 fn judge_arguments<'a>(declarer: &mut Declarer<'_, 'a>) -> Result<(), NoMemory> {
+    let program = declarer.eval.program;
     let mut words = new_words(declarer);
-    for (place, entity) in declarer.eval.program.binds.entities().iter().enumerate() {
+    for (place, entity) in program.binds.entities().iter().enumerate() {
         let id = EntityId(place_number(place)?);
-        if entity.kind == EntityKind::Exception {
-            if let (Some(kind), Some(exp)) = (
-                declarer.eval.declared.kind_of(id),
-                argument_of(entity),
-            ) {
-                if !declarer.is_refused(kind) && words_of(declarer, &mut words, kind)? > 1 {
-                    declarer.note(entity.unit, exp.pos(), 49);
-                }
-            }
-        }
+        judge_argument(declarer, &mut words, id, entity)?;
+    }
+    Ok(())
+}
+
+/// The argument of an exception has one word.
+fn judge_argument<'a>(
+    declarer: &mut Declarer<'_, 'a>,
+    words: &mut Words,
+    id: EntityId,
+    entity: &Entity<'a>,
+) -> Result<(), NoMemory> {
+    let (EntityKind::Exception, Some(kind), Some(exp)) = (
+        entity.kind,
+        declarer.eval.declared.kind_of(id),
+        argument_of(entity),
+    ) else {
+        return Ok(());
+    };
+    if !declarer.is_refused(kind) && words_of(declarer, words, kind)? > 1 {
+        declarer.note(entity.unit, exp.pos(), 49);
     }
     Ok(())
 }
@@ -140,18 +153,30 @@ fn judge_body<'a>(
 
 /// The initial values of interface variables: each is a constant (rule 49 at the variable).
 fn judge_interface_variables<'a>(declarer: &mut Declarer<'_, 'a>) -> Result<(), NoMemory> {
-    for (place, unit) in declarer.eval.program.units.iter().enumerate() {
-        let is_interface = match declarer.eval.program.infos.get(place) {
-            Some(info) => info.is_interface,
-            None => false,
-        };
-        if is_interface {
+    let program = declarer.eval.program;
+    for (place, unit) in program.units.iter().enumerate() {
+        if is_interface(declarer, place) {
             declarer.eval.unit = place_number(place)?;
-            for declaration in unit.declarations() {
-                if let Decl::Var { variables, .. } = declaration {
-                    judge_rows(declarer, variables)?;
-                }
-            }
+            judge_declarations(declarer, unit.declarations())?;
+        }
+    }
+    Ok(())
+}
+
+fn is_interface<'a>(declarer: &Declarer<'_, 'a>, unit: usize) -> bool {
+    match declarer.eval.program.infos.get(unit) {
+        Some(info) => info.is_interface,
+        None => false,
+    }
+}
+
+fn judge_declarations<'a>(
+    declarer: &mut Declarer<'_, 'a>,
+    declarations: &'a [Decl<'a>],
+) -> Result<(), NoMemory> {
+    for declaration in declarations {
+        if let Decl::Var { variables, .. } = declaration {
+            judge_rows(declarer, variables)?;
         }
     }
     Ok(())
@@ -162,15 +187,21 @@ fn judge_rows<'a>(
     variables: &'a [VarDecl<'a>],
 ) -> Result<(), NoMemory> {
     for row in variables {
-        let value = match row.init {
-            Init::Typed(_, value) => value,
-            Init::Untyped(value) => Some(value),
-        };
-        if let Some(value) = value {
-            for name in row.names {
-                judge_initial(declarer, name.pos, value)?;
-            }
-        }
+        judge_row(declarer, row)?;
+    }
+    Ok(())
+}
+
+fn judge_row<'a>(declarer: &mut Declarer<'_, 'a>, row: &'a VarDecl<'a>) -> Result<(), NoMemory> {
+    let value = match row.init {
+        Init::Typed(_, value) => value,
+        Init::Untyped(value) => Some(value),
+    };
+    let Some(value) = value else {
+        return Ok(());
+    };
+    for name in row.names {
+        judge_initial(declarer, name.pos, value)?;
     }
     Ok(())
 }
@@ -239,20 +270,28 @@ fn keep_initial<'a>(
 fn tell_labels<'a>(declarer: &mut Declarer<'_, 'a>) -> Result<(), NoMemory> {
     for place in 0..declarer.gathered.labels.len() {
         if let Some(label) = declarer.gathered.labels.get(place).copied() {
-            declarer.eval.unit = label.unit;
-            if let Some(worth) = declarer.worth(label.value, false)? {
-                if let Known::Value(value) = worth.value {
-                    let kind = worth.kind;
-                    let value = declarer.eval.store(value)?;
-                    let pos = label.value.pos();
-                    let constant = Constant { kind, value };
-                    declarer
-                        .eval
-                        .declared
-                        .place_constant(label.unit, pos, constant)?;
-                }
-            }
+            tell_label(declarer, label)?;
         }
     }
     Ok(())
+}
+
+fn tell_label<'a>(declarer: &mut Declarer<'_, 'a>, label: LabelAt<'a>) -> Result<(), NoMemory> {
+    declarer.eval.unit = label.unit;
+    let Some(worth) = declarer.worth(label.value, false)? else {
+        return Ok(());
+    };
+    match worth.value {
+        Known::Value(value) => {
+            let kind = worth.kind;
+            let value = declarer.eval.store(value)?;
+            let pos = label.value.pos();
+            let constant = Constant { kind, value };
+            declarer
+                .eval
+                .declared
+                .place_constant(label.unit, pos, constant)
+        }
+        Known::Varies(_) => Ok(()),
+    }
 }

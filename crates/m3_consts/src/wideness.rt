@@ -1,12 +1,22 @@
 use indexmap::IndexMap;
 use m3_base::NoMemory;
 use m3_declarer::Declarer;
-use m3_types::{TypeId, TypeNode};
+use m3_types::{Field, TypeId, TypeNode};
 
 /// The words of types, as far as 2: each type's are told once.
 #[derive(Drop)]
 pub struct Words {
     told: IndexMap<TypeId, u64>,
+}
+
+impl Words {
+    /// The words of a type that were told, or 1.
+    fn of(&self, kind: TypeId) -> u64 {
+        match self.told.get(&kind) {
+            Some(words) => *words,
+            None => 1,
+        }
+    }
 }
 
 fn at_most_two(words: u64) -> u64 {
@@ -29,20 +39,33 @@ pub fn words_of<'a>(
 ) -> Result<u64, NoMemory> {
     let mut stack = Vec::new(declarer.eval.alloc);
     stack.push((kind, false))?;
-    for _ in 0..u64::MAX {
+    'kinds: for _ in 0..u64::MAX {
         let Some((kind, is_ready)) = stack.pop() else {
-            break;
+            break 'kinds;
         };
-        if is_ready {
-            let sum = sum_of(declarer, words, kind);
-            words.told.insert(kind, sum)?;
-        } else if !words.told.contains_key(&kind) {
-            words.told.insert(kind, 1)?;
-            stack.push((kind, true))?;
-            push_held(declarer, &mut stack, kind)?;
-        }
+        tell_words(declarer, words, &mut stack, kind, is_ready)?;
     }
-    Ok(words.told.get(&kind).copied().unwrap_or(1))
+    Ok(words.of(kind))
+}
+
+/// Tells the words of a type if those of its parts are told, and else puts them onto the stack
+/// above it.
+fn tell_words<'a>(
+    declarer: &Declarer<'_, 'a>,
+    words: &mut Words,
+    stack: &mut Vec<(TypeId, bool)>,
+    kind: TypeId,
+    is_ready: bool,
+) -> Result<(), NoMemory> {
+    if is_ready {
+        let sum = sum_of(declarer, words, kind);
+        words.told.insert(kind, sum)?;
+    } else if !words.told.contains_key(&kind) {
+        words.told.insert(kind, 1)?;
+        stack.push((kind, true))?;
+        push_held(declarer, stack, kind)?;
+    }
+    Ok(())
 }
 
 fn push_held<'a>(
@@ -64,16 +87,9 @@ fn push_held<'a>(
 
 fn sum_of<'a>(declarer: &Declarer<'_, 'a>, words: &Words, kind: TypeId) -> u64 {
     match declarer.eval.definition(kind) {
-        TypeNode::Fields(fields) => {
-            let mut sum = 0u64;
-            for field in fields {
-                let more = words.told.get(&field.kind).copied().unwrap_or(1);
-                sum = at_most_two(sum.saturating_add(more));
-            }
-            sum
-        }
+        TypeNode::Fields(fields) => sum_of_fields(words, fields),
         TypeNode::FixedArray(index, element) => {
-            let each = words.told.get(&element).copied().unwrap_or(1);
+            let each = words.of(element);
             match declarer.eval.declared.types.member_count(index) {
                 0 => 0,
                 1 => each,
@@ -90,4 +106,12 @@ fn sum_of<'a>(declarer: &Declarer<'_, 'a>, words: &Words, kind: TypeId) -> u64 {
         TypeNode::Procedure(_, _, _) | TypeNode::OpenArray(_) => 2,
         _ => 1,
     }
+}
+
+fn sum_of_fields(words: &Words, fields: &[Field<'_>]) -> u64 {
+    let mut sum = 0u64;
+    for field in fields {
+        sum = at_most_two(sum.saturating_add(words.of(field.kind)));
+    }
+    sum
 }

@@ -12,7 +12,7 @@ pub fn try_cases(rt: &(impl Print + AllocGlobal), content: &str) -> io::Result<T
     for case in content.split("\n== ").skip(1) {
         let (body, rest) = case.split_once("\n>>> ").unwrap_or((case, "nothing"));
         let wanted = rest.lines().next().unwrap_or("");
-        let got = answer(rt.alloc(), body, wanted)?;
+        let got = answer(rt.alloc(), body)?;
         tally.cases = tally.cases.saturating_add(1);
         if got.as_str() != wanted {
             tally.differing = tally.differing.saturating_add(1);
@@ -24,7 +24,7 @@ pub fn try_cases(rt: &(impl Print + AllocGlobal), content: &str) -> io::Result<T
 }
 
 /// What the files of a case give.
-fn answer(alloc: Global, body: &str, wanted: &str) -> Result<String, AllocError> {
+fn answer(alloc: Global, body: &str) -> Result<String, AllocError> {
     let mut sources = Vec::new(alloc);
     for part in body.split("\n--- ").skip(1) {
         let (name, text) = part.split_once("\n").unwrap_or((part, ""));
@@ -33,5 +33,5 @@ fn answer(alloc: Global, body: &str, wanted: &str) -> Result<String, AllocError>
             text: text.as_bytes(),
         })?;
     }
-    answer_of_sources(alloc, sources.as_slice(), wanted)
+    answer_of_sources(alloc, sources.as_slice())
 }

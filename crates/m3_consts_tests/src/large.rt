@@ -40,18 +40,17 @@ pub fn try_large(rt: &(impl Print + AllocGlobal)) -> io::Result<Tally> {
     Ok(tally)
 }
 
-/// The answer for a module that is cut into files of at most a million bytes: an interface each,
-/// of which each imports the names of the one before.
+/// The answer for one module.
 fn of_one(alloc: Global, text: &String) -> Result<String, AllocError> {
     let source = Source {
         name: b"Main.m3",
         text: text.as_bytes(),
     };
-    answer_of_sources(alloc, &[source], "ok")
+    answer_of_sources(alloc, &[source])
 }
 
 /// 50,000 constants of an interface, of which each is defined by the next, and as many of a
-/// module.
+/// module, of which each is defined by the one before.
 fn constants(alloc: Global) -> Result<String, AllocError> {
     let mut first = String::from_str(alloc, "INTERFACE I; CONST\n")?;
     let mut second = String::from_str(alloc, "MODULE Main; IMPORT I; CONST d0=I.c0+1;\n")?;
@@ -74,7 +73,7 @@ fn constants(alloc: Global) -> Result<String, AllocError> {
             text: second.as_bytes(),
         },
     ];
-    answer_of_sources(alloc, &sources, "ok")
+    answer_of_sources(alloc, &sources)
 }
 
 fn named_types(alloc: Global) -> Result<String, AllocError> {

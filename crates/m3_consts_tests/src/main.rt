@@ -1,8 +1,9 @@
 //! Tries the types and constants of programs on files of cases, which the arguments name. A case
 //! is a title behind `== `, its files behind `--- NAME`, and behind `>>> ` what they give: `ok`,
-//! the least refusal as `FILE:LINE:COLUMN: rule N`, or `later` with that of a rule of expressions
-//! or statements that was met in declarations. Cases that come out otherwise are shown. The word
-//! `build`, a name and files behind it in place of that print the refusal of these files alone.
+//! the least refusal as `FILE:LINE:COLUMN: rule N`, or `doubtful FILE:LINE:COLUMN` with the first
+//! constant that breaks a rule of expressions. Cases that come out otherwise are shown. The word
+//! `large` in place of a file tries programs at their real sizes. The word `build`, a name and files
+//! behind it print the refusal of these files alone.
 #![tactic(auto)]
 
 mod cases;
@@ -11,7 +12,7 @@ mod programs;
 
 use cases::try_cases;
 use large::try_large;
-use programs::{build, read_files};
+use programs::build;
 use std::process::ExitCode;
 use std::rt::{Env, Files};
 use std::{env, fs, io};

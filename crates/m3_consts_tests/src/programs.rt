@@ -1,8 +1,10 @@
+ghost use Rattle.std.specs.Prelude.{◌<◌, All, length, IfOk, OnOk};
+
 use bumpalo::Bump;
-use m3_base::{Refusal, Refused, Source, rule_text};
-use m3_program::read_program;
+use m3_base::{Pos, Refusal, Refused, Source, rule_text};
 use m3_consts::declare;
 use m3_declared::Declared;
+use m3_program::read_program;
 use std::alloc::{AllocError, Global};
 use std::process::ExitCode;
 use std::rt::Files;
@@ -16,7 +18,7 @@ pub struct Tally {
 }
 
 /// The contents of some files.
-pub fn read_files(rt: &(impl Files + AllocGlobal), names: &[String]) -> io::Result<Vec<Vec<u8>>> {
+fn read_files(rt: &(impl Files + AllocGlobal), names: &[String]) -> io::Result<Vec<Vec<u8>>> {
     let mut texts = Vec::new(rt.alloc());
     for name in names {
         texts.push(fs::read(rt, name.as_str())?)?;
@@ -34,9 +36,8 @@ pub fn build(rt: &(impl Eprint + Files + AllocGlobal), names: &[String]) -> io::
             text: text.as_slice(),
         })?;
     }
-    let answer = refusal_of(rt.alloc(), sources.as_slice());
-    match answer {
-        Ok(()) => Ok(ExitCode::from(0)),
+    match judged(rt.alloc(), sources.as_slice()) {
+        Ok(_) => Ok(ExitCode::from(0)),
         Err(Refused::NoMemory) => {
             eprintln!(rt; "out of memory")?;
             Ok(ExitCode::from(7))
@@ -50,103 +51,86 @@ pub fn build(rt: &(impl Eprint + Files + AllocGlobal), names: &[String]) -> io::
     }
 }
 
-/// What reading, linking and declaring answers.
-fn refusal_of(alloc: Global, sources: &[Source<'_>]) -> Result<(), Refused> {
-    let arena = Bump::new(alloc);
-    let mut checked = Vec::new(alloc);
-    for source in sources {
-        if source.text.len() > 1_048_576 {
-            return Err(Refused::NoMemory);
-        }
-        checked.push(*source)?;
-    }
-    let program = read_program(alloc, &arena, checked.as_slice())?;
-    let declared = declare(alloc, &arena, &program)?;
-    declared.later.check()
+/// What reading, linking and declaring answers: the place of the first constant that breaks a rule of
+/// expressions, or none.
+fn judged(alloc: Global, sources: &[Source<'_>]) -> Result<Option<Pos>, Refused> {
+    // Trees borrow the arena, so the texts stand in it too.
+    let owner = Bump::new(alloc);
+    let arena = &owner;
+    let copies = copies(alloc, arena, sources)?;
+    let program = read_program(alloc, arena, copies.as_slice())?;
+    let declared = declare(alloc, arena, &program)?;
+    declared.later.check()?;
+    Ok(first_doubt(&declared))
 }
 
-/// A refusal with the name of its file.
-pub fn told(
-    alloc: Global,
-    sources: &[Source<'_>],
-    refusal: &Refusal,
-) -> Result<String, AllocError> {
-    let line = refusal.pos.line;
-    let col = refusal.pos.col;
-    let rule = refusal.rule;
-    let mut answer = String::new(alloc);
-    match sources.get(refusal.pos.file as usize) {
-        Some(source) => {
-            for byte in source.name {
-                answer.push(char::from(*byte))?;
-            }
-        }
-        None => answer.push('?')?,
+/// The place of the first constant that breaks a rule of expressions.
+fn first_doubt(declared: &Declared<'_>) -> Option<Pos> {
+    match declared.doubtful.first() {
+        Some(doubt) => Some(doubt.value.pos()),
+        None => None,
     }
-    let place = format!(in alloc; ":{line}:{col}: rule {rule}")?;
-    answer.push_str(place.as_str())?;
-    Ok(answer)
+}
+
+/// Copies of some sources in an arena; one that is too long is left out.
+fn copies<'a>(
+    alloc: Global,
+    arena: &'a Bump,
+    sources: &[Source<'_>],
+) -> Result<Vec<Source<'a>>, AllocError>
+    ensures { IfOk result (λ copies. All (λ source. length source.text.now < 4294967295) copies.items) }
+{
+    let mut copies = Vec::new(alloc);
+    for source in sources {
+        add_copy(&mut copies, arena, source)?;
+    }
+    Ok(copies)
+}
+
+fn add_copy<'a>(
+    copies: &mut Vec<Source<'a>>,
+    arena: &'a Bump,
+    source: &Source<'_>,
+) -> Result<(), AllocError>
+    ensures { OnOk result (All (λ source. length source.text.now < 4294967295) copies.old.items → All (λ source. length source.text.now < 4294967295) copies.new.items) }
+{
+    let name = &*arena.try_alloc_slice_copy(source.name)?;
+    let text = &*arena.try_alloc_slice_copy(source.text)?;
+    if text.len() <= 1_048_576 {
+        copies.push(Source { name, text })?;
+    }
+    Ok(())
+}
+
+/// A place with the name of its file.
+fn place(alloc: Global, sources: &[Source<'_>], pos: Pos) -> Result<String, AllocError> {
+    let mut name = String::new(alloc);
+    if let Some(source) = sources.get(pos.file as usize) {
+        for byte in source.name {
+            name.push(char::from(*byte))?;
+        }
+    }
+    let line = pos.line;
+    let col = pos.col;
+    format!(in alloc; "{name}:{line}:{col}")
+}
+
+/// A refusal with its place.
+fn told(alloc: Global, sources: &[Source<'_>], refusal: &Refusal) -> Result<String, AllocError> {
+    let place = place(alloc, sources, refusal.pos)?;
+    let rule = refusal.rule;
+    format!(in alloc; "{place}: rule {rule}")
 }
 
 /// What sources give, in the words in which a case expects it.
-pub fn answer_of_sources(
-    alloc: Global,
-    sources: &[Source<'_>],
-    wanted: &str,
-) -> Result<String, AllocError> {
-    match refusal_of(alloc, sources) {
-        Ok(()) => answer_of_facts(alloc, sources, wanted),
+pub fn answer_of_sources(alloc: Global, sources: &[Source<'_>]) -> Result<String, AllocError> {
+    match judged(alloc, sources) {
+        Ok(None) => String::from_str(alloc, "ok"),
+        Ok(Some(pos)) => {
+            let place = place(alloc, sources, pos)?;
+            format!(in alloc; "doubtful {place}")
+        }
         Err(Refused::NoMemory) => String::from_str(alloc, "out of memory"),
         Err(Refused::Rule(refusal)) => told(alloc, sources, &refusal),
     }
-}
-
-/// `ok`, or `doubtful` where a constant breaks a rule of expressions.
-fn answer_of_facts(
-    alloc: Global,
-    sources: &[Source<'_>],
-    wanted: &str,
-) -> Result<String, AllocError> {
-    let arena = Bump::new(alloc);
-    let mut checked = Vec::new(alloc);
-    for source in sources {
-        if source.text.len() > 1_048_576 {
-            return String::from_str(alloc, "too long");
-        }
-        checked.push(*source)?;
-    }
-    let Ok(program) = read_program(alloc, &arena, checked.as_slice()) else {
-        return String::from_str(alloc, "unread");
-    };
-    let Ok(declared) = declare(alloc, &arena, &program) else {
-        return String::from_str(alloc, "undeclared");
-    };
-    if !declared.doubtful.is_empty() {
-        return doubtful(alloc, sources, &declared);
-    }
-    let _ = wanted;
-    String::from_str(alloc, "ok")
-}
-
-/// The first constant that breaks a rule of expressions, by the place where it begins.
-fn doubtful(
-    alloc: Global,
-    sources: &[Source<'_>],
-    declared: &Declared<'_>,
-) -> Result<String, AllocError> {
-    let Some(doubt) = declared.doubtful.first() else {
-        return String::from_str(alloc, "ok");
-    };
-    let pos = doubt.value.pos();
-    let line = pos.line;
-    let col = pos.col;
-    let mut answer = String::from_str(alloc, "doubtful ")?;
-    if let Some(source) = sources.get(pos.file as usize) {
-        for byte in source.name {
-            answer.push(char::from(*byte))?;
-        }
-    }
-    let place = format!(in alloc; ":{line}:{col}")?;
-    answer.push_str(place.as_str())?;
-    Ok(answer)
 }

@@ -1,15 +1,23 @@
 use crate::declarer::Declarer;
 use indexmap::IndexSet;
 use m3_base::{NoMemory, Pos, place_number};
-use m3_scopes::{EntityId, EntityKind};
+use m3_scopes::{Entity, EntityId, EntityKind};
 use m3_syntax::{Decl, Qualid, TypeDecl, TypeExp, TypeName};
 use m3_types::TypeId;
 
 /// Where the definition of a type's name leads.
+#[derive(Clone, Copy)]
 enum Leads<'a> {
     Kind(TypeId),
     Name(&'a Qualid<'a>),
     Nowhere,
+}
+
+/// What a type's name stands for, or the name that it leads to.
+#[derive(Clone, Copy)]
+enum Step {
+    Found(Option<TypeId>),
+    Next(EntityId),
 }
 
 impl<'a> Declarer<'_, 'a> {
@@ -24,7 +32,8 @@ impl<'a> Declarer<'_, 'a> {
     }
 
     fn name_opaque(&mut self) -> Result<(), NoMemory> {
-        for (place, entity) in self.eval.program.binds.entities().iter().enumerate() {
+        let program = self.eval.program;
+        for (place, entity) in program.binds.entities().iter().enumerate() {
             if entity.kind == EntityKind::Opaque {
                 let kind = self.eval.declared.types.reserve()?;
                 let id = EntityId(place_number(place)?);
@@ -44,7 +53,7 @@ impl<'a> Declarer<'_, 'a> {
     }
 
     /// Where the definition of a type's name leads in its unit.
-    fn leads(&self, unit: u32, declared: &'a TypeDecl<'a>) -> Leads<'a> {
+    fn leads_to(&self, unit: u32, declared: &'a TypeDecl<'a>) -> Leads<'a> {
         let mut kind = declared.kind;
         'parentheses: loop {
             match kind {
@@ -67,48 +76,65 @@ impl<'a> Declarer<'_, 'a> {
     /// Names a type, and the types whose names lead from it to what it stands for.
     fn name_type(&mut self, id: EntityId) -> Result<(), NoMemory> {
         let mut path = IndexSet::new(self.eval.alloc);
-        let mut at = id;
-        let mut found = None;
-        'names: for _ in 0..u64::MAX {
-            let Some(entity) = self.eval.program.binds.entity(at) else {
-                break 'names;
-            };
-            if entity.kind != EntityKind::Type {
-                found = self.eval.type_of_entity(at);
-                break 'names;
-            }
-            if let Some(kind) = self.eval.declared.type_named(at) {
-                found = Some(kind);
-                break 'names;
-            }
-            if let Some(first) = path.get_index_of(&at) {
-                self.refuse_names(&path, first);
-                found = Some(self.eval.declared.basic.refused);
-                break 'names;
-            }
-            path.insert(at)?;
-            let Some(declared) = self.type_declaration(at) else {
-                break 'names;
-            };
-            self.eval.unit = entity.unit;
-            match self.leads(entity.unit, declared) {
-                Leads::Kind(kind) => {
-                    self.stand_at(kind, entity.pos);
-                    found = Some(kind);
-                    break 'names;
-                }
-                Leads::Nowhere => break 'names,
-                Leads::Name(name) => match self.eval.qualid(name) {
-                    Some(next) => at = next,
-                    None => break 'names,
-                },
-            }
-        }
-        let kind = found.unwrap_or(self.eval.declared.basic.refused);
+        let kind = self.follow(&mut path, id)?;
+        self.name_path(&path, kind)
+    }
+
+    fn name_path(&mut self, path: &IndexSet<EntityId>, kind: TypeId) -> Result<(), NoMemory> {
         for name in path.iter() {
             self.eval.declared.name_type(*name, kind)?;
         }
         Ok(())
+    }
+
+    /// What a type's name stands for; the names on the way are added to the path.
+    fn follow(&mut self, path: &mut IndexSet<EntityId>, id: EntityId) -> Result<TypeId, NoMemory> {
+        let refused = self.eval.declared.basic.refused;
+        let mut at = id;
+        'names: for _ in 0..u64::MAX {
+            match self.take_step(path, at)? {
+                Step::Found(kind) => return Ok(kind.unwrap_or(refused)),
+                Step::Next(next) => at = next,
+            }
+        }
+        Ok(refused)
+    }
+
+    fn take_step(&mut self, path: &mut IndexSet<EntityId>, at: EntityId) -> Result<Step, NoMemory> {
+        let Some(entity) = self.eval.program.binds.entity(at) else {
+            return Ok(Step::Found(None));
+        };
+        if entity.kind != EntityKind::Type {
+            return Ok(Step::Found(self.eval.type_of_entity(at)));
+        }
+        if let Some(kind) = self.eval.declared.type_named(at) {
+            return Ok(Step::Found(Some(kind)));
+        }
+        if let Some(first) = path.get_index_of(&at) {
+            self.refuse_names(path, first);
+            return Ok(Step::Found(Some(self.eval.declared.basic.refused)));
+        }
+        path.insert(at)?;
+        Ok(self.step_from(at, &entity))
+    }
+
+    /// The step from the declaration of a type's name.
+    fn step_from(&mut self, at: EntityId, entity: &Entity<'a>) -> Step {
+        let Some(declared) = self.type_declaration(at) else {
+            return Step::Found(None);
+        };
+        self.eval.unit = entity.unit;
+        match self.leads_to(entity.unit, declared) {
+            Leads::Kind(kind) => {
+                self.stand_at(kind, entity.pos);
+                Step::Found(Some(kind))
+            }
+            Leads::Nowhere => Step::Found(None),
+            Leads::Name(name) => match self.eval.qualid(name) {
+                Some(next) => Step::Next(next),
+                None => Step::Found(None),
+            },
+        }
     }
 
     /// Rule 46 for names that lead to each other.

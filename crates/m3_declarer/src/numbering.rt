@@ -60,35 +60,54 @@ impl<'a> Declarer<'_, 'a> {
     /// procedures of its unit, and each head with its body's number.
     pub fn number_procedures(&mut self) -> Result<(), NoMemory> {
         let found = self.in_order(false)?;
+        let program = self.eval.program;
         let mut next = 0usize;
-        let mut number = 0u32;
-        for (place, unit) in self.eval.program.units.iter().enumerate() {
+        let mut modules = 0u32;
+        for (place, unit) in program.units.iter().enumerate() {
             let here = place_number(place)?;
-            for _ in next..found.len() {
-                match found.get(next) {
-                    Some((unit, _, id)) if *unit == here => {
-                        self.eval.declared.number_procedure(*id, number)?;
-                        number = number.saturating_add(1);
-                        next = next.saturating_add(1);
-                    }
-                    _ => {}
-                }
-            }
+            next = self.number_unit(found.as_slice(), here, next, modules)?;
             if let UnitKind::Module { .. } = unit.kind {
+                let number = place_number(next)?.saturating_add(modules);
                 self.eval.declared.number_module(here, number)?;
-                number = number.saturating_add(1);
+                modules = modules.saturating_add(1);
             }
         }
         self.number_heads()
     }
 
-    fn number_heads(&mut self) -> Result<(), NoMemory> {
-        for (place, entity) in self.eval.program.binds.entities().iter().enumerate() {
-            if let Some(body) = entity.body {
-                if let Some(number) = self.eval.declared.procedure_number(body) {
-                    let id = EntityId(place_number(place)?);
-                    self.eval.declared.number_procedure(id, number)?;
+    /// Numbers the procedures of a unit, which are next in the order, behind so many bodies of
+    /// modules. The place of the first procedure behind them is given.
+    fn number_unit(
+        &mut self,
+        found: &[Ordered],
+        here: u32,
+        next: usize,
+        modules: u32,
+    ) -> Result<usize, NoMemory> {
+        let mut at = next;
+        'procedures: for _ in next..found.len() {
+            match found.get(at) {
+                Some((unit, _, id)) if *unit == here => {
+                    let number = place_number(at)?.saturating_add(modules);
+                    self.eval.declared.number_procedure(*id, number)?;
+                    at = at.saturating_add(1);
                 }
+                _ => break 'procedures,
+            }
+        }
+        Ok(at)
+    }
+
+    fn number_heads(&mut self) -> Result<(), NoMemory> {
+        let program = self.eval.program;
+        for (place, entity) in program.binds.entities().iter().enumerate() {
+            let number = match entity.body {
+                Some(body) => self.eval.declared.procedure_number(body),
+                None => None,
+            };
+            if let Some(number) = number {
+                let id = EntityId(place_number(place)?);
+                self.eval.declared.number_procedure(id, number)?;
             }
         }
         Ok(())

@@ -1,7 +1,7 @@
 use crate::declarer::{Declarer, Plan, Written};
 use m3_base::{NoMemory, Pos, place_number};
 use m3_gather::TypeAt;
-use m3_scopes::{EntityId, EntityKind};
+use m3_scopes::{Entity, EntityId, EntityKind};
 use m3_syntax::{Decl, ObjectPart, TypeExp};
 use m3_types::TypeId;
 use m3_worth::Need;
@@ -98,17 +98,23 @@ impl<'a> Declarer<'_, 'a> {
     }
 
     fn reserve_procedures(&mut self) -> Result<(), NoMemory> {
-        for (place, entity) in self.eval.program.binds.entities().iter().enumerate() {
+        let program = self.eval.program;
+        for (place, entity) in program.binds.entities().iter().enumerate() {
             let id = EntityId(place_number(place)?);
-            let (unit, pos) = (entity.unit, entity.pos);
-            if let (EntityKind::Procedure, Some(Decl::Procedure { signature, .. })) = (
-                entity.kind,
-                entity.declaration,
-            ) {
-                let kind = self.plan_nilable(unit, pos, Written::Signature(signature))?;
-                self.eval.declared.give_kind(id, kind)?;
-            }
+            self.reserve_procedure(id, entity)?;
         }
         Ok(())
+    }
+
+    /// A place for the type of a procedure; nothing for any other entity.
+    fn reserve_procedure(&mut self, id: EntityId, entity: &Entity<'a>) -> Result<(), NoMemory> {
+        if entity.kind != EntityKind::Procedure {
+            return Ok(());
+        }
+        let Some(Decl::Procedure { signature, .. }) = entity.declaration else {
+            return Ok(());
+        };
+        let kind = self.plan_nilable(entity.unit, entity.pos, Written::Signature(signature))?;
+        self.eval.declared.give_kind(id, kind)
     }
 }

@@ -1,89 +1,71 @@
 use crate::gathered::Gatherer;
 use crate::types::gather_type;
-use m3_base::NoMemory;
 use m3_syntax::{Actual, Element, Expr, Selector};
 
 #[cycle(phrases)]
-pub(crate) fn gather_expression<'a>(
-    gatherer: &mut Gatherer<'_, 'a>,
-    value: &'a Expr<'a>,
-) -> Result<(), NoMemory> {
+pub(crate) fn gather_expression<'a>(gatherer: &mut Gatherer<'_, 'a>, value: &'a Expr<'a>) {
     match value {
-        Expr::Number { .. } | Expr::CharLit { .. } | Expr::Missing { .. } | Expr::Name(_) => Ok(()),
+        Expr::Number { .. } | Expr::CharLit { .. } | Expr::Missing { .. } | Expr::Name(_) => {}
         Expr::TextLit { pos, text } => gatherer.text(*pos, text),
         Expr::Parenthesis { inner, .. } => gather_expression(gatherer, inner),
         Expr::Not { operand, .. } | Expr::Signed { operand, .. } => {
-            gather_expression(gatherer, operand)
+            gather_expression(gatherer, operand);
         }
         Expr::Operations { first, rest, .. } => {
-            gather_expression(gatherer, first)?;
+            gather_expression(gatherer, first);
             for operation in *rest {
-                gather_expression(gatherer, operation.right)?;
+                gather_expression(gatherer, operation.right);
             }
-            Ok(())
         }
         Expr::Selected {
             operand,
             selectors,
             ..
         } => {
-            gather_expression(gatherer, operand)?;
+            gather_expression(gatherer, operand);
             for selector in *selectors {
-                gather_selector(gatherer, selector)?;
+                gather_selector(gatherer, selector);
             }
-            Ok(())
         }
         Expr::Constructor { kind, elements, .. } => {
-            gather_type(gatherer, kind)?;
+            gather_type(gatherer, kind);
             for element in *elements {
-                gather_element(gatherer, element)?;
+                gather_element(gatherer, element);
             }
-            Ok(())
         }
     }
 }
 
 #[cycle(phrases)]
-fn gather_selector<'a>(
-    gatherer: &mut Gatherer<'_, 'a>,
-    selector: &'a Selector<'a>,
-) -> Result<(), NoMemory> {
+fn gather_selector<'a>(gatherer: &mut Gatherer<'_, 'a>, selector: &'a Selector<'a>) {
     match selector {
-        Selector::Dereference(_) | Selector::Member(_) => Ok(()),
+        Selector::Dereference(_) | Selector::Member(_) => {}
         Selector::Index(_, indexes) => {
             for index in *indexes {
-                gather_expression(gatherer, index)?;
+                gather_expression(gatherer, index);
             }
-            Ok(())
         }
         Selector::Call(_, actuals) => gather_actuals(gatherer, actuals),
     }
 }
 
 #[cycle(phrases)]
-pub(crate) fn gather_actuals<'a>(
-    gatherer: &mut Gatherer<'_, 'a>,
-    actuals: &'a [Actual<'a>],
-) -> Result<(), NoMemory> {
+pub(crate) fn gather_actuals<'a>(gatherer: &mut Gatherer<'_, 'a>, actuals: &'a [Actual<'a>]) {
     for actual in actuals {
         match actual {
-            Actual::Value(value) | Actual::Named(_, value) => gather_expression(gatherer, value)?,
-            Actual::Type(kind) => gather_type(gatherer, kind)?,
+            Actual::Value(value) | Actual::Named(_, value) => gather_expression(gatherer, value),
+            Actual::Type(kind) => gather_type(gatherer, kind),
         }
     }
-    Ok(())
 }
 
 #[cycle(phrases)]
-fn gather_element<'a>(
-    gatherer: &mut Gatherer<'_, 'a>,
-    element: &'a Element<'a>,
-) -> Result<(), NoMemory> {
+fn gather_element<'a>(gatherer: &mut Gatherer<'_, 'a>, element: &'a Element<'a>) {
     match element {
         Element::Value(value) | Element::Named(_, value) => gather_expression(gatherer, value),
         Element::Range(first, last) => {
-            gather_expression(gatherer, first)?;
-            gather_expression(gatherer, last)
+            gather_expression(gatherer, first);
+            gather_expression(gatherer, last);
         }
     }
 }

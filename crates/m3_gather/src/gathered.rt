@@ -1,5 +1,5 @@
 use indexmap::IndexMap;
-use m3_base::{NoMemory, Pos};
+use m3_base::Pos;
 use m3_scopes::{EntityId, Program};
 use m3_syntax::{Expr, Name, Qualid, TypeExp};
 use std::alloc::Global;
@@ -49,12 +49,14 @@ pub struct Gathered<'a> {
     pub bindings: IndexMap<EntityId, Bound<'a>>,
 }
 
-/// The walk: what it found, and the unit that it is in.
+/// The walk: what it found, and the unit that it is in. Where memory is wanting it goes on to its end.
 #[derive(Drop)]
 pub(crate) struct Gatherer<'p, 'a> {
     pub program: &'p Program<'a>,
     pub unit: u32,
     pub found: Gathered<'a>,
+    /// Whether all of it could be kept.
+    pub is_whole: bool,
 }
 
 impl<'p, 'a> Gatherer<'p, 'a> {
@@ -68,32 +70,38 @@ impl<'p, 'a> Gatherer<'p, 'a> {
                 labels: Vec::new(alloc),
                 bindings: IndexMap::new(alloc),
             },
+            is_whole: true,
         }
     }
 
-    pub fn text(&mut self, pos: Pos, text: &'a [u8]) -> Result<(), NoMemory> {
-        let unit = self.unit;
-        self.found.texts.push(TextAt { unit, pos, text })?;
-        Ok(())
+    /// Notes that memory was wanting where something could not be added.
+    fn keep(&mut self, is_added: bool) {
+        self.is_whole = self.is_whole && is_added;
     }
 
-    pub fn kind(&mut self, kind: &'a TypeExp<'a>) -> Result<(), NoMemory> {
+    pub fn text(&mut self, pos: Pos, text: &'a [u8]) {
         let unit = self.unit;
-        self.found.types.push(TypeAt { unit, kind })?;
-        Ok(())
+        let added = self.found.texts.push(TextAt { unit, pos, text });
+        self.keep(added.is_ok());
     }
 
-    pub fn label(&mut self, value: &'a Expr<'a>) -> Result<(), NoMemory> {
+    pub fn kind(&mut self, kind: &'a TypeExp<'a>) {
         let unit = self.unit;
-        self.found.labels.push(LabelAt { unit, value })?;
-        Ok(())
+        let added = self.found.types.push(TypeAt { unit, kind });
+        self.keep(added.is_ok());
+    }
+
+    pub fn label(&mut self, value: &'a Expr<'a>) {
+        let unit = self.unit;
+        let added = self.found.labels.push(LabelAt { unit, value });
+        self.keep(added.is_ok());
     }
 
     /// Says what a name of a statement is bound to.
-    pub fn bind(&mut self, name: Name<'a>, bound: Bound<'a>) -> Result<(), NoMemory> {
+    pub fn bind(&mut self, name: Name<'a>, bound: Bound<'a>) {
         if let Some(entity) = self.program.binds.at(self.unit, name.pos) {
-            self.found.bindings.insert(entity, bound)?;
+            let added = self.found.bindings.insert(entity, bound);
+            self.keep(added.is_ok());
         }
-        Ok(())
     }
 }

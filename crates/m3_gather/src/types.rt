@@ -1,33 +1,24 @@
 use crate::expressions::gather_expression;
 use crate::gathered::Gatherer;
-use m3_base::NoMemory;
 use m3_syntax::{Brand, Field, Init, ObjectPart, Signature, TypeExp};
 
 #[cycle(phrases)]
-pub(crate) fn gather_signature<'a>(
-    gatherer: &mut Gatherer<'_, 'a>,
-    signature: &'a Signature<'a>,
-) -> Result<(), NoMemory> {
+pub(crate) fn gather_signature<'a>(gatherer: &mut Gatherer<'_, 'a>, signature: &'a Signature<'a>) {
     for formal in signature.formals {
-        gather_init(gatherer, &formal.init)?;
+        gather_init(gatherer, &formal.init);
     }
-    match signature.result {
-        Some(result) => gather_type(gatherer, result),
-        None => Ok(()),
+    if let Some(result) = signature.result {
+        gather_type(gatherer, result);
     }
 }
 
 #[cycle(phrases)]
-pub(crate) fn gather_init<'a>(
-    gatherer: &mut Gatherer<'_, 'a>,
-    init: &'a Init<'a>,
-) -> Result<(), NoMemory> {
+pub(crate) fn gather_init<'a>(gatherer: &mut Gatherer<'_, 'a>, init: &'a Init<'a>) {
     match init {
         Init::Typed(kind, value) => {
-            gather_type(gatherer, kind)?;
-            match value {
-                Some(value) => gather_expression(gatherer, value),
-                None => Ok(()),
+            gather_type(gatherer, kind);
+            if let Some(value) = value {
+                gather_expression(gatherer, value);
             }
         }
         Init::Untyped(value) => gather_expression(gatherer, value),
@@ -35,99 +26,86 @@ pub(crate) fn gather_init<'a>(
 }
 
 #[cycle(phrases)]
-fn gather_fields<'a>(
-    gatherer: &mut Gatherer<'_, 'a>,
-    fields: &'a [Field<'a>],
-) -> Result<(), NoMemory> {
+fn gather_fields<'a>(gatherer: &mut Gatherer<'_, 'a>, fields: &'a [Field<'a>]) {
     for field in fields {
-        gather_init(gatherer, &field.init)?;
-    }
-    Ok(())
-}
-
-#[cycle(phrases)]
-fn gather_brand<'a>(gatherer: &mut Gatherer<'_, 'a>, brand: &'a Brand<'a>) -> Result<(), NoMemory> {
-    match brand.text {
-        Some(text) => gather_expression(gatherer, text),
-        None => Ok(()),
+        gather_init(gatherer, &field.init);
     }
 }
 
 #[cycle(phrases)]
-fn gather_part<'a>(
-    gatherer: &mut Gatherer<'_, 'a>,
-    part: &'a ObjectPart<'a>,
-) -> Result<(), NoMemory> {
+fn gather_brand<'a>(gatherer: &mut Gatherer<'_, 'a>, brand: &'a Brand<'a>) {
+    if let Some(text) = brand.text {
+        gather_expression(gatherer, text);
+    }
+}
+
+#[cycle(phrases)]
+fn gather_part<'a>(gatherer: &mut Gatherer<'_, 'a>, part: &'a ObjectPart<'a>) {
     if let Some(brand) = &part.brand {
-        gather_brand(gatherer, brand)?;
+        gather_brand(gatherer, brand);
     }
-    gather_fields(gatherer, part.fields)?;
+    gather_fields(gatherer, part.fields);
     for method in part.methods {
-        gather_signature(gatherer, &method.signature)?;
+        gather_signature(gatherer, &method.signature);
         if let Some(default) = method.default {
-            gather_expression(gatherer, default)?;
+            gather_expression(gatherer, default);
         }
     }
     for other in part.overrides {
-        gather_expression(gatherer, other.value)?;
+        gather_expression(gatherer, other.value);
     }
-    Ok(())
 }
 
 #[cycle(phrases)]
-pub(crate) fn gather_type<'a>(
-    gatherer: &mut Gatherer<'_, 'a>,
-    kind: &'a TypeExp<'a>,
-) -> Result<(), NoMemory> {
+pub(crate) fn gather_type<'a>(gatherer: &mut Gatherer<'_, 'a>, kind: &'a TypeExp<'a>) {
     match kind {
-        TypeExp::Missing { .. } | TypeExp::Named(_) => Ok(()),
+        TypeExp::Missing { .. } | TypeExp::Named(_) => {}
         TypeExp::Parenthesis { inner, .. } => gather_type(gatherer, inner),
         TypeExp::Array {
             indexes,
             element,
             ..
         } => {
-            gatherer.kind(kind)?;
+            gatherer.kind(kind);
             for index in *indexes {
-                gather_type(gatherer, index)?;
+                gather_type(gatherer, index);
             }
-            gather_type(gatherer, element)
+            gather_type(gatherer, element);
         }
         TypeExp::Bits { width, target, .. } => {
-            gather_expression(gatherer, width)?;
-            gather_type(gatherer, target)
+            gather_expression(gatherer, width);
+            gather_type(gatherer, target);
         }
         TypeExp::Enumeration { .. } => gatherer.kind(kind),
         TypeExp::Object { parts, .. } => {
-            gatherer.kind(kind)?;
+            gatherer.kind(kind);
             for part in *parts {
-                gather_part(gatherer, part)?;
+                gather_part(gatherer, part);
             }
-            Ok(())
         }
         TypeExp::Procedure { signature, .. } => {
-            gatherer.kind(kind)?;
-            gather_signature(gatherer, signature)
+            gatherer.kind(kind);
+            gather_signature(gatherer, signature);
         }
         TypeExp::Record { fields, .. } => {
-            gatherer.kind(kind)?;
-            gather_fields(gatherer, fields)
+            gatherer.kind(kind);
+            gather_fields(gatherer, fields);
         }
         TypeExp::Ref { brand, target, .. } => {
-            gatherer.kind(kind)?;
+            gatherer.kind(kind);
             if let Some(brand) = brand {
-                gather_brand(gatherer, brand)?;
+                gather_brand(gatherer, brand);
             }
-            gather_type(gatherer, target)
+            gather_type(gatherer, target);
         }
         TypeExp::Set { base, .. } => {
-            gatherer.kind(kind)?;
-            gather_type(gatherer, base)
+            gatherer.kind(kind);
+            gather_type(gatherer, base);
         }
         TypeExp::Subrange { first, last, .. } => {
-            gatherer.kind(kind)?;
-            gather_expression(gatherer, first)?;
-            gather_expression(gatherer, last)
+            gatherer.kind(kind);
+            gather_expression(gatherer, first);
+            gather_expression(gatherer, last);
         }
     }
 }

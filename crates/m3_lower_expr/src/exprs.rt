@@ -1,6 +1,6 @@
 use crate::chains::{array_limit, emit_chain};
 use crate::conditions::short_condition;
-use crate::news::new_into;
+use crate::new_cells::new_into;
 use crate::rows::{builtin_into, operations_into, prefixed_into, set_into};
 use crate::structures::emit_structure;
 use m3_base::Pos;

@@ -6,7 +6,7 @@ mod calls;
 mod chains;
 mod conditions;
 mod exprs;
-mod news;
+mod new_cells;
 mod rows;
 mod structures;
 

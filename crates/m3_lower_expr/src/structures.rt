@@ -1,14 +1,15 @@
 use crate::chains::emit_chain;
 use crate::exprs::{fetch, into_temps};
-use m3_base::FaultKind;
 use m3_builder::{
-    Around, Builder, Location, Pending, Place, check, cleared_value, copy_words, form_of, kind_of,
+    Around, Builder, Location, Pending, Place, cleared_value, copy_words, form_of, kind_of,
     store_word, store_words,
 };
 use m3_core::{Conversion, CoreExpr, FieldValue};
-use m3_mid::{Kind, MidOp, Relation};
+use m3_mid::{Kind, MidOp};
 use m3_plans::plan_structure;
-use m3_shapes::{check_shape, dims_of, field_type, filled, inner_element, row_words, shape_of};
+use m3_shapes::{
+    check_equal, check_shape, dims_of, field_type, filled, inner_element, row_words, shape_of,
+};
 use m3_storage::Form;
 use m3_types::{TypeId, TypeNode};
 use m3_variables::source;
@@ -191,11 +192,6 @@ fn row_into<'m>(
     };
     let wanted = shape_of(b, to, element, to.dims);
     let found = shape_of(b, from, kind, to.dims);
-    let mut code = code;
-    for (dim, want) in wanted.iter().enumerate().rev() {
-        if let Some(size) = found.get(dim) {
-            code = code.after(check(Relation::Equal, *size, *want, FaultKind::Shape, e.pos()));
-        }
-    }
+    let code = check_equal(e.pos(), wanted.as_slice(), found.as_slice(), code);
     emit_structure(b, around, e, from, code)
 }

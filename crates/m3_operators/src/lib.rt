@@ -3,16 +3,16 @@
 #![tactic(auto)]
 
 mod comparisons;
+mod conversions;
 mod operators;
 mod routines;
 mod services;
 mod sets;
-mod tests;
 
 pub use comparisons::ordered;
+pub use conversions::{checked, in_range, not_nested, tested};
 pub use operators::{
     check_text, is_short, is_turned, kinds_at, operate, prefix_into, result_of, value_at,
 };
 pub use routines::{action, check_operand, operand_at};
 pub use sets::{PlannedElement, add_bits, move_row, zero_temps};
-pub use tests::{checked, in_range, not_nested, tested};

@@ -1,6 +1,6 @@
+use crate::conversions::in_range;
 use crate::operators::is_made_text;
 use crate::services::{serve, service_of};
-use crate::tests::in_range;
 use m3_base::{FaultKind, Pos};
 use m3_builder::{
     Around, Builder, Pending, arith, check, choice, kind_of, load_at, not_nil, set, temp_in,

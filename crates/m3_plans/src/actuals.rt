@@ -58,7 +58,6 @@ impl Passed {
 }
 
 /// Plans the actuals of a call, of a method with its object in front.
-#[cycle(plans)]
 pub fn plan_actuals<'m>(
     b: &mut Builder<'m, '_>,
     formals: &[Formal],
@@ -83,7 +82,6 @@ fn mode_of(formals: &[Formal], formal: u32) -> Mode {
     }
 }
 
-#[cycle(plans)]
 fn plan_actual<'m>(
     b: &mut Builder<'m, '_>,
     formals: &[Formal],
@@ -114,7 +112,6 @@ fn reference_to(b: &mut Builder, place: Place) -> PlannedActual {
     }
 }
 
-#[cycle(plans)]
 fn plan_by_value<'m>(b: &mut Builder<'m, '_>, kind: TypeId, value: &CoreExpr) -> PlannedActual {
     match b.storage.form(kind) {
         Form::Number | Form::Reference => PlannedActual::Scalar(plan_value(b, value)),
@@ -154,7 +151,6 @@ fn is_constructor(e: &CoreExpr) -> bool {
     matches!(e, CoreExpr::ArrayOf { .. } | CoreExpr::RecordOf { .. })
 }
 
-#[cycle(plans)]
 fn plan_new_variable<'m>(b: &mut Builder<'m, '_>, kind: TypeId, value: &CoreExpr) -> PlannedActual {
     let place = match b.storage.form(kind) {
         Form::Open => {
@@ -163,10 +159,10 @@ fn plan_new_variable<'m>(b: &mut Builder<'m, '_>, kind: TypeId, value: &CoreExpr
         }
         _ => b.buffer(kind),
     };
-    let address_kind = address_kind(b, place);
+    let of_address = address_kind(b, place);
     PlannedActual::NewVariable {
         place,
-        address: b.temp(address_kind),
+        address: b.temp(of_address),
     }
 }
 

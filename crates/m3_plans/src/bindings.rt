@@ -10,7 +10,6 @@ use m3_types::{TypeId, TypeNode};
 use m3_variables::move_words;
 
 /// The values of the bindings; a record or array goes into slots of its own, since it is read now.
-#[cycle(plans)]
 pub fn plan_bindings<'m>(b: &mut Builder<'m, '_>, bindings: &[Binding]) -> Vec<Value> {
     let mut values = Vec::new(b.alloc);
     for binding in bindings {

@@ -1,6 +1,6 @@
 use m3_builder::{Builder, Location, Place, Value, address_kind, form_of, kind_of};
 use m3_core::{Base, Chain, CoreExpr};
-use m3_mid::Kind;
+use m3_mid::{Kind, Operand};
 use m3_shapes::{dims_of, plan_constant, plan_open, shape_of};
 use m3_storage::Form;
 use m3_types::{TypeId, TypeNode};
@@ -76,21 +76,32 @@ fn plan_subarray<'m>(
     kind: TypeId,
 ) -> Place {
     let from = plan_chain(b, array).place();
-    let dims = dims_of(b, kind);
     let count = source(b, count);
-    let rows = match array.kind {
-        Some(array_kind) => shape_of(b, from, array_kind, dims),
+    part_of(b, from, array.kind, count, kind)
+}
+
+/// The place of so many elements of an array, with their sizes.
+fn part_of(
+    b: &mut Builder,
+    array: Place,
+    array_kind: Option<TypeId>,
+    count: Operand,
+    kind: TypeId,
+) -> Place {
+    let dims = dims_of(b, kind);
+    let rows = match array_kind {
+        Some(array_kind) => shape_of(b, array, array_kind, dims),
         None => Vec::new(b.alloc),
     };
     let sizes = b.size(count);
     for row in rows.iter().skip(1) {
         b.size(*row);
     }
-    let address = address_kind(b, from);
+    let address = address_kind(b, array);
     let temp = b.temp(address);
     Place {
         at: Location::Address { temp, offset: 0 },
-        base: from.base,
+        base: array.base,
         sizes,
         dims,
     }

@@ -10,24 +10,44 @@ use m3_worth::Need;
 /// and the types of variables.
 pub fn settle_all<'a>(declarer: &mut Declarer<'_, 'a>) -> Result<(), NoMemory> {
     note_reveals(declarer)?;
+    attempt_nodes(declarer)?;
+    settle_nodes(declarer)?;
+    settle_methods(declarer)?;
+    declarer.has_definitions = true;
+    list_reveals(declarer)?;
+    declarer.eval.is_complete = true;
+    settle_names(declarer)
+}
+
+/// Tries the definition of each type once; those that lack something are settled behind that.
+fn attempt_nodes<'a>(declarer: &mut Declarer<'_, 'a>) -> Result<(), NoMemory> {
     for place in 0..declarer.plans.len() {
         if let Some(kind) = planned(declarer, place) {
             attempt(declarer, Need::Node(kind))?;
         }
     }
+    Ok(())
+}
+
+fn settle_nodes<'a>(declarer: &mut Declarer<'_, 'a>) -> Result<(), NoMemory> {
     for place in 0..declarer.plans.len() {
         if let Some(kind) = planned(declarer, place) {
             settle(declarer, Need::Node(kind))?;
         }
     }
+    Ok(())
+}
+
+fn settle_methods<'a>(declarer: &mut Declarer<'_, 'a>) -> Result<(), NoMemory> {
     for place in 0..declarer.eval.drafts.len() {
         if let Some(kind) = drafted(declarer, place) {
             settle(declarer, Need::Methods(kind))?;
         }
     }
-    declarer.has_definitions = true;
-    list_reveals(declarer)?;
-    declarer.eval.is_complete = true;
+    Ok(())
+}
+
+fn settle_names<'a>(declarer: &mut Declarer<'_, 'a>) -> Result<(), NoMemory> {
     for place in 0..declarer.eval.program.binds.entities().len() {
         let id = EntityId(place_number(place)?);
         if let Some(need) = need_of(declarer, id) {
@@ -128,7 +148,8 @@ fn refuse_task<'a>(declarer: &mut Declarer<'_, 'a>, need: Need) {
     }
 }
 
-/// Tries a task once. Whether it is done; else it lacks what is listed.
+/// Tries a task once. Whether it is done; else it lacks what is listed, and what it kept is taken
+/// back.
 fn attempt<'a>(declarer: &mut Declarer<'_, 'a>, need: Need) -> Result<bool, NoMemory> {
     declarer.eval.lacks.clear();
     declarer.reasons.clear();
@@ -138,6 +159,7 @@ fn attempt<'a>(declarer: &mut Declarer<'_, 'a>, need: Need) -> Result<bool, NoMe
     declarer.new_values.clear();
     let texts = declarer.eval.declared.texts.len();
     let values = declarer.eval.declared.values.len();
+    let interned = declarer.interned.len();
     match need {
         Need::Constant(id) => make_constant(declarer, id)?,
         Need::Kind(id) => make_kind(declarer, id)?,
@@ -147,6 +169,7 @@ fn attempt<'a>(declarer: &mut Declarer<'_, 'a>, need: Need) -> Result<bool, NoMe
     if !declarer.has_all() {
         declarer.eval.declared.texts.truncate(texts);
         declarer.eval.declared.values.truncate(values);
+        declarer.interned.truncate(interned);
         return Ok(false);
     }
     keep_notes(declarer)?;
@@ -155,24 +178,29 @@ fn attempt<'a>(declarer: &mut Declarer<'_, 'a>, need: Need) -> Result<bool, NoMe
 }
 
 /// Keeps what a task noted.
-pub fn keep_notes<'a>(declarer: &mut Declarer<'_, 'a>) -> Result<(), NoMemory> {
+fn keep_notes<'a>(declarer: &mut Declarer<'_, 'a>) -> Result<(), NoMemory> {
+    note_reasons(declarer);
+    keep_all(
+        declarer.doubts.as_slice(),
+        &mut declarer.eval.declared.doubtful,
+    )?;
+    keep_all(declarer.assumed.as_slice(), &mut declarer.promises)?;
+    keep_all(declarer.new_brands.as_slice(), &mut declarer.brands)?;
+    keep_all(declarer.new_values.as_slice(), &mut declarer.values)
+}
+
+fn note_reasons<'a>(declarer: &mut Declarer<'_, 'a>) {
     let unit = declarer.eval.unit;
     for place in 0..declarer.reasons.len() {
         if let Some(reason) = declarer.reasons.get(place).copied() {
             declarer.note(unit, reason.pos, reason.rule);
         }
     }
-    for doubt in &declarer.doubts {
-        declarer.eval.declared.doubtful.push(*doubt)?;
-    }
-    for promise in &declarer.assumed {
-        declarer.promises.push(*promise)?;
-    }
-    for brand in &declarer.new_brands {
-        declarer.brands.push(*brand)?;
-    }
-    for value in &declarer.new_values {
-        declarer.values.push(*value)?;
+}
+
+fn keep_all<T: Copy>(noted: &[T], kept: &mut Vec<T>) -> Result<(), NoMemory> {
+    for item in noted {
+        kept.push(*item)?;
     }
     Ok(())
 }

@@ -17,6 +17,6 @@ pub use elements::{
     check_index, check_subarray, indexed, known_distance, limit_of, plan_element, subarray_address,
 };
 pub use shapes::{
-    Counting, check_shape, dims_of, element_words, fitted, inner_element, new_sizes, shape_of,
-    total_words,
+    Counting, check_equal, check_shape, dims_of, element_words, fitted, inner_element, new_sizes,
+    shape_of, total_words,
 };

@@ -105,6 +105,22 @@ pub fn check_shape<'m>(
     code
 }
 
+/// Checks that two shapes are equal.
+pub fn check_equal<'m>(
+    pos: Pos,
+    wanted: &[Operand],
+    found: &[Operand],
+    rest: Pending<'m>,
+) -> Pending<'m> {
+    let mut code = rest;
+    for (dim, want) in wanted.iter().enumerate().rev() {
+        if let Some(size) = found.get(dim) {
+            code = code.after(check(Relation::Equal, *size, *want, FaultKind::Shape, pos));
+        }
+    }
+    code
+}
+
 /// Products that are computed before code that needs them.
 #[derive(Drop)]
 pub struct Counting {

@@ -1,15 +1,15 @@
-use m3_base::{FaultKind, Pos};
+use m3_base::Pos;
 use m3_builder::{
-    Builder, Location, Pending, Place, Value, check, cleared_value, copy_row, copy_words, kind_of,
+    Builder, Location, Pending, Place, Value, cleared_value, copy_row, copy_words, kind_of,
     load_word, set, store_word, store_words,
 };
 use m3_core::{Chain, CoreExpr};
 use m3_exits::Exits;
 use m3_lower_expr::{emit_chain, emit_structure, emit_value, fetch, into_temp, into_temps};
-use m3_mid::{CheckedOperator, Kind, MidOp, Operand, Relation};
+use m3_mid::{CheckedOperator, Kind, MidOp, Operand};
 use m3_operators::in_range;
 use m3_plans::{plan_chain, plan_structure, plan_value};
-use m3_shapes::{check_shape, element_words, shape_of, total_words};
+use m3_shapes::{check_equal, check_shape, element_words, shape_of, total_words};
 use m3_storage::Form;
 use m3_types::TypeId;
 use m3_variables::{ready, source};
@@ -129,22 +129,6 @@ fn open_to<'m>(
         code
     };
     emit_structure(b, exits.around, value, from, code)
-}
-
-/// Checks that two shapes are equal.
-fn check_equal<'m>(
-    pos: Pos,
-    wanted: &[Operand],
-    found: &[Operand],
-    rest: Pending<'m>,
-) -> Pending<'m> {
-    let mut code = rest;
-    for (dim, want) in wanted.iter().enumerate().rev() {
-        if let Some(size) = found.get(dim) {
-            code = code.after(check(Relation::Equal, *size, *want, FaultKind::Shape, pos));
-        }
-    }
-    code
 }
 
 /// INC and DEC: the place, the amount, the sum with its checks, and the write.

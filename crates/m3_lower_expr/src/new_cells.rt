@@ -6,7 +6,6 @@ use m3_core::{Binding, CoreExpr};
 use m3_mid::{Kind, Operand, Relation};
 use m3_plans::{plan_bindings, plan_sizes, store_bindings};
 use m3_shapes::{cell_defaults, make};
-use m3_types::TypeId;
 
 /// Code for NEW: sizes or bindings, the point, the cell with its defaults, and the bindings
 /// stored.
