@@ -1,62 +1,61 @@
-use crate::cells::{global_part, type_parts};
-use crate::code::code_of;
-use crate::constants::Constants;
-use crate::variables::{full_name, var_parts};
-use m3_base::{Bytes, NoMemory};
+ghost use Rattle.std.specs.Prelude.{IfOk};
+ghost use Rattle.std.specs.Result.{IsOk};
+ghost use Rattle.m3_image.specs.Images.{read_of};
+
+use crate::code::{Code, code_of};
+use m3_base::{NoMemory, gap};
 use m3_core::Core;
 use m3_emit::Places;
-use m3_image_writer::{ImageParts, PlacePart, write_image};
+use m3_image_drafts::{judged_image, table_section};
+use m3_image_parts::{Constants, exception_names, global_part, place_part, type_parts, var_parts};
+use m3_image_writer::ImageParts;
 use m3_storage::Storage;
-use m3_table_writer::write_rows;
 use std::alloc::Global;
 
 /// The image of a checked program, of version 2 (docs/MACHINE.md).
-pub fn build(alloc: Global, core: &Core<'_>) -> Result<Vec<u8>, NoMemory> {
-    let storage = Storage::of(alloc, core)?;
-    let parts = parts_of(alloc, &storage)?;
-    write_image(alloc, &parts)
+pub fn build(alloc: Global, core: &Core) -> Result<Vec<u8>, NoMemory>
+    ensures { IfOk result (λ image. IsOk (read_of image.items)) }
+{
+    let parts = program_parts(alloc, core)?;
+    match judged_image(alloc, &parts)? {
+        Some(image) => Ok(image),
+        // the parts of a checked program are those of an image
+        None => Err(gap()),
+    }
 }
 
-fn parts_of(alloc: Global, storage: &Storage) -> Result<ImageParts, NoMemory> {
-    let constants = Constants::of(alloc, storage)?;
+fn program_parts(alloc: Global, core: &Core) -> Result<ImageParts, NoMemory> {
+    let storage = Storage::of(alloc, core)?;
+    let constants = Constants::of(alloc, &storage)?;
     let mut places = Places::new(alloc);
-    let code = code_of(alloc, storage, &constants, &mut places)?;
-    let types = type_parts(alloc, storage)?;
-    let globals = global_part(alloc, storage)?;
-    let tables = write_rows(alloc, code.rows.as_slice())?;
-    let variables = var_parts(alloc, storage, code.spans)?;
+    let code = code_of(alloc, &storage, &constants, &mut places)?;
+    parts_of(alloc, &storage, constants.words, code, &places)
+}
+
+fn parts_of(
+    alloc: Global,
+    storage: &Storage,
+    constants: Vec<u64>,
+    code: Code,
+    places: &Places,
+) -> Result<ImageParts, NoMemory> {
+    let tables = table_section(alloc, &code.rows)?;
+    let variables = var_parts(alloc, storage, &code.spans)?;
+    let Code {
+        code,
+        procs,
+        rows: _,
+        spans: _,
+    } = code;
     Ok(ImageParts {
-        code: code.code,
-        procs: code.procs,
-        types,
-        globals,
-        constants: constants.words,
-        places: place_part(alloc, storage.core, &places)?,
-        exceptions: exceptions(alloc, storage.core)?,
+        code,
+        procs,
+        types: type_parts(alloc, storage)?,
+        globals: global_part(alloc, storage)?,
+        constants,
+        places: place_part(alloc, storage.core, places)?,
+        exceptions: exception_names(alloc, storage.core)?,
         tables,
         variables: Some(variables),
     })
-}
-
-fn place_part(alloc: Global, core: &Core, places: &Places) -> Result<PlacePart, NoMemory> {
-    let mut files = Vec::new(alloc);
-    for file in core.files {
-        files.push(Bytes::of(alloc, file)?)?;
-    }
-    let mut list = Vec::new(alloc);
-    for place in places.list() {
-        list.push(*place)?;
-    }
-    Ok(PlacePart {
-        files,
-        places: list,
-    })
-}
-
-fn exceptions(alloc: Global, core: &Core) -> Result<Vec<Bytes>, NoMemory> {
-    let mut names = Vec::new(alloc);
-    for exception in core.exceptions {
-        names.push(full_name(alloc, exception.unit, exception.name)?)?;
-    }
-    Ok(names)
 }

@@ -1,9 +1,9 @@
-use crate::constants::Constants;
 use bumpalo::Bump;
 use m3_alloc::allocate;
 use m3_base::{NoMemory, place_number};
 use m3_derive::derive;
 use m3_emit::{Links, Part, Places, SpanPart, emit};
+use m3_image_parts::Constants;
 use m3_isa::{Instr, Op};
 use m3_lower_stmt::lower_proc;
 use m3_sections::ProcPart;
@@ -101,35 +101,53 @@ impl Code {
         self.close(first, 3, 7)
     }
 
-    fn add_proc(
-        &mut self,
-        alloc: Global,
-        storage: &Storage,
-        constants: &Constants,
-        places: &mut Places,
-        number: u32,
-    ) -> Result<(), NoMemory> {
-        let arena = Bump::new(alloc);
-        let proc = lower_proc(alloc, &arena, storage, number)?;
-        let derived = derive(alloc, &arena, &proc)?;
-        let placed = allocate(alloc, &derived)?;
-        let links = Links {
-            constants: constants.values.as_slice(),
-            texts: constants.texts.as_slice(),
-        };
-        let mut part = emit(alloc, &placed, links, places)?;
+    /// Adds a procedure behind those that are there.
+    fn add_proc(&mut self, proc: Compiled) -> Result<(), NoMemory> {
+        let Compiled {
+            mut part,
+            body,
+            frame,
+        } = proc;
         let first = self.next()?;
         part.move_by(first);
         let Part { code, rows, spans } = part;
-        for one in &code {
-            self.code.push(*one)?;
-        }
+        self.code.extend_from_slice(&code)?;
         for row in rows {
             self.rows.push(row)?;
         }
         self.spans.push(spans)?;
-        self.close(first, placed.body, placed.frame)
+        self.close(first, body, frame)
     }
+}
+
+/// The code of a procedure, and the words of its frame up to the next one and in all.
+#[derive(Drop)]
+struct Compiled {
+    part: Part,
+    body: u32,
+    frame: u32,
+}
+
+fn compiled(
+    alloc: Global,
+    storage: &Storage,
+    constants: &Constants,
+    places: &mut Places,
+    number: u32,
+) -> Result<Compiled, NoMemory> {
+    let arena = Bump::new(alloc);
+    let proc = lower_proc(alloc, &arena, storage, number)?;
+    let derived = derive(alloc, &arena, &proc)?;
+    let placed = allocate(alloc, &derived)?;
+    let links = Links {
+        constants: constants.values.as_slice(),
+        texts: constants.texts.as_slice(),
+    };
+    Ok(Compiled {
+        part: emit(alloc, &placed, links, places)?,
+        body: placed.body,
+        frame: placed.frame,
+    })
 }
 
 /// The code of all procedures of a program.
@@ -143,7 +161,8 @@ pub fn code_of(
     code.add_start(alloc, storage.core.order)?;
     code.add_thread(alloc)?;
     for number in 0..storage.core.procs.len() {
-        code.add_proc(alloc, storage, constants, places, place_number(number)?)?;
+        let number = place_number(number)?;
+        code.add_proc(compiled(alloc, storage, constants, places, number)?)?;
     }
     Ok(code)
 }

@@ -2,10 +2,6 @@
 #![tactic(auto)]
 
 mod building;
-mod cells;
 mod code;
-mod constants;
-mod methods;
-mod variables;
 
 pub use building::build;

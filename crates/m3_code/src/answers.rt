@@ -37,7 +37,12 @@ fn at_most(op: Op, left: Operand, right: Operand) -> Test {
 fn test_of(relation: Relation, left: Operand, right: Operand) -> Test {
     match relation {
         Relation::Equal => make_test(Op::Seq, left, right, false),
-        Relation::NotEqual if right == Operand::Number(0) => make_test(Op::Sltu, right, left, false),
+        Relation::NotEqual if right == Operand::Number(0) => make_test(
+            Op::Sltu,
+            right,
+            left,
+            false,
+        ),
         Relation::NotEqual => make_test(Op::Seq, left, right, true),
         Relation::Less => make_test(Op::Slt, left, right, false),
         Relation::LessEqual => at_most(Op::Slt, left, right),

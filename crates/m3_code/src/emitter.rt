@@ -24,8 +24,8 @@ pub enum Target {
     Stub(u32),
 }
 
-/// An address that the next operation alone uses: instead of the temporary it takes a register and
-/// a number.
+/// The address of a word that the next operation alone loads or stores: instead of the temporary it
+/// takes a register and the distance from there to the word.
 #[derive(Clone, Copy, Debug)]
 pub struct Fold {
     pub temp: u32,
@@ -54,11 +54,12 @@ pub struct Emitter<'a> {
     pub stubs: Vec<(u8, u32)>,
 }
 
-/// A number as an instruction holds it.
+/// A number of words, instructions, types or methods as an instruction holds it. What has more than
+/// 2^31 of them fits in no memory.
 pub fn imm_of(number: u32) -> Result<i32, NoMemory> {
     match i32::try_from(number) {
         Ok(imm) => Ok(imm),
-        Err(_) => Err(gap()),
+        Err(_) => Err(NoMemory),
     }
 }
 
@@ -154,10 +155,7 @@ impl<'a> Emitter<'a> {
     pub fn kind_of(&self, temp: u32) -> Kind {
         let placed = self.placed;
         let temps = placed.derived.proc.temps;
-        temps
-            .get(temp as usize)
-            .copied()
-            .unwrap_or(Kind::Number)
+        temps.get(temp as usize).copied().unwrap_or(Kind::Number)
     }
 
     fn content(&self, at: u8) -> Content {
@@ -237,6 +235,7 @@ impl<'a> Emitter<'a> {
 
     /// A register for what is being computed.
     pub fn scratch(&mut self) -> Result<u8, NoMemory> {
+        // no operation needs more than the four at once
         let at = self.free_register().ok_or(gap())?;
         if let Some(item) = self.contents.get_mut(at as usize) {
             *item = Content::Nothing;

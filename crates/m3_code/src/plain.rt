@@ -1,5 +1,5 @@
 use crate::emitter::{Emitter, Fold, imm_of};
-use m3_base::{NoMemory, gap};
+use m3_base::NoMemory;
 use m3_isa::{Instr, Op};
 use m3_mid::{MemoryWord, MidOp, Operand, WordOperator};
 use m3_tables::Location;
@@ -118,8 +118,7 @@ impl<'a> Emitter<'a> {
         if let Some(fold) = self.fold
             && fold.temp == base
         {
-            let sum = fold.offset.checked_add(offset).ok_or(gap())?;
-            return Ok((fold.register, sum));
+            return Ok((fold.register, fold.offset));
         }
         Ok((self.temp(base)?, offset))
     }
@@ -235,7 +234,7 @@ impl<'a> Emitter<'a> {
         }
         let product = self.put_product(index, words)?;
         let from = self.temp(array)?;
-        if self.can_fold(to, offset, next) {
+        if self.folded_sum(to, offset, next).is_some() {
             let sum = self.scratch()?;
             self.put_abc(Op::Add, sum, from, product)?;
             let _folded = self.fold_next(to, sum, offset, next);
@@ -266,20 +265,18 @@ impl<'a> Emitter<'a> {
         self.settle(goal)
     }
 
-    fn can_fold(&self, to: u32, offset: i64, next: Option<MidOp<'a>>) -> bool {
+    /// The distance to the word that the next operation loads or stores, where it can take it.
+    fn folded_sum(&self, to: u32, offset: i64, next: Option<MidOp<'a>>) -> Option<i32> {
         match (self.folded_offset(to, next), i32::try_from(offset)) {
-            (Some(further), Ok(first)) => first.checked_add(further).is_some(),
-            _ => false,
+            (Some(further), Ok(first)) => first.checked_add(further),
+            _ => None,
         }
     }
 
     /// Leaves a sum to the next operation, where it can take it.
     fn fold_next(&mut self, to: u32, register: u8, offset: i64, next: Option<MidOp<'a>>) -> bool {
-        if !self.can_fold(to, offset, next) {
-            return false;
-        }
-        match i32::try_from(offset) {
-            Ok(offset) => {
+        match self.folded_sum(to, offset, next) {
+            Some(offset) => {
                 self.fold = Some(Fold {
                     temp: to,
                     register,
@@ -287,7 +284,7 @@ impl<'a> Emitter<'a> {
                 });
                 true
             }
-            Err(_) => false,
+            None => false,
         }
     }
 

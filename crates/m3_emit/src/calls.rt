@@ -1,5 +1,5 @@
 use crate::writer::Writer;
-use m3_base::{NoMemory, gap};
+use m3_base::NoMemory;
 use m3_code::{FIRST, word_of};
 use m3_isa::Op;
 use m3_mid::{Actual, Callee, Kind, MidOp, Operand, Raised};
@@ -217,32 +217,30 @@ impl<'a> Writer<'a> {
 
     /// Moves words between registers as if all were read first.
     fn transfer(&mut self, list: &mut Vec<Transfer>) -> Result<(), NoMemory> {
-        for _step in 0..u64::MAX {
-            if list.is_empty() {
-                return Ok(());
-            }
-            match ready(list) {
-                Some(at) => {
-                    if let Some(item) = list.get(at).copied() {
-                        self.emitter.put_abc(Op::Move, item.to, item.from, 0)?;
-                    }
-                    if at < list.len() {
-                        let _moved = list.remove(at);
-                    }
+        for _ in 0..list.len() {
+            let at = match ready(list) {
+                Some(at) => at,
+                None => {
+                    self.set_aside(list)?;
+                    0
                 }
-                None => self.set_aside(list)?,
+            };
+            if at < list.len() {
+                let item = list.remove(at);
+                self.emitter.put_abc(Op::Move, item.to, item.from, 0)?;
             }
         }
-        Err(gap())
+        Ok(())
     }
 
-    /// Breaks a ring of moves: the word of the first goes through a register of its own.
+    /// Breaks a ring of moves: what the first one overwrites comes from a register of its own from
+    /// then on.
     fn set_aside(&mut self, list: &mut Vec<Transfer>) -> Result<(), NoMemory> {
         if let Some(first) = list.first().copied() {
             let register = self.emitter.scratch()?;
-            self.emitter.put_abc(Op::Move, register, first.from, 0)?;
+            self.emitter.put_abc(Op::Move, register, first.to, 0)?;
             for item in list.iter_mut() {
-                if item.from == first.from {
+                if item.from == first.to {
                     item.from = register;
                 }
             }

@@ -4,7 +4,7 @@ use crate::starts::unset_words;
 use crate::targets::{entries_of, laid_of, targets_of};
 use crate::writer::Writer;
 use m3_alloc::Placed;
-use m3_base::{NoMemory, gap, place_number};
+use m3_base::{NoMemory, place_number};
 use m3_code::{Emitter, Links, Places, Target, imm_of, word_of};
 use m3_flow::{block_order, end_operands, temp_of, uses_of};
 use m3_isa::Op;
@@ -91,6 +91,15 @@ fn map_of(alloc: Global, p: &Proc) -> Result<Map, NoMemory> {
     })
 }
 
+/// The number of a target's first instruction.
+fn begin_of(map: &Map, to: Target) -> u32 {
+    let begin = match to {
+        Target::Block(block) => map.fronts.get(block as usize),
+        Target::Stub(stub) => map.stubs.get(stub as usize),
+    };
+    begin.copied().unwrap_or(0)
+}
+
 /// The block whose code follows that of one.
 fn next_of(map: &Map, at: usize) -> Option<u32> {
     map.laid.get(at.saturating_add(1)).copied()
@@ -138,14 +147,12 @@ impl<'a> Writer<'a> {
 
     /// Lets the jumps go where their targets begin.
     fn set_jumps(&mut self, map: &Map) -> Result<(), NoMemory> {
-        for (instr, to) in &self.emitter.jumps {
-            let at = match *to {
-                Target::Block(block) => map.fronts.get(block as usize).copied(),
-                Target::Stub(stub) => map.stubs.get(stub as usize).copied(),
-            };
-            let imm = imm_of(at.ok_or(gap())?)?;
-            if let Some(item) = self.emitter.code.get_mut(*instr as usize) {
-                item.imm = imm;
+        for at in 0..self.emitter.jumps.len() {
+            if let Some((instr, to)) = self.emitter.jumps.get(at).copied() {
+                let imm = imm_of(begin_of(map, to))?;
+                if let Some(item) = self.emitter.code.get_mut(instr as usize) {
+                    item.imm = imm;
+                }
             }
         }
         Ok(())

@@ -10,54 +10,50 @@ use m3_table_writer::{DerivedPlain, RowPlain, Way};
 use m3_tables::Location;
 use std::alloc::Global;
 
-fn number_of(location: Location) -> Result<u32, NoMemory> {
-    location.number().ok_or(gap())
-}
-
-/// The places of these numbers, rising and each once.
-fn places_of(alloc: Global, numbers: &mut Vec<u32>) -> Result<Vec<Location>, NoMemory> {
-    numbers.sort()?;
-    let mut places = Vec::new(alloc);
+/// Places, rising and each once.
+fn in_order(alloc: Global, mut places: Vec<Location>) -> Result<Vec<Location>, NoMemory> {
+    places.sort()?;
+    let mut once = Vec::new(alloc);
     let mut last = None;
-    for number in numbers.iter() {
-        if last != Some(*number) {
-            places.push(Location::from_number(*number))?;
-            last = Some(*number);
+    for place in places.iter() {
+        if last != Some(*place) {
+            once.push(*place)?;
+            last = Some(*place);
         }
     }
-    Ok(places)
+    Ok(once)
 }
 
 /// The places of words of the frame.
 fn places_of_words(alloc: Global, words: &[u32]) -> Result<Vec<Location>, NoMemory> {
-    let mut numbers = Vec::new(alloc);
+    let mut places = Vec::new(alloc);
     for word in words {
-        numbers.push(number_of(Location::Slot(*word))?)?;
+        places.push(Location::Slot(*word))?;
     }
-    places_of(alloc, &mut numbers)
+    in_order(alloc, places)
 }
 
 impl<'a> Writer<'a> {
     fn tidy_places(&self, row: &RowPlan<'a>) -> Result<Vec<Location>, NoMemory> {
-        let mut numbers = Vec::new(self.emitter.alloc);
+        let mut places = Vec::new(self.emitter.alloc);
         for word in &self.tidy_words {
-            numbers.push(number_of(Location::Slot(*word))?)?;
+            places.push(Location::Slot(*word))?;
         }
         for temp in row.tidy {
-            numbers.push(number_of(self.emitter.place_of(*temp))?)?;
+            places.push(self.emitter.place_of(*temp))?;
         }
-        places_of(self.emitter.alloc, &mut numbers)
+        in_order(self.emitter.alloc, places)
     }
 
     fn argument_places(&self, listed: &[u8], passed: &Passed) -> Result<Vec<Location>, NoMemory> {
-        let mut numbers = Vec::new(self.emitter.alloc);
+        let mut places = Vec::new(self.emitter.alloc);
         for register in listed {
-            numbers.push(u32::from(*register))?;
+            places.push(Location::Register(*register))?;
         }
         for word in &passed.tidy {
-            numbers.push(number_of(Location::Slot(*word))?)?;
+            places.push(Location::Slot(*word))?;
         }
-        places_of(self.emitter.alloc, &mut numbers)
+        in_order(self.emitter.alloc, places)
     }
 
     fn base_place(&self, base: Base) -> Location {

@@ -1,4 +1,4 @@
-use m3_base::{NoMemory, gap, place_number};
+use m3_base::{NoMemory, place_number};
 use m3_flow::Order;
 use m3_mid::{End, Proc};
 use std::alloc::Global;
@@ -41,12 +41,13 @@ pub(crate) fn targets_of(alloc: Global, p: &Proc, order: &Order) -> Result<Vec<u
     for at in 0..p.blocks.len() {
         targets.push(place_number(at)?)?;
     }
-    for _pass in 0..u64::MAX {
+    // each pass goes on by a block at least, and a ring of blocks that do nothing has no point
+    for _ in 0..p.blocks.len() {
         if !pass_on(p, order, &mut targets) {
-            return Ok(targets);
+            break;
         }
     }
-    Err(gap())
+    Ok(targets)
 }
 
 /// The blocks that get code, in their order: those that are reached and that no jump passes by.

@@ -67,29 +67,126 @@ fn put<'a>(arena: &'a Bump, temp: u32) -> Result<MidOp<'a>, NoMemory> {
     })
 }
 
-/// One block, in which each of so many temporaries is the sum of the one before and of the first.
-pub fn one_block(alloc: Global, count: u32) -> Result<Measured, NoMemory> {
-    let arena = Bump::new(alloc);
-    let mut ops = Vec::new(&arena);
+fn number_proc<'a>(
+    arena: &'a Bump,
+    temps: u32,
+    blocks: &'a [Block<'a>],
+) -> Result<Proc<'a>, NoMemory> {
+    Ok(Proc {
+        temps: numbers(arena, temps)?,
+        slots: &[],
+        formals: 0,
+        blocks,
+        start: 0,
+        loops: &[],
+    })
+}
+
+/// The sums of the temporary before and the first one, and what puts the last.
+fn sums<'a>(arena: &'a Bump, count: u32) -> Result<&'a [MidOp<'a>], NoMemory> {
+    let mut ops = Vec::new(arena);
     ops.push(MidOp::Number { to: 0, value: 1 })?;
     for at in 1..count {
         ops.push(sum(at, at.saturating_sub(1), 0))?;
     }
-    ops.push(put(&arena, count.saturating_sub(1))?)?;
-    let mut blocks = Vec::new(&arena);
+    ops.push(put(arena, count.saturating_sub(1))?)?;
+    Ok(into_bump_slice(ops))
+}
+
+fn returning<'a>(arena: &'a Bump, ops: &'a [MidOp<'a>]) -> Result<&'a [Block<'a>], NoMemory> {
+    let mut blocks = Vec::new(arena);
     blocks.push(Block {
-        ops: into_bump_slice(ops),
+        ops,
         end: End::Return { value: None },
     })?;
-    let p = Proc {
-        temps: numbers(&arena, count)?,
-        slots: &[],
-        formals: 0,
-        blocks: into_bump_slice(blocks),
-        start: 0,
-        loops: &[],
-    };
+    Ok(into_bump_slice(blocks))
+}
+
+/// One block, in which each of so many temporaries is the sum of the one before and of the first.
+pub fn one_block(alloc: Global, count: u32) -> Result<Measured, NoMemory> {
+    let arena = Bump::new(alloc);
+    let blocks = returning(&arena, sums(&arena, count)?)?;
+    let p = number_proc(&arena, count, blocks)?;
     measure(alloc, &arena, &p)
+}
+
+/// Sets so many variables.
+fn settings<'a>(arena: &'a Bump, variables: u32) -> Result<&'a [MidOp<'a>], NoMemory> {
+    let mut ops = Vec::new(arena);
+    for at in 0..variables {
+        ops.push(MidOp::Number { to: at, value: 1 })?;
+    }
+    Ok(into_bump_slice(ops))
+}
+
+/// Puts the sum of so many variables.
+fn total<'a>(arena: &'a Bump, variables: u32) -> Result<&'a [MidOp<'a>], NoMemory> {
+    let mut ops = Vec::new(arena);
+    for at in 1..variables {
+        ops.push(sum(0, 0, at))?;
+    }
+    ops.push(put(arena, 0)?)?;
+    Ok(into_bump_slice(ops))
+}
+
+/// Sets a temporary, and passes a point where there are points.
+fn condition<'a>(
+    arena: &'a Bump,
+    temp: u32,
+    has_points: bool,
+) -> Result<&'a [MidOp<'a>], NoMemory> {
+    let mut ops = Vec::new(arena);
+    ops.push(sum(temp, 0, 1))?;
+    if has_points {
+        ops.push(MidOp::Point { shown: &[] })?;
+    }
+    Ok(into_bump_slice(ops))
+}
+
+fn addition<'a>(arena: &'a Bump, temp: u32) -> Result<&'a [MidOp<'a>], NoMemory> {
+    let mut ops = Vec::new(arena);
+    ops.push(sum(0, 0, temp))?;
+    Ok(into_bump_slice(ops))
+}
+
+fn choice_end(temp: u32, here: u32) -> End {
+    End::If {
+        relation: Relation::Less,
+        left: Operand::Temp(temp),
+        right: Operand::Temp(0),
+        yes: here.saturating_add(1),
+        no: here.saturating_add(2),
+    }
+}
+
+fn choice_blocks<'a>(
+    arena: &'a Bump,
+    variables: u32,
+    count: u32,
+    has_points: bool,
+) -> Result<&'a [Block<'a>], NoMemory> {
+    let mut blocks = Vec::new(arena);
+    blocks.push(Block {
+        ops: settings(arena, variables)?,
+        end: End::Goto(1),
+    })?;
+    for at in 0..count {
+        let temp = variables.saturating_add(at);
+        let here = place_number(blocks.len())?;
+        blocks.push(Block {
+            ops: condition(arena, temp, has_points)?,
+            end: choice_end(temp, here),
+        })?;
+        blocks.push(Block {
+            ops: addition(arena, temp)?,
+            end: End::Goto(here.saturating_add(2)),
+        })?;
+    }
+    blocks.push(Block {
+        ops: total(arena, variables)?,
+        end: End::Return { value: None },
+    })?;
+    Ok(into_bump_slice(blocks))
 }
 
 /// So many variables that are set first, so many choices one after the other, each with a temporary
@@ -101,56 +198,7 @@ pub fn choices(
     has_points: bool,
 ) -> Result<Measured, NoMemory> {
     let arena = Bump::new(alloc);
-    let mut blocks = Vec::new(&arena);
-    let mut first = Vec::new(&arena);
-    for at in 0..variables {
-        first.push(MidOp::Number { to: at, value: 1 })?;
-    }
-    blocks.push(Block {
-        ops: into_bump_slice(first),
-        end: End::Goto(1),
-    })?;
-    for at in 0..count {
-        let temp = variables.saturating_add(at);
-        let mut ops = Vec::new(&arena);
-        ops.push(sum(temp, 0, 1))?;
-        if has_points {
-            ops.push(MidOp::Point { shown: &[] })?;
-        }
-        let here = place_number(blocks.len())?;
-        blocks.push(Block {
-            ops: into_bump_slice(ops),
-            end: End::If {
-                relation: Relation::Less,
-                left: Operand::Temp(temp),
-                right: Operand::Temp(0),
-                yes: here.saturating_add(1),
-                no: here.saturating_add(2),
-            },
-        })?;
-        let mut arm = Vec::new(&arena);
-        arm.push(sum(0, 0, temp))?;
-        blocks.push(Block {
-            ops: into_bump_slice(arm),
-            end: End::Goto(here.saturating_add(2)),
-        })?;
-    }
-    let mut last = Vec::new(&arena);
-    for at in 1..variables {
-        last.push(sum(0, 0, at))?;
-    }
-    last.push(put(&arena, 0)?)?;
-    blocks.push(Block {
-        ops: into_bump_slice(last),
-        end: End::Return { value: None },
-    })?;
-    let p = Proc {
-        temps: numbers(&arena, variables.saturating_add(count))?,
-        slots: &[],
-        formals: 0,
-        blocks: into_bump_slice(blocks),
-        start: 0,
-        loops: &[],
-    };
+    let blocks = choice_blocks(&arena, variables, count, has_points)?;
+    let p = number_proc(&arena, variables.saturating_add(count), blocks)?;
     measure(alloc, &arena, &p)
 }

@@ -89,8 +89,28 @@ fn print_part(rt: &impl Print, part: &Part, first: u32) -> io::Result<u32> {
     Ok(at)
 }
 
-fn no_memory(_e: NoMemory) -> io::Error {
-    io::Error::from(io::ErrorKind::OutOfMemory)
+/// The code of a procedure, and the words of its frame up to the next one and in all.
+#[derive(Drop)]
+struct Emitted {
+    part: Part,
+    body: u32,
+    frame: u32,
+}
+
+fn emit_proc<'a>(
+    alloc: Global,
+    arena: &'a Bump,
+    p: &Proc<'a>,
+    links: Links<'a>,
+    places: &mut Places,
+) -> Result<Emitted, NoMemory> {
+    let derived = derive(alloc, arena, p)?;
+    let placed = allocate(alloc, &derived)?;
+    Ok(Emitted {
+        part: emit(alloc, &placed, links, places)?,
+        body: placed.body,
+        frame: placed.frame,
+    })
 }
 
 /// Prints the code of a procedure that begins at an instruction, and gives the number of the next
@@ -103,12 +123,14 @@ pub fn print_proc<'a>(
     places: &mut Places,
     first: u32,
 ) -> io::Result<u32> {
-    let derived = derive(rt.alloc(), arena, p).map_err(no_memory)?;
-    let placed = allocate(rt.alloc(), &derived).map_err(no_memory)?;
-    let mut part = emit(rt.alloc(), &placed, links, places).map_err(no_memory)?;
-    part.move_by(first);
-    let body = placed.body;
-    let frame = placed.frame;
-    println!(rt; "proc body={body} frame={frame}")?;
-    print_part(rt, &part, first)
+    match emit_proc(rt.alloc(), arena, p, links, places) {
+        Ok(mut emitted) => {
+            emitted.part.move_by(first);
+            let body = emitted.body;
+            let frame = emitted.frame;
+            println!(rt; "proc body={body} frame={frame}")?;
+            print_part(rt, &emitted.part, first)
+        }
+        Err(_) => Err(io::Error::from(io::ErrorKind::OutOfMemory)),
+    }
 }

@@ -1,22 +1,14 @@
+use crate::names::full_name;
 use m3_base::{Bytes, NoMemory, place_number};
 use m3_core::{ProcDef, VarDef};
 use m3_emit::SpanPart;
 use m3_image_writer::VarPart;
-use m3_storage::{Form, Storage, is_shown, number_of};
+use m3_objects::{Form, number_of};
+use m3_storage::{Storage, is_shown};
 use std::alloc::Global;
 
 /// The procedure of a global variable, in an image.
 const NO_PROCEDURE: u32 = u32::MAX;
-
-/// The name of a unit and of a thing in it, with a dot between.
-pub fn full_name(alloc: Global, unit: &[u8], name: &[u8]) -> Result<Bytes, NoMemory> {
-    let mut text = Vec::from_slice(alloc, unit)?;
-    text.push(b'.')?;
-    for byte in name {
-        text.push(*byte)?;
-    }
-    Bytes::of(alloc, text.as_slice())
-}
 
 fn form_of(storage: &Storage, variable: &VarDef) -> u8 {
     match storage.form(storage.type_of(variable)) {
@@ -25,13 +17,27 @@ fn form_of(storage: &Storage, variable: &VarDef) -> u8 {
     }
 }
 
-/// The variables that an image shows: the global ones, and then those of each procedure.
+/// The variables that an image shows: the global ones, and then those of each procedure, with what is
+/// shown of them at its points.
 pub fn var_parts(
     alloc: Global,
     storage: &Storage,
-    spans: Vec<Vec<SpanPart>>,
+    spans: &[Vec<SpanPart>],
 ) -> Result<Vec<VarPart>, NoMemory> {
     let mut parts = Vec::new(alloc);
+    add_globals(alloc, storage, &mut parts)?;
+    for (place, proc) in storage.core.procs.iter().enumerate() {
+        let first = parts.len();
+        let number = place_number(place.saturating_add(2))?;
+        add_all(alloc, storage, number, proc, &mut parts)?;
+        if let Some(spans) = spans.get(place) {
+            add_spans(&mut parts, first, spans)?;
+        }
+    }
+    Ok(parts)
+}
+
+fn add_globals(alloc: Global, storage: &Storage, parts: &mut Vec<VarPart>) -> Result<(), NoMemory> {
     for (place, global) in storage.core.globals.iter().enumerate() {
         if is_shown(&storage.core.types, global) {
             parts.push(VarPart {
@@ -43,15 +49,7 @@ pub fn var_parts(
             })?;
         }
     }
-    for (number, proc) in storage.core.procs.iter().enumerate() {
-        let first = parts.len();
-        let number = place_number(number.saturating_add(2))?;
-        add_all(alloc, storage, number, proc, &mut parts)?;
-        if let Some(spans) = spans.get((number as usize).saturating_sub(2)) {
-            add_spans(&mut parts, first, spans)?;
-        }
-    }
-    Ok(parts)
+    Ok(())
 }
 
 fn add_all(
@@ -90,11 +88,7 @@ fn add_one(
 }
 
 /// Adds where variables are to those of a procedure, which stand from a place on.
-fn add_spans(
-    parts: &mut Vec<VarPart>,
-    first: usize,
-    spans: &[SpanPart],
-) -> Result<(), NoMemory> {
+fn add_spans(parts: &mut Vec<VarPart>, first: usize, spans: &[SpanPart]) -> Result<(), NoMemory> {
     for span in spans {
         let place = first.saturating_add(span.var as usize);
         if let Some(part) = parts.get_mut(place) {

@@ -1,6 +1,7 @@
-use m3_base::{NoMemory, place_number};
+use m3_base::{NoMemory, gap, place_number};
 use m3_core::{Value, ValueId};
-use m3_storage::{Form, Storage, number_of};
+use m3_objects::{Form, number_of};
+use m3_storage::Storage;
 use m3_types::{TypeId, TypeNode};
 use std::alloc::Global;
 
@@ -26,6 +27,7 @@ enum Task {
 }
 
 impl Constants {
+    /// The constants of a program.
     pub fn of(alloc: Global, storage: &Storage) -> Result<Constants, NoMemory> {
         let mut constants = Constants {
             words: Vec::new(alloc),
@@ -35,47 +37,35 @@ impl Constants {
         for text in storage.core.texts {
             constants.add_text(text)?;
         }
-        for place in 0..storage.core.values.len() {
-            let place = place_number(place)?;
-            constants.add_value(alloc, storage, place)?;
-        }
+        constants.add_values(alloc, storage)?;
         Ok(constants)
     }
 
     /// Adds the cell of a text: its header, its length, and its bytes, eight in a word.
     fn add_text(&mut self, text: &[u8]) -> Result<(), NoMemory> {
-        let start = place_number(self.words.len())?;
-        self.texts.push(start)?;
+        self.texts.push(place_number(self.words.len())?)?;
         let length = text.len() as u64;
-        let words = length.saturating_add(7) / 8 + 2;
+        let words = (length.saturating_add(7) / 8).saturating_add(2);
         self.words.push(words.wrapping_shl(32))?;
         self.words.push(length)?;
         for piece in text.chunks(8) {
-            let mut word = 0u64;
-            for (place, byte) in piece.iter().enumerate() {
-                word |= u64::from(*byte).wrapping_shl(number_of(place).wrapping_mul(8));
-            }
-            self.words.push(word)?;
+            self.words.push(packed(piece))?;
         }
         Ok(())
     }
 
-    fn add_value(
-        &mut self,
-        alloc: Global,
-        storage: &Storage,
-        value: u32,
-    ) -> Result<(), NoMemory> {
-        let kind = match storage.constant_kind(value) {
-            Some(kind) if !storage.form(kind).is_scalar() => kind,
-            _ => {
-                self.values.push(0)?;
-                return Ok(());
+    fn add_values(&mut self, alloc: Global, storage: &Storage) -> Result<(), NoMemory> {
+        for place in 0..storage.core.values.len() {
+            let place = place_number(place)?;
+            match written_kind(storage, place) {
+                Some(kind) => {
+                    self.values.push(place_number(self.words.len())?)?;
+                    self.write(alloc, storage, ValueId(place), kind)?;
+                }
+                None => self.values.push(0)?,
             }
-        };
-        let start = place_number(self.words.len())?;
-        self.values.push(start)?;
-        self.write(alloc, storage, ValueId(value), kind)
+        }
+        Ok(())
     }
 
     /// Writes a value. What it is made of is kept in a list, the next in order last.
@@ -88,13 +78,15 @@ impl Constants {
     ) -> Result<(), NoMemory> {
         let mut tasks = Vec::new(alloc);
         tasks.push(Task::Value { value, kind })?;
-        while let Some(task) = tasks.pop() {
-            match task {
-                Task::Value { value, kind } => self.open(storage, value, kind, &mut tasks)?,
-                Task::Again { words, times } => self.repeat(words, times)?,
+        for _ in 0..u64::MAX {
+            match tasks.pop() {
+                Some(Task::Value { value, kind }) => self.open(storage, value, kind, &mut tasks)?,
+                Some(Task::Again { words, times }) => self.repeat(words, times)?,
+                None => return Ok(()),
             }
         }
-        Ok(())
+        // what a value is made of stands before it, so it ends
+        Err(gap())
     }
 
     fn open(
@@ -143,25 +135,46 @@ impl Constants {
         };
         for word in 0..storage.form(kind).words() {
             let start = first.wrapping_add(word.cast_signed().wrapping_mul(64));
-            let mut bits = 0u64;
-            for member in members {
-                let place = member.wrapping_sub(start);
-                bits |= bit_of(place);
-            }
-            self.words.push(bits)?;
+            self.words.push(bits_of(members, start))?;
         }
         Ok(())
     }
 
+    /// Writes the last so many words once more, so many times.
     fn repeat(&mut self, words: u64, times: u64) -> Result<(), NoMemory> {
-        let count = words.saturating_mul(times);
-        for _ in 0..count {
+        for _ in 0..words.saturating_mul(times) {
             let from = self.words.len().saturating_sub(words as usize);
             let word = self.words.get(from).copied().unwrap_or(0);
             self.words.push(word)?;
         }
         Ok(())
     }
+}
+
+/// Up to eight bytes in a word, the first one lowest.
+fn packed(piece: &[u8]) -> u64 {
+    let mut word = 0u64;
+    for byte in piece.iter().rev() {
+        word = word.wrapping_shl(8) | u64::from(*byte);
+    }
+    word
+}
+
+/// The type of a constant that code copies from its words; none where no code does.
+fn written_kind(storage: &Storage, value: u32) -> Option<TypeId> {
+    match storage.constant_kind(value) {
+        Some(kind) if !storage.form(kind).is_scalar() => Some(kind),
+        _ => None,
+    }
+}
+
+/// The members of a word of a set that begins with one.
+fn bits_of(members: &[i64], start: i64) -> u64 {
+    let mut bits = 0u64;
+    for member in members {
+        bits |= bit_of(member.wrapping_sub(start));
+    }
+    bits
 }
 
 /// The bit at a place of a word, and 0 outside it.
