@@ -12,7 +12,7 @@ use m3_operands::Checker;
 use m3_program::read_program;
 use m3_scopes::Program;
 use m3_sizes::SizedTypes;
-use m3_types::TypeNode;
+use m3_types::{TypeGraph, TypeId, TypeNode};
 use std::alloc::Global;
 
 /// The checked program of some sources, whose trees stand in the arena, or the least of all rules that
@@ -39,7 +39,7 @@ fn check_program<'a>(
     let declared = declare(alloc, arena, program)?;
     let mut checker = Checker::new(alloc, arena, program, declared);
     let lists = check_all(&mut checker, sources)?;
-    let types = SizedTypes::measure(alloc, checker.declared.types)?;
+    let types = SizedTypes::measure(alloc, take_types(&mut checker))?;
     let core = Core {
         types,
         procs: lists.procs,
@@ -62,15 +62,22 @@ fn check_all<'a>(
     declare_globals(checker)?;
     check_units(checker)?;
     checker.least.check()?;
-    give_up_refused(checker);
+    let refused = checker.declared.basic.refused;
+    give_up(&mut checker.declared.types, refused);
     Ok(list_all(checker, sources)?)
 }
 
+/// The graph of types of a checker that is done with it.
+fn take_types<'a>(checker: &mut Checker<'_, 'a>) -> TypeGraph<'a> {
+    let empty = TypeGraph::new(checker.alloc);
+    let types = &mut checker.declared.types;
+    std::mem::replace(types, empty)
+}
+
 /// Defines what stood for types that were refused, since no place of a whole graph is left reserved.
-fn give_up_refused(checker: &mut Checker<'_, '_>) {
-    let refused = checker.declared.basic.refused;
-    if checker.declared.types.is_reserved(refused) {
-        checker.declared.types.set(refused, TypeNode::Null);
+fn give_up(types: &mut TypeGraph<'_>, refused: TypeId) {
+    if types.is_reserved(refused) {
+        types.set(refused, TypeNode::Null);
     }
 }
 

@@ -98,7 +98,8 @@ pub fn list_globals<'a>(
             list_unit(checker, &mut globals, &unit)?;
         }
     }
-    Ok((into_bump_slice(globals.definitions), into_bump_slice(globals.units)))
+    let Globals { definitions, units } = globals;
+    Ok((into_bump_slice(definitions), into_bump_slice(units)))
 }
 
 fn list_unit<'a>(

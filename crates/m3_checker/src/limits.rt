@@ -50,11 +50,7 @@ fn refusal(unit: u32, pos: Pos, rule: u16) -> Refusal {
 }
 
 /// Rule 90, at the first type expression past the limit.
-fn judge_count(
-    least: &mut Least,
-    alloc: Global,
-    written: &[WrittenType],
-) -> Result<(), NoMemory> {
+fn judge_count(least: &mut Least, alloc: Global, written: &[WrittenType]) -> Result<(), NoMemory> {
     if written.len() <= MOST_TYPES {
         return Ok(());
     }

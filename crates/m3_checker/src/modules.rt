@@ -4,7 +4,7 @@ use m3_core::{CoreStmt, ProcDef};
 use m3_operands::Checker;
 use m3_stmts::{Body, initial_values, statements};
 use m3_syntax::{Block, Unit};
-use m3_types::{Raises, TypeNode};
+use m3_types::{Formal, Raises, TypeNode};
 
 /// Checks a module's body.
 pub fn check_module<'a>(
@@ -29,10 +29,18 @@ fn module_block<'a>(
     let statements = statements(checker, body, block.body)?;
     Ok(CoreStmt::Block {
         pos: block.pos,
-        variables: &[],
+        variables: no_variables(),
         initial,
         body: statements,
     })
+}
+
+fn no_variables<'a>() -> &'a [u32] {
+    &[]
+}
+
+fn no_formals<'a>() -> &'a [Formal<'a>] {
+    &[]
 }
 
 /// Adds the body of a module to the procedures.
@@ -43,18 +51,23 @@ fn define_module<'a>(
     block: &Block<'a>,
     checked: CoreStmt<'a>,
 ) -> Result<(), NoMemory> {
-    let number = body.number;
+    let Body {
+        formals,
+        locals,
+        number,
+        ..
+    } = body;
     let definition = ProcDef {
         name: unit.name.text,
         unit: checker.unit,
         kind: checker
             .declared
             .types
-            .push(TypeNode::Procedure(&[], None, Raises::Any))?,
-        formals: &[],
+            .push(TypeNode::Procedure(no_formals(), None, Raises::Any))?,
+        formals: into_bump_slice(formals),
         result: None,
         raises: None,
-        locals: into_bump_slice(body.locals),
+        locals: into_bump_slice(locals),
         level: 0,
         outer: None,
         body: &*checker.arena.try_alloc_slice_copy(&[checked])?,

@@ -103,24 +103,28 @@ fn of_one(alloc: Global, text: &String) -> Result<String, AllocError> {
     answer(alloc, &[source])
 }
 
-/// Rows of 190 REF types.
+/// The REF types of a row, so that a line is not too long.
+const ROW: u32 = 190;
+
+/// Rows of REF types.
 fn many_types(alloc: Global, count: u32) -> Result<String, AllocError> {
     let mut text = String::from_str(alloc, "MODULE Main; TYPE\n")?;
-    let mut left = count;
-    let mut row = 0u32;
-    while left > 0 {
-        let types = left.min(190);
-        let head = format!(in alloc; "T{row} =")?;
-        text.push_str(head.as_str())?;
-        for _ in 0..types {
-            text.push_str(" REF")?;
-        }
-        text.push_str(" INTEGER;\n")?;
-        left = left.saturating_sub(types);
-        row = row.saturating_add(1);
+    for row in 0..count.div_ceil(ROW) {
+        let left = count.saturating_sub(row.saturating_mul(ROW));
+        add_types(alloc, &mut text, row, left.min(ROW))?;
     }
     text.push_str("BEGIN END Main.")?;
     of_one(alloc, &text)
+}
+
+/// A row of so many REF types.
+fn add_types(alloc: Global, text: &mut String, row: u32, types: u32) -> Result<(), AllocError> {
+    let head = format!(in alloc; "T{row} =")?;
+    text.push_str(head.as_str())?;
+    for _ in 0..types {
+        text.push_str(" REF")?;
+    }
+    text.push_str(" INTEGER;\n")
 }
 
 /// Procedures in four modules, and the bodies of these beside them.
@@ -128,33 +132,45 @@ fn many_procedures(alloc: Global, count: u32) -> Result<String, AllocError> {
     let mut texts = Vec::new(alloc);
     let mut left = count.saturating_sub(3);
     for module in 0..3u32 {
-        let mut text = format!(in alloc; "INTERFACE M{module}; END M{module}.")?;
-        texts.push(text)?;
-        text = format!(in alloc; "MODULE M{module};\n")?;
-        for number in 0..left.min(20_000) {
-            let row = format!(in alloc; "PROCEDURE P{number}()=BEGIN END P{number};\n")?;
-            text.push_str(row.as_str())?;
-        }
+        let interface = format!(in alloc; "INTERFACE M{module}; END M{module}.")?;
+        texts.push(interface)?;
+        texts.push(module_of(alloc, module, left.min(20_000))?)?;
         left = left.saturating_sub(20_000);
-        let end = format!(in alloc; "BEGIN END M{module}.")?;
-        text.push_str(end.as_str())?;
-        texts.push(text)?;
     }
     let mut text = String::from_str(alloc, "MODULE Main;\n")?;
-    for number in 0..left {
-        let row = format!(in alloc; "PROCEDURE P{number}()=BEGIN END P{number};\n")?;
-        text.push_str(row.as_str())?;
-    }
+    add_procedures(alloc, &mut text, left)?;
     text.push_str("BEGIN END Main.")?;
     texts.push(text)?;
+    of_all(alloc, texts.as_slice())
+}
+
+/// The answer for some texts.
+fn of_all(alloc: Global, texts: &[String]) -> Result<String, AllocError> {
     let mut sources = Vec::new(alloc);
-    for text in &texts {
+    for text in texts {
         sources.push(Source {
             name: b"Main.m3",
             text: text.as_bytes(),
         })?;
     }
     answer(alloc, sources.as_slice())
+}
+
+/// A module of so many procedures.
+fn module_of(alloc: Global, module: u32, procedures: u32) -> Result<String, AllocError> {
+    let mut text = format!(in alloc; "MODULE M{module};\n")?;
+    add_procedures(alloc, &mut text, procedures)?;
+    let end = format!(in alloc; "BEGIN END M{module}.")?;
+    text.push_str(end.as_str())?;
+    Ok(text)
+}
+
+fn add_procedures(alloc: Global, text: &mut String, count: u32) -> Result<(), AllocError> {
+    for number in 0..count {
+        let row = format!(in alloc; "PROCEDURE P{number}()=BEGIN END P{number};\n")?;
+        text.push_str(row.as_str())?;
+    }
+    Ok(())
 }
 
 fn long_row(alloc: Global, count: u32) -> Result<String, AllocError> {

@@ -1,6 +1,6 @@
 use m3_constructors::Part;
 use m3_operands::{Checker, Given, Thing};
-use m3_syntax::{Expr, Name};
+use m3_syntax::{Actual, Expr, Name};
 
 fn given<'a>(
     checker: &Checker<'_, 'a>,
@@ -13,6 +13,24 @@ fn given<'a>(
         name,
         inner: checker.inner_name(value),
         thing,
+    }
+}
+
+/// An actual of a call, by what it is.
+pub fn actual_given<'a>(
+    checker: &Checker<'_, 'a>,
+    actual: &Actual<'a>,
+    thing: Thing<'a>,
+) -> Given<'a> {
+    match actual {
+        Actual::Value(value) => given(checker, None, value, thing),
+        Actual::Named(name, value) => given(checker, Some(*name), value, thing),
+        Actual::Type(kind) => Given {
+            pos: kind.pos(),
+            name: None,
+            inner: None,
+            thing,
+        },
     }
 }
 

@@ -1,4 +1,5 @@
-use crate::operators::Row;
+use crate::elements::{actual_given, named, one, range};
+use crate::operators::combined;
 use crate::prefixes::{nots, signed};
 use crate::selectors::{Index, dereference, dot, indexed};
 use bumpalo::collections::into_bump_slice;
@@ -6,7 +7,7 @@ use m3_base::{NoMemory, Pos};
 use m3_calls::call;
 use m3_constructors::{Part, Written, constructor};
 use m3_operands::{Checker, Given, Thing, Valued};
-use m3_syntax::{Actual, Element, Expr, Selector};
+use m3_syntax::{Actual, Element, Expr, Operation, Selector};
 
 /// An expression as a value; none where something in it was refused.
 pub fn expression<'a>(
@@ -73,18 +74,24 @@ fn operations<'a>(checker: &mut Checker<'_, 'a>, value: &Expr<'a>) -> Result<Thi
         return Ok(Thing::Bad);
     };
     let thing = operand(checker, first)?;
-    let mut row = Row::new(checker, first.pos(), &thing)?;
-    for operation in *rest {
+    let first = checker.value_of(first.pos(), &thing)?;
+    let rights = right_operands(checker, rest)?;
+    combined(checker, *pos, first, rest, rights)
+}
+
+/// The values of the right operands of a row.
+#[cycle(expressions)]
+fn right_operands<'a>(
+    checker: &mut Checker<'_, 'a>,
+    rest: &[Operation<'a>],
+) -> Result<&'a [Option<Valued<'a>>], NoMemory> {
+    let mut row = Vec::new(checker.arena);
+    for operation in rest {
         let thing = operand(checker, operation.right)?;
-        row.add(
-            checker,
-            operation.operator,
-            operation.pos,
-            operation.right.pos(),
-            &thing,
-        )?;
+        let value = checker.value_of(operation.right.pos(), &thing)?;
+        row.push(value)?;
     }
-    row.finish(checker, *pos)
+    Ok(into_bump_slice(row))
 }
 
 /// An operand with selectors and calls behind it.
@@ -151,39 +158,23 @@ pub fn call_actuals<'a>(
 ) -> Result<&'a [Given<'a>], NoMemory> {
     let mut row = Vec::new(checker.arena);
     for actual in actuals {
-        let given = call_actual(checker, actual)?;
-        row.push(given)?;
+        let thing = actual_thing(checker, actual)?;
+        row.push(actual_given(checker, actual, thing))?;
     }
     Ok(into_bump_slice(row))
 }
 
 #[cycle(expressions)]
-fn call_actual<'a>(
+fn actual_thing<'a>(
     checker: &mut Checker<'_, 'a>,
     actual: &Actual<'a>,
-) -> Result<Given<'a>, NoMemory> {
+) -> Result<Thing<'a>, NoMemory> {
     match actual {
-        Actual::Value(value) => Ok(Given {
-            pos: value.pos(),
-            name: None,
-            inner: checker.inner_name(value),
-            thing: operand(checker, value)?,
-        }),
-        Actual::Named(name, value) => Ok(Given {
-            pos: value.pos(),
-            name: Some(*name),
-            inner: checker.inner_name(value),
-            thing: operand(checker, value)?,
-        }),
-        Actual::Type(kind) => Ok(Given {
-            pos: kind.pos(),
-            name: None,
-            inner: None,
-            thing: match checker.type_of(kind) {
-                Some(kind) => Thing::Type(kind),
-                None => Thing::Bad,
-            },
-        }),
+        Actual::Value(value) | Actual::Named(_, value) => operand(checker, value),
+        Actual::Type(kind) => match checker.type_of(kind) {
+            Some(kind) => Ok(Thing::Type(kind)),
+            None => Ok(Thing::Bad),
+        },
     }
 }
 
@@ -200,18 +191,28 @@ fn constructed<'a>(checker: &mut Checker<'_, 'a>, value: &Expr<'a>) -> Result<Th
     else {
         return Ok(Thing::Bad);
     };
-    let mut row = Vec::new(checker.arena);
-    for element in *elements {
-        let part = part(checker, element)?;
-        row.push(part)?;
-    }
+    let parts = parts(checker, elements)?;
     let kind = checker.type_of(kind);
     let written = Written {
         pos: *pos,
         brace: *brace,
         is_filled: *is_filled,
     };
-    constructor(checker, written, kind, into_bump_slice(row))
+    constructor(checker, written, kind, parts)
+}
+
+/// What the elements of a constructor are.
+#[cycle(expressions)]
+fn parts<'a>(
+    checker: &mut Checker<'_, 'a>,
+    elements: &[Element<'a>],
+) -> Result<&'a [Part<'a>], NoMemory> {
+    let mut row = Vec::new(checker.arena);
+    for element in elements {
+        let part = part(checker, element)?;
+        row.push(part)?;
+    }
+    Ok(into_bump_slice(row))
 }
 
 #[cycle(expressions)]
@@ -219,16 +220,16 @@ fn part<'a>(checker: &mut Checker<'_, 'a>, element: &Element<'a>) -> Result<Part
     match element {
         Element::Value(value) => {
             let thing = operand(checker, value)?;
-            Ok(crate::elements::one(checker, value, thing))
+            Ok(one(checker, value, thing))
         }
         Element::Named(name, value) => {
             let thing = operand(checker, value)?;
-            Ok(crate::elements::named(checker, *name, value, thing))
+            Ok(named(checker, *name, value, thing))
         }
         Element::Range(first, last) => {
             let from = operand(checker, first)?;
             let to = operand(checker, last)?;
-            Ok(crate::elements::range(checker, first, from, last, to))
+            Ok(range(checker, first, from, last, to))
         }
     }
 }

@@ -5,42 +5,58 @@ use m3_core::{Compared, CoreExpr, Operation, Operator, Relation};
 use m3_operands::{Checker, Thing, Valued};
 use m3_types::{TypeId, TypeNode};
 
+/// The operands of a row joined by its operators, which group to the left (rule 50). A value is none where
+/// something in it was refused.
+pub fn combined<'a>(
+    checker: &mut Checker<'_, 'a>,
+    pos: Pos,
+    first: Option<Valued<'a>>,
+    rest: &[m3_syntax::Operation<'a>],
+    rights: &[Option<Valued<'a>>],
+) -> Result<Thing<'a>, NoMemory> {
+    let mut row = Row {
+        first,
+        rest: Vec::new(checker.arena),
+        kind: kind_of(first),
+    };
+    add_all(checker, &mut row, rest, rights)?;
+    row.finish(checker, pos)
+}
+
+fn kind_of(value: Option<Valued<'_>>) -> Option<TypeId> {
+    Some(value?.kind)
+}
+
+fn add_all<'a>(
+    checker: &mut Checker<'_, 'a>,
+    row: &mut Row<'a>,
+    rest: &[m3_syntax::Operation<'a>],
+    rights: &[Option<Valued<'a>>],
+) -> Result<(), NoMemory> {
+    for (written, right) in rest.iter().zip(rights) {
+        row.add(checker, written.operator, written.pos, *right)?;
+    }
+    Ok(())
+}
+
 /// A row of operands in the making: the first, the operators with their right operands, and the type of
 /// what they give so far, which is none where something was refused.
 #[derive(Drop)]
-pub struct Row<'a> {
+struct Row<'a> {
     first: Option<Valued<'a>>,
     rest: Vec<Operation<'a>, &'a Bump>,
     kind: Option<TypeId>,
 }
 
 impl<'a> Row<'a> {
-    pub fn new(
-        checker: &mut Checker<'_, 'a>,
-        pos: Pos,
-        thing: &Thing<'a>,
-    ) -> Result<Row<'a>, NoMemory> {
-        let first = checker.value_of(pos, thing)?;
-        Ok(Row {
-            first,
-            rest: Vec::new(checker.arena),
-            kind: match first {
-                Some(value) => Some(value.kind),
-                None => None,
-            },
-        })
-    }
-
-    /// Adds an operator with its right operand, whose first token stands at `right_pos` (rule 50).
-    pub fn add(
+    /// Adds an operator with its right operand (rule 50).
+    fn add(
         &mut self,
         checker: &mut Checker<'_, 'a>,
         operator: m3_syntax::Operator,
         pos: Pos,
-        right_pos: Pos,
-        thing: &Thing<'a>,
+        right: Option<Valued<'a>>,
     ) -> Result<(), NoMemory> {
-        let right = checker.value_of(right_pos, thing)?;
         let (Some(left), Some(right)) = (self.kind, right) else {
             self.kind = None;
             return Ok(());
@@ -82,14 +98,16 @@ impl<'a> Row<'a> {
     }
 
     /// The whole, whose first token stands at a place.
-    pub fn finish(self, checker: &Checker<'_, 'a>, pos: Pos) -> Result<Thing<'a>, NoMemory> {
-        let (Some(first), Some(kind)) = (self.first, self.kind) else {
+    fn finish(self, checker: &Checker<'_, 'a>, pos: Pos) -> Result<Thing<'a>, NoMemory> {
+        let Row { first, rest, kind } = self;
+        let rest = into_bump_slice(rest);
+        let (Some(first), Some(kind)) = (first, kind) else {
             return Ok(Thing::Bad);
         };
         let expr = CoreExpr::Operations {
             pos,
             first: first.core(),
-            rest: into_bump_slice(self.rest),
+            rest,
         };
         checker.value(expr, kind)
     }

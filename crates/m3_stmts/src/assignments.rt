@@ -177,10 +177,7 @@ pub fn call_statement<'a>(
             let call = checker.finish(&draft, None)?;
             Ok(Some(CoreStmt::Call { pos, call }))
         }
-        Thing::Builtin(call) => Ok(Some(CoreStmt::Builtin {
-            pos,
-            call: &**call,
-        })),
+        Thing::Builtin(call) => Ok(Some(CoreStmt::Builtin { pos, call: &**call })),
         Thing::Change(_, statement) => Ok(Some(**statement)),
         _ => {
             checker.note(pos, 70);

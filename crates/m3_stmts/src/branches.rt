@@ -1,5 +1,5 @@
 use crate::bodies::{Body, NewVariable};
-use crate::labels::{Labels, label_ranges};
+use crate::labels::{all_ranges, ranges_at};
 use crate::loops::condition;
 use crate::statements::statements;
 use bumpalo::collections::into_bump_slice;
@@ -9,7 +9,6 @@ use m3_exprs::expression;
 use m3_operands::{Checker, Valued};
 use m3_syntax::{Name, Stmt, TypeExp};
 use m3_types::TypeId;
-use std::collections::BTreeMap;
 
 /// IF with its ELSIFs.
 #[cycle(statements)]
@@ -65,12 +64,14 @@ pub fn choice<'a>(
         return Ok(None);
     };
     let value = expression(checker, value)?;
-    let mut labels: Labels = BTreeMap::new(checker.alloc);
+    let ranges = all_ranges(checker, branches, value)?;
     let mut checked = Vec::new(checker.arena);
-    for branch in *branches {
-        let ranges = label_ranges(checker, &mut labels, branch.labels, value)?;
+    for (place, branch) in branches.iter().enumerate() {
         let row = statements(checker, body, branch.body)?;
-        checked.push(CaseBranch { ranges, body: row })?;
+        checked.push(CaseBranch {
+            ranges: ranges_at(ranges, place),
+            body: row,
+        })?;
     }
     let otherwise = match otherwise {
         Some(row) => Some(statements(checker, body, row)?),

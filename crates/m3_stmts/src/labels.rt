@@ -3,11 +3,11 @@ use m3_base::NoMemory;
 use m3_core::{LabelRange, Value};
 use m3_exprs::expression;
 use m3_operands::{Checker, Valued};
-use m3_syntax::{Expr, Label};
+use m3_syntax::{CaseBranch, Expr, Label};
 use std::collections::BTreeMap;
 
 /// The labels of a CASE so far, which don't overlap: the last of each by its first.
-pub type Labels = BTreeMap<i64, i64>;
+type Labels = BTreeMap<i64, i64>;
 
 /// What a bound of a label is.
 #[derive(Clone, Copy, Debug)]
@@ -19,8 +19,40 @@ enum Found {
     Number(i64),
 }
 
-/// The values of the labels of a branch. `value` is what the CASE tests, none where it was refused.
-pub fn label_ranges<'a>(
+/// The values of the labels of each branch. `value` is what the CASE tests, none where it was refused.
+pub fn all_ranges<'a>(
+    checker: &mut Checker<'_, 'a>,
+    branches: &[CaseBranch<'a>],
+    value: Option<Valued<'a>>,
+) -> Result<&'a [&'a [LabelRange]], NoMemory> {
+    let mut labels: Labels = BTreeMap::new(checker.alloc);
+    add_ranges(checker, &mut labels, branches, value)
+}
+
+fn add_ranges<'a>(
+    checker: &mut Checker<'_, 'a>,
+    labels: &mut Labels,
+    branches: &[CaseBranch<'a>],
+    value: Option<Valued<'a>>,
+) -> Result<&'a [&'a [LabelRange]], NoMemory> {
+    let mut all = Vec::new(checker.arena);
+    for branch in branches {
+        let ranges = label_ranges(checker, labels, branch.labels, value)?;
+        all.push(ranges)?;
+    }
+    Ok(into_bump_slice(all))
+}
+
+/// The values of the labels of the branch at a place.
+pub fn ranges_at<'a>(all: &[&'a [LabelRange]], place: usize) -> &'a [LabelRange] {
+    match all.get(place) {
+        Some(ranges) => *ranges,
+        None => &[],
+    }
+}
+
+/// The values of the labels of a branch.
+fn label_ranges<'a>(
     checker: &mut Checker<'_, 'a>,
     labels: &mut Labels,
     written: &[Label<'a>],

@@ -68,17 +68,24 @@ fn define<'a>(
     heading: &Heading<'a>,
     block: CoreStmt<'a>,
 ) -> Result<(), NoMemory> {
-    let number = body.number;
+    let Body {
+        formals,
+        locals,
+        level,
+        number,
+        result,
+        ..
+    } = body;
     let definition = ProcDef {
         name: heading.name.text,
         unit: checker.unit,
         kind: heading.kind,
-        result: body.result,
-        raises: raises_of(checker, heading.kind),
-        level: body.level,
+        result,
+        raises: raises_in(checker.node(heading.kind)),
+        level,
         outer: heading.around,
-        formals: into_bump_slice(body.formals),
-        locals: into_bump_slice(body.locals),
+        formals: into_bump_slice(formals),
+        locals: into_bump_slice(locals),
         body: &*checker.arena.try_alloc_slice_copy(&[block])?,
         pos: heading.pos,
         name_pos: heading.name.pos,
@@ -89,8 +96,7 @@ fn define<'a>(
     Ok(())
 }
 
-fn raises_of<'a>(checker: &Checker<'_, 'a>, kind: TypeId) -> Option<&'a [u32]> {
-    let node = checker.node(kind);
+fn raises_in<'a>(node: TypeNode<'a>) -> Option<&'a [u32]> {
     match node {
         TypeNode::Procedure(_, _, Raises::Only(exceptions)) => Some(exceptions),
         _ => None,
