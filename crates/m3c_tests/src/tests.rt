@@ -28,74 +28,56 @@ fn command(alloc: Global, words: &[&str], text: &[u8], failing: u64) -> Result<A
     Ok(Answer { status, out, err })
 }
 
-// What running a text as Main.m3 has to answer; the line may go on.
-struct Case {
+// What running a text of the plain form as Main.m3 has to answer; the line may go on.
+struct Plain {
     text: &'static [u8],
     status: u8,
     out: &'static [u8],
     line: &'static [u8],
 }
 
-const CASES: [Case; 9] = [
-    Case {
+const PLAIN: [Plain; 6] = [
+    Plain {
         text: b"MODULE Main; IMPORT IO; BEGIN IO.PutInt(6 * 7); IO.PutInt(1 - 3) END Main.",
         status: 0,
         out: b"42-2",
         line: b"done points 3 instructions ",
     },
-    Case {
+    Plain {
         text: b"MODULE Main; IMPORT IO; BEGIN IO.PutInt(5); IO.PutInt(9223372036854775807 + 1) END Main.",
         status: 10,
         out: b"5",
         line: b"fault Overflow Main.m3:1 points 2 instructions ",
     },
-    Case {
+    Plain {
         text: b"MODULE Main; IMPORT IO; BEGIN END Main.",
         status: 0,
         out: b"",
         line: b"done points 1 instructions ",
     },
-    Case {
+    Plain {
         text: b"MODULE Main;\nIMPORT IO;\nBEGIN\n IO.PutInt(1);\n IO.PutInt(4611686018427387904\n  * 2)\nEND Main.\n",
         status: 10,
         out: b"1",
         line: b"fault Overflow Main.m3:6 points 2 instructions ",
     },
-    Case {
+    Plain {
         text: b"MODULE Main; IMPORT IO; BEGIN IO.PutInt(0 - 9223372036854775807 - 1) END Main.",
         status: 0,
         out: b"-9223372036854775808",
         line: b"done points 2 instructions ",
     },
-    Case {
+    Plain {
         text: b"MODULE Main; IMPORT IO; BEGIN IO.PutInt(10 - 2 - 3); IO.PutInt(2 + 3 * 4); END Main.",
         status: 0,
         out: b"514",
         line: b"done points 3 instructions ",
     },
-    Case {
-        text: b"MODULE Main; IMPORT IO; VAR n: INTEGER; BEGIN END Main.",
-        status: 1,
-        out: b"",
-        line: b"Main.m3:1:1: rule 99 not built yet\n",
-    },
-    Case {
-        text: b"",
-        status: 1,
-        out: b"",
-        line: b"Main.m3:1:1: rule 99 not built yet\n",
-    },
-    Case {
-        text: b"MODULE Main; IMPORT IO; BEGIN IO.PutInt(9223372036854775808) END Main.",
-        status: 1,
-        out: b"",
-        line: b"Main.m3:1:1: rule 99 not built yet\n",
-    },
 ];
 
 #[test]
-fn texts_run(rt: HostRuntime) -> Result<(), Fail> {
-    for case in &CASES {
+fn plain_texts_run(rt: HostRuntime) -> Result<(), Fail> {
+    for case in &PLAIN {
         let answer = command(rt.alloc(), &["exec", "Main.m3"], case.text, 0)?;
         assert_eq!(rt; answer.status, case.status);
         assert_eq!(rt; answer.out.bytes(), case.out);
@@ -115,14 +97,15 @@ fn sum_of_ones(alloc: Global, ones: usize, end: &[u8]) -> Result<Vec<u8>, Fail> 
 }
 
 #[test]
-fn two_thousand_tokens_are_the_most(rt: HostRuntime) -> Result<(), Fail> {
+fn long_sums_run_by_both_generators(rt: HostRuntime) -> Result<(), Fail> {
     let most = sum_of_ones(rt.alloc(), 993, b") END Main.")?;
     let answer = command(rt.alloc(), &["exec", "Main.m3"], most.as_slice(), 0)?;
     assert_eq!(rt; answer.status, 0);
     assert_eq!(rt; answer.out.bytes(), b"993".as_slice());
     let more = sum_of_ones(rt.alloc(), 993, b"); END Main.")?;
     let answer = command(rt.alloc(), &["exec", "Main.m3"], more.as_slice(), 0)?;
-    assert_eq!(rt; answer.status, 1);
+    assert_eq!(rt; answer.status, 0);
+    assert_eq!(rt; answer.out.bytes(), b"993".as_slice());
     Ok(())
 }
 
@@ -141,8 +124,8 @@ fn commands_are_refused(rt: HostRuntime) -> Result<(), Fail> {
     refuses(
         &rt,
         &command(rt.alloc(), &["run", "Main.m3"], b"", 0)?,
-        2,
-        usage,
+        8,
+        b"image refused: short\n",
     );
     refuses(
         &rt,

@@ -1,0 +1,93 @@
+ghost use Rattle.std.specs.Prelude.{◌<◌, All, length};
+
+use crate::globals::declare_globals;
+use crate::limits::judge_limits;
+use crate::listing::{Lists, list_all};
+use crate::units::check_units;
+use bumpalo::Bump;
+use m3_base::{Refused, Source};
+use m3_consts::declare;
+use m3_core::Core;
+use m3_operands::Checker;
+use m3_program::read_program;
+use m3_scopes::Program;
+use m3_sizes::SizedTypes;
+use m3_types::{TypeGraph, TypeId, TypeNode};
+use std::alloc::Global;
+
+/// The checked program of some sources, whose trees stand in the arena, or the least of all rules that
+/// they break: by phase, unit, place and rule. A phase is judged only where no rule of an earlier one
+/// is broken.
+pub fn check<'a>(
+    alloc: Global,
+    arena: &'a Bump,
+    sources: &[Source<'a>],
+) -> Result<Core<'a>, Refused>
+    requires { All (λ source. length source.text.now < 4294967295) sources.now }
+{
+    let program = read_program(alloc, arena, sources)?;
+    check_program(alloc, arena, sources, &program)
+}
+
+/// The checked program of a linked one.
+fn check_program<'a>(
+    alloc: Global,
+    arena: &'a Bump,
+    sources: &[Source<'a>],
+    program: &Program<'a>,
+) -> Result<Core<'a>, Refused> {
+    let declared = declare(alloc, arena, program)?;
+    let mut checker = Checker::new(alloc, arena, program, declared);
+    let lists = check_all(&mut checker, sources)?;
+    let types = SizedTypes::measure(alloc, take_types(&mut checker))?;
+    let core = Core {
+        types,
+        procs: lists.procs,
+        globals: lists.globals,
+        exceptions: lists.exceptions,
+        texts: lists.texts,
+        order: lists.order,
+        values: lists.values,
+        files: lists.files,
+        alerted: lists.alerted,
+    };
+    within_limits(alloc, program, &lists, core)
+}
+
+/// Checks what a program's declarations declare, and lists what the checked program has.
+fn check_all<'a>(
+    checker: &mut Checker<'_, 'a>,
+    sources: &[Source<'a>],
+) -> Result<Lists<'a>, Refused> {
+    declare_globals(checker)?;
+    check_units(checker)?;
+    checker.least.check()?;
+    let refused = checker.declared.basic.refused;
+    give_up(&mut checker.declared.types, refused);
+    Ok(list_all(checker, sources)?)
+}
+
+/// The graph of types of a checker that is done with it.
+fn take_types<'a>(checker: &mut Checker<'_, 'a>) -> TypeGraph<'a> {
+    let empty = TypeGraph::new(checker.alloc);
+    let types = &mut checker.declared.types;
+    std::mem::replace(types, empty)
+}
+
+/// Defines what stood for types that were refused, since no place of a whole graph is left reserved.
+fn give_up(types: &mut TypeGraph<'_>, refused: TypeId) {
+    if types.is_reserved(refused) {
+        types.set(refused, TypeNode::Null);
+    }
+}
+
+/// A checked program, if it is within the limits.
+fn within_limits<'a>(
+    alloc: Global,
+    program: &Program<'a>,
+    lists: &Lists<'a>,
+    core: Core<'a>,
+) -> Result<Core<'a>, Refused> {
+    judge_limits(alloc, program, lists, &core)?;
+    Ok(core)
+}

@@ -1,0 +1,51 @@
+use crate::judging_values::judge_all;
+use bumpalo::Bump;
+use m3_base::{NoMemory, Refused};
+use m3_declared::{Basic, Declared};
+use m3_declarer::Declarer;
+use m3_gather::gather;
+use m3_scopes::Program;
+use m3_settle::settle_all;
+use m3_types::{TypeGraph, TypeNode};
+use m3_worth::Evaluator;
+use std::alloc::Global;
+
+/// The types that every program has.
+fn basic_types(types: &mut TypeGraph<'_>) -> Result<Basic, NoMemory> {
+    let integer = types.push(TypeNode::Integer)?;
+    Ok(Basic {
+        integer,
+        boolean: types.push(TypeNode::Boolean)?,
+        character: types.push(TypeNode::Character)?,
+        cardinal: types.push(TypeNode::Subrange(integer, 0, i64::MAX))?,
+        text: types.push(TypeNode::Text)?,
+        null: types.push(TypeNode::Null)?,
+        refany: types.push(TypeNode::RefAny)?,
+        root: types.push(TypeNode::Root)?,
+        mutex: types.push(TypeNode::Mutex)?,
+        refused: types.reserve()?,
+    })
+}
+
+/// The types and constants of all declarations of a linked program, and the types of all its type
+/// expressions. The least broken rule of types and constants (rules 40 to 49) is the answer where
+/// there is one.
+pub fn declare<'a>(
+    alloc: Global,
+    arena: &'a Bump,
+    program: &Program<'a>,
+) -> Result<Declared<'a>, Refused> {
+    let mut types = TypeGraph::new(alloc);
+    let basic = basic_types(&mut types)?;
+    let declared = Declared::new(alloc, types, basic);
+    let eval = Evaluator::new(alloc, arena, program, declared);
+    let gathered = gather(alloc, program)?;
+    let mut declarer = Declarer::new(alloc, eval, gathered);
+    declarer.reserve_all()?;
+    declarer.name_all()?;
+    declarer.define_all()?;
+    settle_all(&mut declarer)?;
+    judge_all(&mut declarer)?;
+    declarer.least.check()?;
+    Ok(declarer.eval.declared)
+}

@@ -1,0 +1,290 @@
+use indexmap::IndexMap;
+use m3_base::{Least, NoMemory, Pos, Refusal};
+use m3_core::{Value, ValueId};
+use m3_declared::Doubtful;
+use m3_evaluate::expression;
+use m3_gather::Gathered;
+use m3_scopes::EntityId;
+use m3_syntax::{Expr, Signature, TypeExp};
+use m3_types::{ConstId, TypeId, TypeNode};
+use m3_worth::{Assumed, Evaluator, Known, Need, Reason, Worth};
+use std::alloc::Global;
+
+const PHASE: u8 = 5;
+
+/// How a type is written whose definition may take constants.
+#[derive(Clone, Copy)]
+pub enum Written<'a> {
+    Type(&'a TypeExp<'a>),
+    /// A part of an object type, by its place.
+    Part(&'a TypeExp<'a>, u32),
+    Signature(&'a Signature<'a>),
+}
+
+/// A type whose definition is a task: its unit, how it is written, and where rule 46 is reported.
+#[derive(Clone, Copy)]
+pub struct Plan<'a> {
+    pub unit: u32,
+    pub pos: Pos,
+    pub written: Written<'a>,
+}
+
+/// A brand text, with the unit's number and the place of its expression.
+#[derive(Clone, Copy)]
+pub struct BrandAt<'a> {
+    pub text: &'a [u8],
+    pub unit: u32,
+    pub number: u32,
+    pub pos: Pos,
+}
+
+/// A procedure that is bound to a method, or overrides one: its type, and the method's name with
+/// its place.
+#[derive(Clone, Copy)]
+pub struct MethodValue<'a> {
+    pub unit: u32,
+    pub name: &'a [u8],
+    pub pos: Pos,
+    pub object: TypeId,
+    /// The signature of a method that is declared here; none where an ancestor's is overridden.
+    pub signature: Option<TypeId>,
+    /// The type of the procedure; none for NIL, and for what was refused.
+    pub procedure: Option<TypeId>,
+}
+
+/// What an expression assumes, with the expression.
+#[derive(Clone, Copy)]
+pub struct Promise<'a> {
+    pub assumed: Assumed,
+    pub value: &'a Expr<'a>,
+}
+
+/// What declares the types and constants of a program.
+#[derive(Drop)]
+pub struct Declarer<'p, 'a> {
+    pub eval: Evaluator<'p, 'a>,
+    pub gathered: Gathered<'a>,
+    pub least: Least,
+    pub plans: IndexMap<TypeId, Plan<'a>>,
+    /// What the task that is done notes; it counts when nothing lacks.
+    pub reasons: Vec<Reason>,
+    pub doubts: Vec<Doubtful<'a>>,
+    pub assumed: Vec<Promise<'a>>,
+    pub new_brands: Vec<BrandAt<'a>>,
+    pub new_values: Vec<MethodValue<'a>>,
+    /// What was noted so far.
+    pub promises: Vec<Promise<'a>>,
+    pub brands: Vec<BrandAt<'a>>,
+    pub values: Vec<MethodValue<'a>>,
+    /// Whether the definitions of all types were worked out.
+    pub has_definitions: bool,
+    /// The number of the next BRANDED without a text.
+    pub occurrence: u32,
+    /// The constants that types contain, by those of the program.
+    pub interned: IndexMap<ValueId, ConstId>,
+    /// The tasks that are done, each with its place on the stack.
+    pub busy: IndexMap<Need, usize>,
+}
+
+impl<'p, 'a> Declarer<'p, 'a> {
+    pub fn new(alloc: Global, eval: Evaluator<'p, 'a>, gathered: Gathered<'a>) -> Declarer<'p, 'a> {
+        Declarer {
+            eval,
+            gathered,
+            least: Least::new(),
+            plans: IndexMap::new(alloc),
+            reasons: Vec::new(alloc),
+            doubts: Vec::new(alloc),
+            assumed: Vec::new(alloc),
+            new_brands: Vec::new(alloc),
+            new_values: Vec::new(alloc),
+            promises: Vec::new(alloc),
+            brands: Vec::new(alloc),
+            values: Vec::new(alloc),
+            has_definitions: false,
+            occurrence: 0,
+            interned: IndexMap::new(alloc),
+            busy: IndexMap::new(alloc),
+        }
+    }
+
+    /// The number of a unit in refusals; none for a built-in unit, which breaks no rule.
+    pub fn number_of(&self, unit: u32) -> Option<u32> {
+        match self.eval.program.infos.get(unit as usize) {
+            Some(info) if !info.is_built_in => Some(info.number),
+            _ => None,
+        }
+    }
+
+    /// Notes that a unit breaks a rule.
+    pub fn note(&mut self, unit: u32, pos: Pos, rule: u16) {
+        if let Some(unit) = self.number_of(unit) {
+            self.least.note(Refusal {
+                phase: PHASE,
+                unit,
+                pos,
+                rule,
+            });
+        }
+    }
+
+    /// Notes that a unit breaks a rule of expressions and statements.
+    pub fn note_later(&mut self, unit: u32, pos: Pos, rule: u16) {
+        if let Some(unit) = self.number_of(unit) {
+            self.eval.declared.later.note(Refusal {
+                phase: PHASE + 1,
+                unit,
+                pos,
+                rule,
+            });
+        }
+    }
+
+    /// Notes a rule that the task breaks, in the unit that is read.
+    pub fn refuse(&mut self, pos: Pos, rule: u16) -> Result<(), NoMemory> {
+        self.reasons.push(Reason { pos, rule })?;
+        Ok(())
+    }
+
+    /// Whether the task has all that it needs so far.
+    pub fn has_all(&self) -> bool {
+        self.eval.lacks.is_empty()
+    }
+
+    /// The type of a type expression of the unit that is read, or what stands for a refused one.
+    pub fn kind_of(&self, kind: &TypeExp<'a>) -> TypeId {
+        match self.eval.type_of(kind) {
+            Some(kind) => kind,
+            None => self.eval.declared.basic.refused,
+        }
+    }
+
+    /// What an expression is worth.
+    pub fn worth(
+        &mut self,
+        value: &'a Expr<'a>,
+        is_constant: bool,
+    ) -> Result<Option<Worth<'a>>, NoMemory> {
+        let lacking = self.eval.lacks.len();
+        self.eval.is_constant = is_constant;
+        self.eval.flaw = None;
+        self.eval.assumed.clear();
+        let worth = expression(&mut self.eval, value)?;
+        self.assume(value)?;
+        if self.eval.lacks.len() > lacking {
+            return Ok(None);
+        }
+        if let Some(flaw) = self.eval.flaw {
+            self.reasons.push(flaw)?;
+            return Ok(None);
+        }
+        let refused = self.eval.declared.basic.refused;
+        match worth {
+            Some(worth) if worth.kind != refused => Ok(Some(worth)),
+            _ => {
+                if is_constant {
+                    let unit = self.eval.unit;
+                    self.doubts.push(Doubtful { unit, value })?;
+                }
+                Ok(None)
+            }
+        }
+    }
+
+    /// Keeps what the judging of an expression assumed.
+    fn assume(&mut self, value: &'a Expr<'a>) -> Result<(), NoMemory> {
+        for assumed in &self.eval.assumed {
+            let assumed = *assumed;
+            self.assumed.push(Promise { assumed, value })?;
+        }
+        self.eval.assumed.clear();
+        Ok(())
+    }
+
+    /// The type and the value of a constant expression (rules 40 to 43).
+    pub fn constant(
+        &mut self,
+        value: &'a Expr<'a>,
+    ) -> Result<Option<(TypeId, Value<'a>)>, NoMemory> {
+        let Some(worth) = self.worth(value, true)? else {
+            return Ok(None);
+        };
+        match worth.value {
+            Known::Value(known) => Ok(Some((worth.kind, known))),
+            Known::Varies(reason) => {
+                self.reasons.push(reason)?;
+                Ok(None)
+            }
+        }
+    }
+
+    /// The value of a constant expression as one of a type (rules 43 and 44).
+    pub fn constant_of(
+        &mut self,
+        value: &'a Expr<'a>,
+        to: TypeId,
+    ) -> Result<Option<Value<'a>>, NoMemory> {
+        let Some((kind, known)) = self.constant(value)? else {
+            return Ok(None);
+        };
+        if self.was_refused(to) {
+            return Ok(None);
+        }
+        let pos = value.pos();
+        let fits = self.eval.fits(pos, kind, to, true)?;
+        self.assume(value)?;
+        if !self.has_all() {
+            return Ok(None);
+        }
+        if !fits {
+            self.refuse(pos, 44)?;
+            return Ok(None);
+        }
+        let worth = Worth {
+            kind,
+            value: Known::Value(known),
+            is_fixed: false,
+        };
+        match self.eval.converted(pos, worth, to)?.value {
+            Known::Value(converted) => Ok(Some(converted)),
+            Known::Varies(reason) => {
+                self.reasons.push(reason)?;
+                Ok(None)
+            }
+        }
+    }
+
+    /// Whether a type was worked out and refused.
+    fn was_refused(&self, kind: TypeId) -> bool {
+        matches!(self.eval.definition(kind), TypeNode::Reserved)
+            && self.eval.settled.contains(&Need::Node(kind))
+    }
+
+    /// Whether what was written has no definition, since it was refused.
+    pub fn is_refused(&self, kind: TypeId) -> bool {
+        matches!(self.eval.definition(kind), TypeNode::Reserved)
+    }
+
+    /// The type that fully reveals an opaque type.
+    pub fn revealed(&self, kind: TypeId) -> Option<TypeId> {
+        if (kind.0 as usize) < self.eval.declared.types.nodes.len() {
+            self.eval.declared.types.full_reveal(kind)
+        } else {
+            None
+        }
+    }
+
+    /// The text of a constant.
+    pub fn bytes_of(&self, value: Value<'a>) -> Option<&'a [u8]> {
+        match value {
+            Value::Text(cell) => self.eval.declared.texts.get(cell as usize).copied(),
+            _ => None,
+        }
+    }
+
+    /// The name of an entity's unit and place, where rule 46 is reported.
+    pub fn place_of(&self, id: EntityId) -> Option<(u32, Pos)> {
+        let entity = self.eval.program.binds.entity(id)?;
+        Some((entity.unit, entity.pos))
+    }
+}

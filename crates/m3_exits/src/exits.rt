@@ -1,0 +1,41 @@
+use m3_builder::Around;
+use m3_types::TypeId;
+
+/// Where the result of a procedure goes.
+#[derive(Clone, Copy)]
+pub enum Outcome {
+    Nothing,
+    /// One word, kept in a temporary where something runs between RETURN and the end.
+    Word { temp: u32, kind: TypeId },
+    /// The words of a value, at the address in a slot.
+    Wide { slot: u32, kind: TypeId },
+}
+
+/// What RETURN does.
+#[derive(Clone, Copy)]
+pub enum Returning {
+    /// It ends the procedure.
+    Ends,
+    /// It goes on at a block, and the result is kept.
+    Passes(u32),
+    /// It goes on at a block, which is an ELSE, or leads there: nobody gets the result.
+    Drops(u32),
+}
+
+/// How a statement can be left otherwise than at its end.
+#[derive(Clone, Copy)]
+pub struct Exits<'m> {
+    /// What is shown at points, and where an exception goes on.
+    pub around: Around<'m>,
+    /// Where EXIT goes on.
+    pub exit: u32,
+    pub returning: Returning,
+    pub outcome: Outcome,
+}
+
+impl<'m> Exits<'m> {
+    /// The same exits with other variables shown.
+    pub fn showing(self, around: Around<'m>) -> Exits<'m> {
+        Exits { around, ..self }
+    }
+}

@@ -1,0 +1,64 @@
+use crate::exits::Exits;
+use m3_builder::{Around, Builder, Location, Pending, Place};
+use m3_mid::{Held, Shown};
+use m3_shapes::store_default;
+use m3_storage::VarPlace;
+use m3_types::TypeId;
+
+/// The exits of a scope in which more variables are shown.
+pub fn showing<'m>(b: &mut Builder<'m, '_>, exits: Exits<'m>, variables: &[u32]) -> Exits<'m> {
+    let mut row = Vec::new(b.alloc);
+    for shown in exits.around.shown {
+        if row.push(*shown).is_err() {
+            b.fail();
+        }
+    }
+    let before = row.len();
+    for variable in variables {
+        if let Some(place) = b.storage.shown(b.number, *variable) {
+            let at = match b.storage.place(b.number, *variable) {
+                VarPlace::Temps(temp) => Held::Temp(temp),
+                VarPlace::Slots(slot) => Held::Slot(slot),
+            };
+            if row.push(Shown { var: place, at }).is_err() {
+                b.fail();
+            }
+        }
+    }
+    if row.len() == before {
+        return exits;
+    }
+    let shown = b.shown_row(row.as_slice());
+    exits.showing(Around {
+        shown,
+        raised: exits.around.raised,
+    })
+}
+
+/// Where a variable of the own procedure is.
+pub fn place_of(b: &Builder, variable: u32) -> Place {
+    match b.storage.place(b.number, variable) {
+        VarPlace::Temps(first) => Place::plain(Location::Temps(first)),
+        VarPlace::Slots(first) => Place::plain(Location::Slots(first)),
+    }
+}
+
+/// The type of a variable of the own procedure.
+pub fn type_of(b: &Builder, variable: u32) -> Option<TypeId> {
+    match b.storage.variable(b.number, variable) {
+        Some(def) => Some(b.storage.type_of(def)),
+        None => None,
+    }
+}
+
+/// Gives variables their defaults.
+pub fn defaults<'m>(b: &mut Builder<'m, '_>, variables: &[u32], rest: Pending<'m>) -> Pending<'m> {
+    let mut code = rest;
+    for variable in variables.iter().rev() {
+        if let Some(kind) = type_of(b, *variable) {
+            let place = place_of(b, *variable);
+            code = store_default(b, kind, place, false, code);
+        }
+    }
+    code
+}

@@ -1,0 +1,171 @@
+use crate::chains::emit_chain;
+use crate::exprs::emit_value;
+use crate::structures::{emit_structure, structure_into, value_into};
+use m3_base::Pos;
+use m3_builder::{Around, Builder, Pending, Value, form_of, not_nil};
+use m3_core::{Actual as CoreActual, Chain};
+use m3_mid::Callee;
+use m3_plans::{
+    Passed, PlannedActual, call_with, callee_of, check_method, kind_of_actual, places_of,
+    plan_actuals, signature_of, signature_of_method,
+};
+use m3_shapes::{check_shape, copy_into_cell};
+use m3_storage::Form;
+use m3_types::{Formal, TypeId};
+
+/// Code for the call of a procedure value, which is evaluated already.
+#[cycle(expressions)]
+pub fn emit_call<'m>(
+    b: &mut Builder<'m, '_>,
+    around: Around<'m>,
+    actuals: &[CoreActual],
+    pos: Pos,
+    kind: Option<TypeId>,
+    kind_of_result: Option<TypeId>,
+    before: Value,
+    after: Value,
+    rest: Pending<'m>,
+) -> Pending<'m> {
+    let signature = signature_of(b, kind);
+    let (callee, is_known) = callee_of(before);
+    let passed = plan_actuals(b, signature.formals, actuals, None);
+    let can_raise = signature.can_raise;
+    let code = call_with(
+        b,
+        around,
+        callee,
+        &passed,
+        can_raise,
+        after,
+        kind_of_result,
+        rest,
+    );
+    let code = emit_actuals(b, around, actuals, signature.formals, &passed, code);
+    if is_known {
+        code
+    } else {
+        code.after(not_nil(before.word(), pos))
+    }
+}
+
+/// Code for the call of a method of an object, which is evaluated already.
+#[cycle(expressions)]
+pub fn emit_method<'m>(
+    b: &mut Builder<'m, '_>,
+    around: Around<'m>,
+    actuals: &[CoreActual],
+    pos: Pos,
+    owner: TypeId,
+    method: u32,
+    kind_of_result: Option<TypeId>,
+    before: Value,
+    after: Value,
+    rest: Pending<'m>,
+) -> Pending<'m> {
+    let signature = signature_of_method(b, owner, method);
+    let place = b
+        .storage
+        .objects
+        .method(&b.storage.core.types, owner, method);
+    let object = before.word();
+    let passed = plan_actuals(b, signature.formals, actuals, Some(object));
+    let callee = Callee::Method(place);
+    let can_raise = signature.can_raise;
+    let code = call_with(
+        b,
+        around,
+        callee,
+        &passed,
+        can_raise,
+        after,
+        kind_of_result,
+        rest,
+    );
+    let code = emit_actuals(b, around, actuals, signature.formals, &passed, code);
+    check_method(b, object, place, pos, code)
+}
+
+/// Code for the actuals in the order of evaluation, and behind them the copies of open arrays in
+/// the order of the formals.
+#[cycle(expressions)]
+fn emit_actuals<'m>(
+    b: &mut Builder<'m, '_>,
+    around: Around<'m>,
+    actuals: &[CoreActual],
+    formals: &[Formal],
+    passed: &Passed,
+    rest: Pending<'m>,
+) -> Pending<'m> {
+    let mut code = rest;
+    let places = places_of(b, formals.len(), actuals);
+    for place in places.iter().rev() {
+        if let Some(actual) = actuals.get(*place as usize) {
+            if let Some(PlannedActual::NewCell { from, cell }) = passed
+                .planned
+                .get(*place as usize)
+            {
+                code = copy_into_cell(b, around, kind_of_actual(actual), *from, *cell, code);
+            }
+        }
+    }
+    for place in (0..actuals.len()).rev() {
+        if let (Some(actual), Some(planned)) = (actuals.get(place), passed.planned.get(place)) {
+            code = emit_actual(b, around, actual, *planned, code);
+        }
+    }
+    code
+}
+
+#[cycle(expressions)]
+fn emit_actual<'m>(
+    b: &mut Builder<'m, '_>,
+    around: Around<'m>,
+    actual: &CoreActual,
+    planned: PlannedActual,
+    rest: Pending<'m>,
+) -> Pending<'m> {
+    match actual {
+        CoreActual::Place {
+            kind,
+            place,
+            checks_shape,
+            ..
+        } => emit_place(b, around, *kind, place, *checks_shape, rest),
+        CoreActual::Value { kind, value, .. } => match planned {
+            PlannedActual::Scalar(planned) => emit_value(b, around, value, planned, rest),
+            PlannedActual::Copied { at, is_made, .. } => {
+                if is_made {
+                    emit_structure(b, around, value, at, rest)
+                } else {
+                    structure_into(b, around, value, *kind, at, rest)
+                }
+            }
+            PlannedActual::NewCell { from, .. } => emit_structure(b, around, value, from, rest),
+            PlannedActual::Reference { place, .. } | PlannedActual::NewVariable { place, .. } => {
+                match form_of(b, value) {
+                    Form::Open => emit_structure(b, around, value, place, rest),
+                    _ if place.dims > 0 => emit_structure(b, around, value, place, rest),
+                    _ => value_into(b, around, value, *kind, place, rest),
+                }
+            }
+        },
+    }
+}
+
+#[cycle(expressions)]
+fn emit_place<'m>(
+    b: &mut Builder<'m, '_>,
+    around: Around<'m>,
+    kind: TypeId,
+    chain: &Chain,
+    checks_shape: bool,
+    rest: Pending<'m>,
+) -> Pending<'m> {
+    let at = b.top_stage().place();
+    let code = if checks_shape {
+        check_shape(b, chain.pos, kind, chain.kind, at, rest)
+    } else {
+        rest
+    };
+    emit_chain(b, around, chain, code)
+}

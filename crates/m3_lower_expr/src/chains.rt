@@ -1,0 +1,184 @@
+use crate::calls::{emit_call, emit_method};
+use crate::exprs::{emit_value, fetch};
+use m3_base::Pos;
+use m3_builder::{Around, Builder, Pending, Place, Value};
+use m3_core::{ArrayLimit, Base, Chain, CoreExpr, Step};
+use m3_plans::plan_chain;
+use m3_shapes::{check_index, check_subarray, indexed, known_distance, limit_of, subarray_address};
+use m3_types::TypeId;
+use m3_variables::{
+    emit_alias, emit_keep, emit_local, emit_read, emit_reference, kind_before, source,
+};
+
+/// Code for a chain that was planned, with what follows it.
+#[cycle(expressions)]
+pub fn emit_chain<'m>(
+    b: &mut Builder<'m, '_>,
+    around: Around<'m>,
+    chain: &Chain,
+    rest: Pending<'m>,
+) -> Pending<'m> {
+    let mut code = rest;
+    let mut after = b.pop_stage();
+    for place in (0..chain.steps.len()).rev() {
+        let before = b.pop_stage();
+        if let Some(step) = chain.steps.get(place) {
+            let kind = kind_before(chain, place);
+            code = emit_step(b, around, step, chain.pos, kind, before, after, code);
+        }
+        after = before;
+    }
+    emit_base(b, around, chain, after, code)
+}
+
+#[cycle(expressions)]
+fn emit_step<'m>(
+    b: &mut Builder<'m, '_>,
+    around: Around<'m>,
+    step: &Step,
+    pos: Pos,
+    before_kind: Option<TypeId>,
+    before: Value,
+    after: Value,
+    rest: Pending<'m>,
+) -> Pending<'m> {
+    match step {
+        Step::Read { kind } => emit_read(b, before.place(), after, *kind, rest),
+        Step::Keep { kind } => emit_keep(b, before, after, *kind, rest),
+        Step::Field { .. } => rest,
+        Step::Dereference { .. } | Step::ObjectField { .. } => {
+            emit_reference(b, pos, before, after, rest)
+        }
+        Step::Element { index, .. } => {
+            emit_element(
+                b,
+                around,
+                before.place(),
+                before_kind,
+                index,
+                after.place(),
+                rest,
+            )
+        }
+        Step::Call { actuals, kind } => {
+            emit_call(
+                b,
+                around,
+                actuals,
+                pos,
+                before_kind,
+                *kind,
+                before,
+                after,
+                rest,
+            )
+        }
+        Step::MethodCall {
+            owner,
+            method,
+            actuals,
+            kind,
+        } => {
+            emit_method(
+                b, around, actuals, pos, *owner, *method, *kind, before, after, rest,
+            )
+        }
+    }
+}
+
+#[cycle(expressions)]
+fn emit_base<'m>(
+    b: &mut Builder<'m, '_>,
+    around: Around<'m>,
+    chain: &Chain,
+    value: Value,
+    rest: Pending<'m>,
+) -> Pending<'m> {
+    match chain.base {
+        Base::Global { .. } => rest,
+        Base::Local {
+            level,
+            variable,
+            kind,
+        } => emit_local(b, level, variable, kind, value.place(), rest),
+        Base::Alias {
+            level,
+            variable,
+            ..
+        } => emit_alias(b, level, variable, value.place(), rest),
+        Base::Inner(inner) => emit_chain(b, around, inner, rest),
+        Base::Subarray { .. } => emit_subarray(b, around, chain, value.place(), rest),
+        Base::Value(e) => emit_value(b, around, e, value, rest),
+    }
+}
+
+/// Code for an element: its index, the check, and its address.
+#[cycle(expressions)]
+fn emit_element<'m>(
+    b: &mut Builder<'m, '_>,
+    around: Around<'m>,
+    array: Place,
+    kind: Option<TypeId>,
+    index: &CoreExpr,
+    element: Place,
+    rest: Pending<'m>,
+) -> Pending<'m> {
+    let Some(kind) = kind else {
+        return rest;
+    };
+    let is_known = known_distance(b, array, Some(kind), index).is_some();
+    let operand = source(b, index);
+    let code = if is_known {
+        rest
+    } else {
+        indexed(b, array, kind, operand, element, rest)
+    };
+    let code = check_index(b, array, kind, index, operand, code);
+    fetch(b, around, index, operand, code)
+}
+
+/// Code for a SUBARRAY: the array's place, start and count, and one check.
+#[cycle(expressions)]
+fn emit_subarray<'m>(
+    b: &mut Builder<'m, '_>,
+    around: Around<'m>,
+    chain: &Chain,
+    place: Place,
+    rest: Pending<'m>,
+) -> Pending<'m> {
+    let Base::Subarray {
+        array,
+        start,
+        count,
+        ..
+    } = chain.base
+    else {
+        return rest;
+    };
+    let from = b.top_stage().place();
+    let operand = source(b, start);
+    let length = b.size_at(place.sizes);
+    let code = subarray_address(b, from, array.kind, operand, place, rest);
+    let code = check_subarray(b, chain.pos, from, array.kind, operand, length, code);
+    let code = fetch(b, around, count, length, code);
+    let code = fetch(b, around, start, operand, code);
+    emit_chain(b, around, array, code)
+}
+
+/// FIRST, LAST or NUMBER of an array whose place is fixed.
+#[cycle(expressions)]
+pub fn array_limit<'m>(
+    b: &mut Builder<'m, '_>,
+    around: Around<'m>,
+    limit: ArrayLimit,
+    array: &Chain,
+    to: u32,
+    rest: Pending<'m>,
+) -> Pending<'m> {
+    let place = plan_chain(b, array).place();
+    let code = match array.kind {
+        Some(kind) => limit_of(b, limit, kind, place, to, rest),
+        None => rest,
+    };
+    emit_chain(b, around, array, code)
+}

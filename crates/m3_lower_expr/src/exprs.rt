@@ -1,0 +1,256 @@
+use crate::chains::{array_limit, emit_chain};
+use crate::conditions::short_condition;
+use crate::new_cells::new_into;
+use crate::rows::{builtin_into, operations_into, prefixed_into, set_into};
+use crate::structures::emit_structure;
+use m3_base::Pos;
+use m3_builder::{Around, Builder, Pending, Value, cleared_word, load_word, set};
+use m3_core::{Chain, Conversion, CoreExpr, Step};
+use m3_mid::{MidOp, Operand};
+use m3_operators::{checked, is_short, not_nested, tested, zero_temps};
+use m3_plans::plan_chain;
+use m3_shapes::{code_of, constant_words, set_word};
+use m3_types::TypeId;
+use m3_variables::{environment_of, move_words, ready, source, words_in};
+
+/// Code that gives an expression's value to the operand that was chosen for it.
+#[cycle(expressions)]
+pub fn fetch<'m>(
+    b: &mut Builder<'m, '_>,
+    around: Around<'m>,
+    e: &CoreExpr,
+    operand: Operand,
+    rest: Pending<'m>,
+) -> Pending<'m> {
+    if ready(b, e).is_some() {
+        return rest;
+    }
+    match operand {
+        Operand::Temp(to) => into_temp(b, around, e, to, rest),
+        Operand::Number(_) => rest,
+    }
+}
+
+/// Code that makes the value of an expression where it was planned.
+#[cycle(expressions)]
+pub fn emit_value<'m>(
+    b: &mut Builder<'m, '_>,
+    around: Around<'m>,
+    e: &CoreExpr,
+    value: Value,
+    rest: Pending<'m>,
+) -> Pending<'m> {
+    match value {
+        Value::Word(operand) => fetch(b, around, e, operand, rest),
+        Value::Words { first, .. } => into_temps(b, around, e, first, rest),
+        Value::At(place) => emit_structure(b, around, e, place, rest),
+        Value::Known { environment, .. } => match (e, environment) {
+            (CoreExpr::InnerProcedure { procedure, .. }, Some(to)) => {
+                environment_of(b, *procedure, to, rest)
+            }
+            _ => rest,
+        },
+        Value::Nothing => match e {
+            CoreExpr::Chain(chain) => emit_chain(b, around, chain, rest),
+            _ => rest,
+        },
+    }
+}
+
+/// Code that puts the value of an expression of one word into a temporary, which is set last of
+/// all.
+#[cycle(expressions)]
+pub fn into_temp<'m>(
+    b: &mut Builder<'m, '_>,
+    around: Around<'m>,
+    e: &CoreExpr,
+    to: u32,
+    rest: Pending<'m>,
+) -> Pending<'m> {
+    match e {
+        CoreExpr::Number { value, .. } => rest.after(MidOp::Number { to, value: *value }),
+        CoreExpr::Text { text, .. } => rest.after(MidOp::TextCell { to, text: *text }),
+        CoreExpr::Constant { value, kind, .. } => {
+            let value = set_word(b, *kind, *value, 0);
+            rest.after(MidOp::Number { to, value })
+        }
+        CoreExpr::Chain(chain) => chain_into(b, around, chain, to, rest),
+        CoreExpr::Builtin(call) => builtin_into(b, around, call, Some(to), rest),
+        CoreExpr::Prefixed {
+            operators,
+            operand,
+            ..
+        } => prefixed_into(b, around, operators, operand, to, rest),
+        CoreExpr::Operations { rest: row, .. } => {
+            if is_short(row) {
+                return condition_into(b, around, e, to, rest);
+            }
+            operations_into(b, around, e, Value::Word(Operand::Temp(to)), rest)
+        }
+        CoreExpr::SetOf { kind, elements, .. } => {
+            set_into(b, around, *kind, elements, to, 1, rest)
+        }
+        CoreExpr::New { .. } => new_into(b, around, e, to, rest),
+        CoreExpr::Convert {
+            pos,
+            kind,
+            check,
+            operand,
+        } => converted_into(b, around, *pos, *kind, *check, operand, to, rest),
+        CoreExpr::TypeTest {
+            operand,
+            tested,
+            ..
+        } => type_test_into(b, around, operand, *tested, to, rest),
+        CoreExpr::ArrayLimit { limit, array, .. } => array_limit(
+            b, around, *limit, array, to, rest,
+        ),
+        CoreExpr::Nil { .. }
+        | CoreExpr::Procedure { .. }
+        | CoreExpr::InnerProcedure { .. }
+        | CoreExpr::ArrayOf { .. }
+        | CoreExpr::RecordOf { .. } => rest.after(MidOp::Number { to, value: 0 }),
+    }
+}
+
+/// Code that puts the value of an expression of several words into temporaries in a row.
+#[cycle(expressions)]
+pub fn into_temps<'m>(
+    b: &mut Builder<'m, '_>,
+    around: Around<'m>,
+    e: &CoreExpr,
+    first: u32,
+    rest: Pending<'m>,
+) -> Pending<'m> {
+    match e {
+        CoreExpr::Procedure { procedure, .. } => {
+            let code = set(first.wrapping_add(1), Operand::Number(0), rest);
+            set(first, Operand::Number(code_of(*procedure)), code)
+        }
+        CoreExpr::InnerProcedure { procedure, .. } => {
+            let code = environment_of(b, *procedure, first.wrapping_add(1), rest);
+            set(first, Operand::Number(code_of(*procedure)), code)
+        }
+        CoreExpr::Chain(chain) => chain_into_temps(b, around, chain, first, rest),
+        CoreExpr::Operations { .. } => {
+            let count = words_in(b, e);
+            operations_into(b, around, e, Value::Words { first, count }, rest)
+        }
+        CoreExpr::SetOf { kind, elements, .. } => {
+            let count = words_in(b, e);
+            set_into(b, around, *kind, elements, first, count, rest)
+        }
+        CoreExpr::Constant { value, kind, .. } => constant_words(b, *kind, *value, first, rest),
+        CoreExpr::Convert {
+            pos,
+            check,
+            operand,
+            ..
+        } => {
+            let code = not_nested(*check, *pos, first, rest);
+            into_temps(b, around, operand, first, code)
+        }
+        _ => zero_temps(first, words_in(b, e), rest),
+    }
+}
+
+#[cycle(expressions)]
+fn chain_into_temps<'m>(
+    b: &mut Builder<'m, '_>,
+    around: Around<'m>,
+    chain: &Chain,
+    first: u32,
+    rest: Pending<'m>,
+) -> Pending<'m> {
+    let value = plan_chain(b, chain);
+    let code = match value {
+        // a NIL of one word, of the type NULL, where a procedure is wanted
+        Value::Word(_) => set(first.wrapping_add(1), Operand::Number(0), rest),
+        _ => rest,
+    };
+    let code = move_words(value, first, code);
+    emit_chain(b, around, chain, code)
+}
+
+#[cycle(expressions)]
+fn chain_into<'m>(
+    b: &mut Builder<'m, '_>,
+    around: Around<'m>,
+    chain: &Chain,
+    to: u32,
+    rest: Pending<'m>,
+) -> Pending<'m> {
+    let value = plan_chain(b, chain);
+    let is_loaded = match chain.steps.last() {
+        Some(Step::Read { .. }) => b.is_loaded(),
+        _ => false,
+    };
+    if is_loaded {
+        b.pop_stage();
+        b.push_stage(Value::Word(Operand::Temp(to)));
+        return emit_chain(b, around, chain, rest);
+    }
+    let code = match value {
+        Value::At(place) => {
+            let code = cleared_word(b, place, rest);
+            load_word(b, to, place, 0, code)
+        }
+        _ => set(to, value.word(), rest),
+    };
+    emit_chain(b, around, chain, code)
+}
+
+/// The value of AND and OR: 1 or 0 where the condition ends.
+#[cycle(expressions)]
+fn condition_into<'m>(
+    b: &mut Builder<'m, '_>,
+    around: Around<'m>,
+    e: &CoreExpr,
+    to: u32,
+    rest: Pending<'m>,
+) -> Pending<'m> {
+    let join = b.seal(rest);
+    let yes = b.goto(join).after(MidOp::Number { to, value: 1 });
+    let yes = b.seal(yes);
+    let no = b.goto(join).after(MidOp::Number { to, value: 0 });
+    let no = b.seal(no);
+    short_condition(b, around, e, yes, no)
+}
+
+#[cycle(expressions)]
+fn converted_into<'m>(
+    b: &mut Builder<'m, '_>,
+    around: Around<'m>,
+    pos: Pos,
+    kind: TypeId,
+    check: Conversion,
+    operand: &CoreExpr,
+    to: u32,
+    rest: Pending<'m>,
+) -> Pending<'m> {
+    if let Some(value) = ready(b, operand) {
+        let code = set(to, value, rest);
+        return checked(b, pos, kind, check, operand, value, code);
+    }
+    let code = checked(b, pos, kind, check, operand, Operand::Temp(to), rest);
+    into_temp(b, around, operand, to, code)
+}
+
+#[cycle(expressions)]
+fn type_test_into<'m>(
+    b: &mut Builder<'m, '_>,
+    around: Around<'m>,
+    operand: &CoreExpr,
+    kind: TypeId,
+    to: u32,
+    rest: Pending<'m>,
+) -> Pending<'m> {
+    let join = b.seal(rest);
+    let yes = b.goto(join).after(MidOp::Number { to, value: 1 });
+    let yes = b.seal(yes);
+    let no = b.goto(join).after(MidOp::Number { to, value: 0 });
+    let no = b.seal(no);
+    let value = source(b, operand);
+    let code = tested(b, kind, value, yes, no);
+    fetch(b, around, operand, value, code)
+}

@@ -1,0 +1,198 @@
+use crate::exprs::{emit_value, fetch};
+use m3_builder::{Around, Builder, Pending, Value, temp_in};
+use m3_core::{BuiltinCall, CoreExpr, Prefix, SetElement};
+use m3_mid::{Kind, Operand};
+use m3_operators::{
+    PlannedElement, action, add_bits, check_operand, check_text, kinds_at, move_row, operand_at,
+    operate, prefix_into, value_at, zero_temps,
+};
+use m3_plans::{Row, plan_operands, plan_row, plan_set_element};
+use m3_shapes::first_member;
+use m3_types::TypeId;
+use m3_variables::source;
+
+/// Code that puts the result of a row of operations where it is wanted; that is set last of all.
+#[cycle(expressions)]
+pub fn operations_into<'m>(
+    b: &mut Builder<'m, '_>,
+    around: Around<'m>,
+    e: &CoreExpr,
+    to: Value,
+    rest: Pending<'m>,
+) -> Pending<'m> {
+    let CoreExpr::Operations {
+        first,
+        rest: row,
+        ..
+    } = e
+    else {
+        return rest;
+    };
+    let planned = plan_row(b, first, row, row.len(), Some(to));
+    emit_row(b, around, e, row.len(), &planned, rest)
+}
+
+/// Code for so many operations of a row, from the first one on; for none it is that of the first
+/// operand.
+#[cycle(expressions)]
+pub fn emit_before<'m>(
+    b: &mut Builder<'m, '_>,
+    around: Around<'m>,
+    e: &CoreExpr,
+    count: usize,
+    planned: &Row,
+    left: Operand,
+    rest: Pending<'m>,
+) -> Pending<'m> {
+    match e {
+        CoreExpr::Operations { first, .. } if count == 0 => fetch(b, around, first, left, rest),
+        _ => emit_row(b, around, e, count, planned, rest),
+    }
+}
+
+#[cycle(expressions)]
+fn emit_row<'m>(
+    b: &mut Builder<'m, '_>,
+    around: Around<'m>,
+    e: &CoreExpr,
+    count: usize,
+    planned: &Row,
+    rest: Pending<'m>,
+) -> Pending<'m> {
+    let CoreExpr::Operations {
+        first,
+        rest: row,
+        ..
+    } = e
+    else {
+        return rest;
+    };
+    let mut code = rest;
+    for place in (0..count).rev() {
+        if let Some(operation) = row.get(place) {
+            let left = match place.checked_sub(1) {
+                Some(before) => value_at(&planned.results, before),
+                None => planned.left,
+            };
+            let right = value_at(&planned.rights, place);
+            let result = value_at(&planned.results, place);
+            let kinds = kinds_at(first, row, place);
+            code = operate(b, around, operation, kinds, left, right, result, code);
+            code = check_text(operation, operation.right, right, code);
+            code = emit_value(b, around, operation.right, right, code);
+            if place == 0 {
+                code = check_text(operation, first, left, code);
+            }
+        }
+    }
+    emit_value(b, around, first, planned.left, code)
+}
+
+/// Code that puts the value of an operand behind operators into a temporary.
+#[cycle(expressions)]
+pub fn prefixed_into<'m>(
+    b: &mut Builder<'m, '_>,
+    around: Around<'m>,
+    operators: &[Prefix],
+    operand: &CoreExpr,
+    to: u32,
+    rest: Pending<'m>,
+) -> Pending<'m> {
+    let inner = source(b, operand);
+    let mut code = rest;
+    let mut target = to;
+    for (place, prefix) in operators.iter().enumerate() {
+        let is_last = place.saturating_add(1) == operators.len();
+        let from = if is_last {
+            inner
+        } else {
+            Operand::Temp(b.temp(Kind::Number))
+        };
+        code = prefix_into(b, *prefix, from, target, code);
+        target = temp_in(from);
+    }
+    fetch(b, around, operand, inner, code)
+}
+
+/// Code that puts the set of some elements into temporaries in a row.
+#[cycle(expressions)]
+pub fn set_into<'m>(
+    b: &mut Builder<'m, '_>,
+    around: Around<'m>,
+    kind: TypeId,
+    elements: &[SetElement],
+    to: u32,
+    count: u32,
+    rest: Pending<'m>,
+) -> Pending<'m> {
+    let start = first_member(b, kind);
+    let sum = b.temps(Kind::Number, count);
+    let mut code = move_row(to, sum, count, rest);
+    for place in (0..elements.len()).rev() {
+        if let Some(element) = elements.get(place) {
+            let planned = plan_set_element(b, element);
+            code = add_bits(b, planned, start, sum, count, code);
+            code = emit_set_element(b, around, element, planned, code);
+        }
+    }
+    zero_temps(sum, count, code)
+}
+
+#[cycle(expressions)]
+fn emit_set_element<'m>(
+    b: &mut Builder<'m, '_>,
+    around: Around<'m>,
+    element: &SetElement,
+    planned: PlannedElement,
+    rest: Pending<'m>,
+) -> Pending<'m> {
+    match element {
+        SetElement::One(e) => fetch(b, around, e, planned.first, rest),
+        SetElement::Range(first, last) => {
+            let code = match planned.last {
+                Some(operand) => fetch(b, around, last, operand, rest),
+                None => rest,
+            };
+            fetch(b, around, first, planned.first, code)
+        }
+    }
+}
+
+/// Code for the call of a routine, whose result goes into a temporary where one is wanted.
+#[cycle(expressions)]
+pub fn builtin_into<'m>(
+    b: &mut Builder<'m, '_>,
+    around: Around<'m>,
+    call: &BuiltinCall,
+    to: Option<u32>,
+    rest: Pending<'m>,
+) -> Pending<'m> {
+    let operands = plan_operands(b, call.actuals);
+    let code = action(b, around, call, operands.as_slice(), to, rest);
+    emit_operands(b, around, call, operands.as_slice(), code)
+}
+
+/// Code for the actuals in the order of evaluation, each with the checks that come right behind
+/// it.
+#[cycle(expressions)]
+fn emit_operands<'m>(
+    b: &mut Builder<'m, '_>,
+    around: Around<'m>,
+    call: &BuiltinCall,
+    operands: &[Operand],
+    rest: Pending<'m>,
+) -> Pending<'m> {
+    let mut code = rest;
+    for place in (0..call.order.len()).rev() {
+        let actual = match call.order.get(place) {
+            Some(actual) => *actual as usize,
+            None => place,
+        };
+        if let Some(e) = call.actuals.get(actual) {
+            let operand = operand_at(operands, actual);
+            code = check_operand(b, call, actual, e, operand, code);
+            code = fetch(b, around, e, operand, code);
+        }
+    }
+    code
+}

@@ -1,0 +1,197 @@
+use crate::chains::emit_chain;
+use crate::exprs::{fetch, into_temps};
+use m3_builder::{
+    Around, Builder, Location, Pending, Place, cleared_value, copy_words, form_of, kind_of,
+    store_word, store_words,
+};
+use m3_core::{Conversion, CoreExpr, FieldValue};
+use m3_mid::{Kind, MidOp};
+use m3_plans::plan_structure;
+use m3_shapes::{
+    check_equal, check_shape, dims_of, field_type, filled, inner_element, row_words, shape_of,
+};
+use m3_storage::Form;
+use m3_types::{TypeId, TypeNode};
+use m3_variables::source;
+
+/// Code that makes the value of a record or array at the place that was planned for it.
+#[cycle(expressions)]
+pub fn emit_structure<'m>(
+    b: &mut Builder<'m, '_>,
+    around: Around<'m>,
+    e: &CoreExpr,
+    place: Place,
+    rest: Pending<'m>,
+) -> Pending<'m> {
+    match e {
+        CoreExpr::Chain(chain) => emit_chain(b, around, chain, rest),
+        CoreExpr::Constant { value, .. } => match place.at {
+            Location::Address { temp, .. } => rest.after(MidOp::ConstantAddress {
+                to: temp,
+                constant: value.0,
+            }),
+            Location::Temps(_) | Location::Slots(_) | Location::Globals(_) => rest,
+        },
+        CoreExpr::Convert {
+            pos,
+            kind,
+            check,
+            operand,
+        } => {
+            let code = if *check == Conversion::Shape {
+                check_shape(b, *pos, *kind, kind_of(operand), place, rest)
+            } else {
+                rest
+            };
+            emit_structure(b, around, operand, place, code)
+        }
+        CoreExpr::ArrayOf {
+            kind,
+            elements,
+            is_filled,
+            ..
+        } => elements_into(b, around, *kind, elements, *is_filled, place, rest),
+        CoreExpr::RecordOf { kind, fields, .. } => {
+            fields_into(b, around, *kind, fields, place, rest)
+        }
+        _ => rest,
+    }
+}
+
+/// Code that puts the value of a record or array at a place, which nothing else reads meanwhile.
+#[cycle(expressions)]
+pub fn structure_into<'m>(
+    b: &mut Builder<'m, '_>,
+    around: Around<'m>,
+    e: &CoreExpr,
+    kind: TypeId,
+    to: Place,
+    rest: Pending<'m>,
+) -> Pending<'m> {
+    match e {
+        CoreExpr::ArrayOf {
+            kind: own,
+            elements,
+            is_filled,
+            ..
+        } if !matches!(b.storage.node(*own), TypeNode::OpenArray(_)) => {
+            elements_into(b, around, *own, elements, *is_filled, to, rest)
+        }
+        CoreExpr::RecordOf { kind, fields, .. } => fields_into(b, around, *kind, fields, to, rest),
+        _ => {
+            let from = plan_structure(b, e);
+            let code = cleared_value(b, from, kind_of(e), rest);
+            let words = b.storage.words(kind);
+            let code = copy_words(b, to, from, words, code);
+            emit_structure(b, around, e, from, code)
+        }
+    }
+}
+
+/// Code that puts a value of any type at a place, which nothing else reads meanwhile.
+#[cycle(expressions)]
+pub fn value_into<'m>(
+    b: &mut Builder<'m, '_>,
+    around: Around<'m>,
+    e: &CoreExpr,
+    kind: TypeId,
+    to: Place,
+    rest: Pending<'m>,
+) -> Pending<'m> {
+    let form = match b.storage.form(kind) {
+        Form::Numbers(count) => Form::Numbers(count),
+        _ => form_of(b, e),
+    };
+    match form {
+        Form::Number | Form::Reference => {
+            let operand = source(b, e);
+            let code = store_word(b, to, 0, operand, rest);
+            fetch(b, around, e, operand, code)
+        }
+        Form::Numbers(count) => {
+            let first = b.temps(Kind::Number, count);
+            let code = store_words(b, to, first, count, rest);
+            into_temps(b, around, e, first, code)
+        }
+        Form::Structure(_) | Form::Open => structure_into(b, around, e, kind, to, rest),
+    }
+}
+
+#[cycle(expressions)]
+fn fields_into<'m>(
+    b: &mut Builder<'m, '_>,
+    around: Around<'m>,
+    kind: TypeId,
+    fields: &[FieldValue],
+    to: Place,
+    rest: Pending<'m>,
+) -> Pending<'m> {
+    let mut code = rest;
+    for place in (0..fields.len()).rev() {
+        if let Some(field) = fields.get(place) {
+            let offset = b.storage.objects.field(kind, field.field);
+            let at = to.further(offset);
+            let field_kind = field_type(b, kind, field.field);
+            code = value_into(b, around, field.value, field_kind, at, code);
+        }
+    }
+    code
+}
+
+#[cycle(expressions)]
+fn elements_into<'m>(
+    b: &mut Builder<'m, '_>,
+    around: Around<'m>,
+    kind: TypeId,
+    elements: &[CoreExpr],
+    is_filled: bool,
+    to: Place,
+    rest: Pending<'m>,
+) -> Pending<'m> {
+    let element = inner_element(b, kind, 1);
+    let inner = dims_of(b, element);
+    let words = row_words(b, to, element, inner);
+    let mut code = if is_filled {
+        filled(b, kind, elements.len(), words, to, rest)
+    } else {
+        rest
+    };
+    for place in (0..elements.len()).rev() {
+        if let Some(e) = elements.get(place) {
+            let at = Place {
+                sizes: to.sizes.wrapping_add(1),
+                dims: inner,
+                ..to.further(words.wrapping_mul(place as u64))
+            };
+            code = if inner == 0 {
+                value_into(b, around, e, element, at, code)
+            } else {
+                row_into(b, around, e, element, words, at, code)
+            };
+        }
+    }
+    code
+}
+
+/// A row of an open constructor, checked for the shape of the first one.
+#[cycle(expressions)]
+fn row_into<'m>(
+    b: &mut Builder<'m, '_>,
+    around: Around<'m>,
+    e: &CoreExpr,
+    element: TypeId,
+    words: u64,
+    to: Place,
+    rest: Pending<'m>,
+) -> Pending<'m> {
+    let from = plan_structure(b, e);
+    let code = copy_words(b, to.without_sizes(), from.without_sizes(), words, rest);
+    let kind = match kind_of(e) {
+        Some(kind) => kind,
+        None => element,
+    };
+    let wanted = shape_of(b, to, element, to.dims);
+    let found = shape_of(b, from, kind, to.dims);
+    let code = check_equal(e.pos(), wanted.as_slice(), found.as_slice(), code);
+    emit_structure(b, around, e, from, code)
+}

@@ -1,0 +1,155 @@
+use crate::statements::statements;
+use m3_builder::{Around, Builder, Pending, store_word};
+use m3_core::{CoreStmt, Handler};
+use m3_exits::{
+    EXITED, Exits, NORMALLY, RAISED, RETURNED, Returning, clear_inside, clear_variables, dispatch,
+    is_reference_word, left_as, move_raised, overriding, place_of, showing, type_of,
+};
+use m3_mid::{Kind, Operand, Raised};
+use m3_simple_stmts::test_exceptions;
+
+/// TRY EXCEPT: the body, with the handlers and the ELSE behind its exits.
+#[cycle(statements)]
+pub fn try_except<'m>(
+    b: &mut Builder<'m, '_>,
+    exits: Exits<'m>,
+    s: &CoreStmt,
+    rest: Pending<'m>,
+) -> Pending<'m> {
+    let CoreStmt::TryExcept {
+        body,
+        handlers,
+        otherwise,
+        ..
+    } = s
+    else {
+        return rest;
+    };
+    let join = b.seal(rest);
+    let last = match otherwise {
+        Some(row) => {
+            let code = b.goto(join);
+            let code = statements(b, exits, row, code);
+            let code = clear_inside(b, body, code);
+            Some(b.seal(code))
+        }
+        None => None,
+    };
+    let caught = catch(b, exits, handlers, last, join);
+    let caught = clear_inside(b, body, caught);
+    let raised = b.seal(caught);
+    let around = Around {
+        shown: exits.around.shown,
+        raised,
+    };
+    let inside = match last {
+        Some(block) => Exits {
+            around,
+            exit: block,
+            returning: Returning::Drops(block),
+            outcome: exits.outcome,
+        },
+        None => exits.showing(around),
+    };
+    let code = b.goto(join);
+    statements(b, inside, body, code)
+}
+
+/// Goes to the first handler of the exception, else to the ELSE or on outside.
+#[cycle(statements)]
+fn catch<'m>(
+    b: &mut Builder<'m, '_>,
+    exits: Exits<'m>,
+    handlers: &[Handler],
+    otherwise: Option<u32>,
+    join: u32,
+) -> Pending<'m> {
+    let mut code = match otherwise {
+        Some(block) => b.goto(block),
+        None => b.goto(exits.around.raised),
+    };
+    for handler in handlers.iter().rev() {
+        let block = handle(b, exits, handler, join);
+        code = test_exceptions(b, handler.exceptions, block, code);
+    }
+    code
+}
+
+/// The block of a handler, whose variable gets the argument.
+#[cycle(statements)]
+fn handle<'m>(b: &mut Builder<'m, '_>, exits: Exits<'m>, handler: &Handler, join: u32) -> u32 {
+    let body = b.goto(join);
+    let Some(variable) = handler.variable else {
+        let code = statements(b, exits, handler.body, body);
+        return b.seal(code);
+    };
+    let inside = showing(b, exits, &[variable]);
+    let body = clear_variables(b, &[variable], body);
+    let code = statements(b, inside, handler.body, body);
+    let is_tidy = match type_of(b, variable) {
+        Some(kind) => is_reference_word(b, kind),
+        None => false,
+    };
+    let argument = if is_tidy {
+        b.raised.tidy
+    } else {
+        b.raised.number
+    };
+    let has_word = match type_of(b, variable) {
+        Some(kind) => b.storage.words(kind) == 1,
+        None => false,
+    };
+    let code = if has_word {
+        store_word(b, place_of(b, variable), 0, Operand::Temp(argument), code)
+    } else {
+        code
+    };
+    b.seal(code)
+}
+
+/// TRY FINALLY: the last part runs once for each way out, and then goes on as the body was left.
+#[cycle(statements)]
+pub fn try_finally<'m>(
+    b: &mut Builder<'m, '_>,
+    exits: Exits<'m>,
+    s: &CoreStmt,
+    rest: Pending<'m>,
+) -> Pending<'m> {
+    let CoreStmt::TryFinally { body, last, .. } = s else {
+        return rest;
+    };
+    let way = b.temp(Kind::Number);
+    let kept = Raised {
+        exception: b.temp(Kind::Number),
+        number: b.temp(Kind::Number),
+        tidy: b.temp(Kind::Tidy),
+    };
+    let code = dispatch(b, exits, way, kept, rest);
+    let leaving = overriding(b, exits);
+    let code = statements(b, leaving, last, code);
+    let finish = b.seal(code);
+    let normal = left_as(b, way, NORMALLY, finish);
+    let code = left_as(b, way, RAISED, finish);
+    let code = move_raised(b.raised, kept, code);
+    let code = clear_inside(b, body, code);
+    let raised = b.seal(code);
+    let code = left_as(b, way, EXITED, finish);
+    let code = clear_inside(b, body, code);
+    let exit = b.seal(code);
+    let code = left_as(b, way, RETURNED, finish);
+    let code = clear_inside(b, body, code);
+    let returned = b.seal(code);
+    let inside = Exits {
+        around: Around {
+            shown: exits.around.shown,
+            raised,
+        },
+        exit,
+        returning: match exits.returning {
+            Returning::Ends | Returning::Passes(_) => Returning::Passes(returned),
+            Returning::Drops(_) => Returning::Drops(returned),
+        },
+        outcome: exits.outcome,
+    };
+    statements(b, inside, body, normal)
+}

@@ -1,0 +1,137 @@
+use crate::statements::statements;
+use m3_builder::{Builder, Location, Pending, store_word};
+use m3_core::CoreStmt;
+use m3_exits::{Exits, clear_inside, place_of, showing};
+use m3_lower_expr::condition;
+use m3_mid::{Kind, MidOp, Operand};
+use m3_simple_stmts::{Course, begin, first_test, limit, pace_of, turned};
+
+/// FOR: first, last and step once; the body with its point while the variable hasn't passed the
+/// last.
+#[cycle(statements)]
+pub fn for_loop<'m>(
+    b: &mut Builder<'m, '_>,
+    exits: Exits<'m>,
+    s: &CoreStmt,
+    rest: Pending<'m>,
+) -> Pending<'m> {
+    let CoreStmt::For {
+        variable,
+        first,
+        last,
+        step,
+        body,
+        ..
+    } = s
+    else {
+        return rest;
+    };
+    let after = clear_inside(b, body, rest);
+    let exit = b.seal(after);
+    let head = b.reserve();
+    let place = place_of(b, *variable);
+    let index = match place.at {
+        Location::Temps(temp) => temp,
+        _ => b.temp(Kind::Number),
+    };
+    let course = Course {
+        index,
+        last: limit(b, last),
+        pace: pace_of(b, *step),
+        head,
+        exit,
+    };
+    let inside = Exits {
+        exit,
+        ..showing(b, exits, &[*variable])
+    };
+    let turn = turned(b, course).after(MidOp::Point {
+        shown: inside.around.shown,
+    });
+    let code = statements(b, inside, body, turn);
+    let code = match place.at {
+        Location::Temps(_) => code,
+        _ => store_word(b, place, 0, Operand::Temp(index), code),
+    };
+    b.set(head, code);
+    let code = first_test(b, course);
+    begin(b, exits, course, first, last, *step, code)
+}
+
+/// LOOP: the body with its point, for ever.
+#[cycle(statements)]
+pub fn plain_loop<'m>(
+    b: &mut Builder<'m, '_>,
+    exits: Exits<'m>,
+    body: &[CoreStmt],
+    rest: Pending<'m>,
+) -> Pending<'m> {
+    let after = clear_inside(b, body, rest);
+    let exit = b.seal(after);
+    let head = b.reserve();
+    let turn = b.goto(head).after(MidOp::Point {
+        shown: exits.around.shown,
+    });
+    let inside = Exits { exit, ..exits };
+    let code = statements(b, inside, body, turn);
+    b.set(head, code);
+    b.goto(head)
+}
+
+/// WHILE: the test, and the body with its point.
+#[cycle(statements)]
+pub fn while_loop<'m>(
+    b: &mut Builder<'m, '_>,
+    exits: Exits<'m>,
+    s: &CoreStmt,
+    rest: Pending<'m>,
+) -> Pending<'m> {
+    let CoreStmt::While {
+        condition: test,
+        body,
+        ..
+    } = s
+    else {
+        return rest;
+    };
+    let after = clear_inside(b, body, rest);
+    let exit = b.seal(after);
+    let head = b.reserve();
+    let turn = b.goto(head).after(MidOp::Point {
+        shown: exits.around.shown,
+    });
+    let inside = Exits { exit, ..exits };
+    let code = statements(b, inside, body, turn);
+    let once = b.seal(code);
+    let code = condition(b, exits.around, test, once, exit);
+    b.set(head, code);
+    b.goto(head)
+}
+
+/// REPEAT: the body, its point, and then the test.
+#[cycle(statements)]
+pub fn repeat_loop<'m>(
+    b: &mut Builder<'m, '_>,
+    exits: Exits<'m>,
+    s: &CoreStmt,
+    rest: Pending<'m>,
+) -> Pending<'m> {
+    let CoreStmt::Repeat {
+        body,
+        condition: test,
+        ..
+    } = s
+    else {
+        return rest;
+    };
+    let after = clear_inside(b, body, rest);
+    let exit = b.seal(after);
+    let head = b.reserve();
+    let turn = condition(b, exits.around, test, exit, head).after(MidOp::Point {
+        shown: exits.around.shown,
+    });
+    let inside = Exits { exit, ..exits };
+    let code = statements(b, inside, body, turn);
+    b.set(head, code);
+    b.goto(head)
+}

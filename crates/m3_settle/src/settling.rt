@@ -1,0 +1,206 @@
+use crate::making::{make_constant, make_kind, make_methods, make_node};
+use crate::reveals::{list_reveals, note_reveals};
+use m3_base::{NoMemory, place_number};
+use m3_declarer::Declarer;
+use m3_scopes::{EntityId, EntityKind};
+use m3_types::TypeId;
+use m3_worth::Need;
+
+/// Does all tasks: the definitions of types, then with the reveals of opaque types the constants
+/// and the types of variables.
+pub fn settle_all<'a>(declarer: &mut Declarer<'_, 'a>) -> Result<(), NoMemory> {
+    note_reveals(declarer)?;
+    attempt_nodes(declarer)?;
+    settle_nodes(declarer)?;
+    settle_methods(declarer)?;
+    declarer.has_definitions = true;
+    list_reveals(declarer)?;
+    declarer.eval.is_complete = true;
+    settle_names(declarer)
+}
+
+/// Tries the definition of each type once; those that lack something are settled behind that.
+fn attempt_nodes<'a>(declarer: &mut Declarer<'_, 'a>) -> Result<(), NoMemory> {
+    for place in 0..declarer.plans.len() {
+        if let Some(kind) = planned(declarer, place) {
+            attempt(declarer, Need::Node(kind))?;
+        }
+    }
+    Ok(())
+}
+
+fn settle_nodes<'a>(declarer: &mut Declarer<'_, 'a>) -> Result<(), NoMemory> {
+    for place in 0..declarer.plans.len() {
+        if let Some(kind) = planned(declarer, place) {
+            settle(declarer, Need::Node(kind))?;
+        }
+    }
+    Ok(())
+}
+
+fn settle_methods<'a>(declarer: &mut Declarer<'_, 'a>) -> Result<(), NoMemory> {
+    for place in 0..declarer.eval.drafts.len() {
+        if let Some(kind) = drafted(declarer, place) {
+            settle(declarer, Need::Methods(kind))?;
+        }
+    }
+    Ok(())
+}
+
+fn settle_names<'a>(declarer: &mut Declarer<'_, 'a>) -> Result<(), NoMemory> {
+    for place in 0..declarer.eval.program.binds.entities().len() {
+        let id = EntityId(place_number(place)?);
+        if let Some(need) = need_of(declarer, id) {
+            settle(declarer, need)?;
+        }
+    }
+    Ok(())
+}
+
+fn planned<'a>(declarer: &Declarer<'_, 'a>, place: usize) -> Option<TypeId> {
+    match declarer.plans.get_index(place) {
+        Some((kind, _)) => Some(*kind),
+        None => None,
+    }
+}
+
+fn drafted<'a>(declarer: &Declarer<'_, 'a>, place: usize) -> Option<TypeId> {
+    match declarer.eval.drafts.get_index(place) {
+        Some((kind, _)) => Some(*kind),
+        None => None,
+    }
+}
+
+/// The task that a name is.
+fn need_of<'a>(declarer: &Declarer<'_, 'a>, id: EntityId) -> Option<Need> {
+    let entity = declarer.eval.program.binds.entity(id)?;
+    match entity.kind {
+        EntityKind::Constant => Some(Need::Constant(id)),
+        EntityKind::Variable | EntityKind::Formal => match declarer.eval.declared.kind_of(id) {
+            Some(_) => None,
+            None => Some(Need::Kind(id)),
+        },
+        _ => None,
+    }
+}
+
+/// Does a task, and before it those that it lacks, over an explicit stack.
+fn settle<'a>(declarer: &mut Declarer<'_, 'a>, need: Need) -> Result<(), NoMemory> {
+    let mut stack = Vec::new(declarer.eval.alloc);
+    stack.push(need)?;
+    'tasks: for _ in 0..u64::MAX {
+        let Some(need) = stack.last().copied() else {
+            break 'tasks;
+        };
+        if declarer.eval.settled.contains(&need) || attempt(declarer, need)? {
+            stack.pop();
+            declarer.busy.swap_remove(&need);
+            continue 'tasks;
+        }
+        let place = stack.len().saturating_sub(1);
+        declarer.busy.insert(need, place)?;
+        push_lacks(declarer, &mut stack)?;
+    }
+    Ok(())
+}
+
+/// Puts what a task lacks onto the stack. Where this is a task below it, all between need
+/// themselves.
+fn push_lacks<'a>(declarer: &mut Declarer<'_, 'a>, stack: &mut Vec<Need>) -> Result<(), NoMemory> {
+    for place in 0..declarer.eval.lacks.len() {
+        if let Some(lacking) = declarer.eval.lacks.get(place).copied() {
+            if let Some(below) = declarer.busy.get(&lacking).copied() {
+                return refuse_cycle(declarer, stack, below);
+            }
+        }
+    }
+    for lacking in declarer.eval.lacks.iter().rev() {
+        stack.push(*lacking)?;
+    }
+    Ok(())
+}
+
+/// Refuses the tasks from a place of the stack on that are begun (rule 46).
+fn refuse_cycle<'a>(
+    declarer: &mut Declarer<'_, 'a>,
+    stack: &[Need],
+    below: usize,
+) -> Result<(), NoMemory> {
+    for (place, need) in stack.iter().enumerate() {
+        if place >= below && declarer.busy.get(need).copied() == Some(place) {
+            refuse_task(declarer, *need);
+            declarer.eval.settled.insert(*need)?;
+        }
+    }
+    Ok(())
+}
+
+fn refuse_task<'a>(declarer: &mut Declarer<'_, 'a>, need: Need) {
+    let at = match need {
+        Need::Constant(id) | Need::Kind(id) => declarer.place_of(id),
+        Need::Node(kind) | Need::Methods(kind) => match declarer.plans.get(&kind) {
+            Some(plan) => Some((plan.unit, plan.pos)),
+            None => None,
+        },
+    };
+    if let Some((unit, pos)) = at {
+        declarer.note(unit, pos, 46);
+    }
+}
+
+/// Tries a task once. Whether it is done; else it lacks what is listed, and what it kept is taken
+/// back.
+fn attempt<'a>(declarer: &mut Declarer<'_, 'a>, need: Need) -> Result<bool, NoMemory> {
+    declarer.eval.lacks.clear();
+    declarer.reasons.clear();
+    declarer.doubts.clear();
+    declarer.assumed.clear();
+    declarer.new_brands.clear();
+    declarer.new_values.clear();
+    let texts = declarer.eval.declared.texts.len();
+    let values = declarer.eval.declared.values.len();
+    let interned = declarer.interned.len();
+    match need {
+        Need::Constant(id) => make_constant(declarer, id)?,
+        Need::Kind(id) => make_kind(declarer, id)?,
+        Need::Node(kind) => make_node(declarer, kind)?,
+        Need::Methods(kind) => make_methods(declarer, kind)?,
+    }
+    if !declarer.has_all() {
+        declarer.eval.declared.texts.truncate(texts);
+        declarer.eval.declared.values.truncate(values);
+        declarer.interned.truncate(interned);
+        return Ok(false);
+    }
+    keep_notes(declarer)?;
+    declarer.eval.settled.insert(need)?;
+    Ok(true)
+}
+
+/// Keeps what a task noted.
+fn keep_notes<'a>(declarer: &mut Declarer<'_, 'a>) -> Result<(), NoMemory> {
+    note_reasons(declarer);
+    keep_all(
+        declarer.doubts.as_slice(),
+        &mut declarer.eval.declared.doubtful,
+    )?;
+    keep_all(declarer.assumed.as_slice(), &mut declarer.promises)?;
+    keep_all(declarer.new_brands.as_slice(), &mut declarer.brands)?;
+    keep_all(declarer.new_values.as_slice(), &mut declarer.values)
+}
+
+fn note_reasons<'a>(declarer: &mut Declarer<'_, 'a>) {
+    let unit = declarer.eval.unit;
+    for place in 0..declarer.reasons.len() {
+        if let Some(reason) = declarer.reasons.get(place).copied() {
+            declarer.note(unit, reason.pos, reason.rule);
+        }
+    }
+}
+
+fn keep_all<T: Copy>(noted: &[T], kept: &mut Vec<T>) -> Result<(), NoMemory> {
+    for item in noted {
+        kept.push(*item)?;
+    }
+    Ok(())
+}

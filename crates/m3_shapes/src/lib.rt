@@ -1,0 +1,22 @@
+//! Arrays, constants and defaults in middle code: the shapes of arrays and the addresses of their
+//! elements, new cells, and what stands in them at first.
+#![tactic(auto)]
+
+mod cells;
+mod constants;
+mod constructors;
+mod defaults;
+mod elements;
+mod shapes;
+
+pub use cells::{cell_defaults, copy_into_cell, make};
+pub use constants::{code_of, constant_words, first_member, set_word};
+pub use constructors::{field_type, filled, plan_constant, plan_open, row_words};
+pub use defaults::store_default;
+pub use elements::{
+    check_index, check_subarray, indexed, known_distance, limit_of, plan_element, subarray_address,
+};
+pub use shapes::{
+    Counting, check_equal, check_shape, dims_of, element_words, fitted, inner_element, new_sizes,
+    shape_of, total_words,
+};

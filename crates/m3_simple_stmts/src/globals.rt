@@ -1,0 +1,52 @@
+use m3_builder::{Around, Builder, Pending, Place, kind_of};
+use m3_core::{Chain, CoreExpr};
+use m3_exits::{Exits, global_place};
+use m3_lower_expr::{emit_chain, emit_value};
+use m3_plans::{plan_chain, plan_value, store_value};
+use m3_shapes::store_default;
+use m3_storage::number_of;
+
+/// Gives all global variables their defaults, and interface variables their constants.
+pub fn init_globals<'m>(
+    b: &mut Builder<'m, '_>,
+    around: Around<'m>,
+    rest: Pending<'m>,
+) -> Pending<'m> {
+    let mut code = rest;
+    let core = b.storage.core;
+    for (variable, global) in core.globals.iter().enumerate().rev() {
+        if let Some(initial) = global.initial {
+            let place = global_place(b, number_of(variable));
+            code = stored(b, around, initial, place, code);
+        }
+    }
+    for (variable, global) in core.globals.iter().enumerate().rev() {
+        let place = global_place(b, number_of(variable));
+        let kind = b.storage.type_of(global);
+        code = store_default(b, kind, place, true, code);
+    }
+    code
+}
+
+fn stored<'m>(
+    b: &mut Builder<'m, '_>,
+    around: Around<'m>,
+    e: &CoreExpr,
+    to: Place,
+    rest: Pending<'m>,
+) -> Pending<'m> {
+    let planned = plan_value(b, e);
+    let code = store_value(b, planned, kind_of(e), to, rest);
+    emit_value(b, around, e, planned, code)
+}
+
+/// A call as a statement.
+pub fn called<'m>(
+    b: &mut Builder<'m, '_>,
+    exits: Exits<'m>,
+    call: &Chain,
+    rest: Pending<'m>,
+) -> Pending<'m> {
+    plan_chain(b, call);
+    emit_chain(b, exits.around, call, rest)
+}

@@ -1,0 +1,88 @@
+use crate::assignments::{assign, call_statement, eval, give_back};
+use crate::bodies::Body;
+use crate::branches::{alternatives, choice, type_choice};
+use crate::exceptions::{attempt, raise};
+use crate::locks::locked;
+use crate::loops::{for_loop, plain_loop};
+use crate::procedures::block;
+use crate::withs::bound;
+use bumpalo::collections::into_bump_slice;
+use m3_base::NoMemory;
+use m3_core::CoreStmt;
+use m3_operands::Checker;
+use m3_syntax::Stmt;
+
+/// The checked statements of a row; those that were refused are left out.
+#[cycle(statements)]
+pub fn statements<'a>(
+    checker: &mut Checker<'_, 'a>,
+    body: &mut Body<'a>,
+    row: &[Stmt<'a>],
+) -> Result<&'a [CoreStmt<'a>], NoMemory> {
+    let mut checked = Vec::new(checker.arena);
+    for one in row {
+        if let Some(found) = statement(checker, body, one)? {
+            checked.push(found)?;
+        }
+    }
+    Ok(into_bump_slice(checked))
+}
+
+#[cycle(statements)]
+fn statement<'a>(
+    checker: &mut Checker<'_, 'a>,
+    body: &mut Body<'a>,
+    statement: &Stmt<'a>,
+) -> Result<Option<CoreStmt<'a>>, NoMemory> {
+    checker.steps.clear();
+    match statement {
+        Stmt::Assign { .. }
+        | Stmt::Call { .. }
+        | Stmt::Eval { .. }
+        | Stmt::Return { .. }
+        | Stmt::Raise { .. }
+        | Stmt::Exit { .. } => simple(checker, body, statement),
+        Stmt::Block(inner) => Ok(Some(block(checker, body, inner)?)),
+        Stmt::Case { .. } => choice(checker, body, statement),
+        Stmt::TypeCase { .. } => type_choice(checker, body, statement),
+        Stmt::If { .. } => alternatives(checker, body, statement),
+        Stmt::Lock { .. } => locked(checker, body, statement),
+        Stmt::With { .. } => bound(checker, body, statement),
+        Stmt::For { .. } => for_loop(checker, body, statement),
+        Stmt::Loop { .. } | Stmt::While { .. } | Stmt::Repeat { .. } => {
+            plain_loop(checker, body, statement)
+        }
+        Stmt::TryExcept { .. } | Stmt::TryFinally { .. } => attempt(checker, body, statement),
+    }
+}
+
+/// A statement without statements in it.
+fn simple<'a>(
+    checker: &mut Checker<'_, 'a>,
+    body: &Body<'a>,
+    statement: &Stmt<'a>,
+) -> Result<Option<CoreStmt<'a>>, NoMemory> {
+    match statement {
+        Stmt::Assign { pos, target, value } => assign(checker, *pos, target, value),
+        Stmt::Call {
+            pos,
+            callee,
+            parenthesis,
+            actuals,
+        } => call_statement(checker, *pos, callee, *parenthesis, actuals),
+        Stmt::Eval { pos, value } => eval(checker, *pos, value),
+        Stmt::Return { pos, value } => give_back(checker, body.result, *pos, *value),
+        Stmt::Raise {
+            pos,
+            exception,
+            argument,
+        } => raise(checker, *pos, exception, *argument),
+        Stmt::Exit { pos } => {
+            if body.loops == 0 {
+                checker.note(*pos, 71);
+            }
+            Ok(Some(CoreStmt::Exit { pos: *pos }))
+        }
+        _ => Ok(None),
+    }
+}
