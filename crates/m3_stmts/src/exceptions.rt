@@ -1,5 +1,5 @@
 use crate::bodies::{Body, NewVariable};
-use crate::statements::statements;
+use crate::sequences::statements;
 use bumpalo::collections::into_bump_slice;
 use m3_base::{NoMemory, Pos};
 use m3_core::{CoreExpr, CoreStmt, Handler as CoreHandler, Role, VarKind};

@@ -1,5 +1,5 @@
 use crate::bodies::Body;
-use crate::statements::statements;
+use crate::sequences::statements;
 use crate::withs::{Target, bind, target_of};
 use m3_base::{NoMemory, Pos};
 use m3_core::{

@@ -1,5 +1,5 @@
 use crate::bodies::{Body, NewVariable};
-use crate::statements::statements;
+use crate::sequences::statements;
 use bumpalo::collections::into_bump_slice;
 use m3_base::NoMemory;
 use m3_core::{Bound, CoreStmt, Role, VarKind, WithBinding};
