@@ -19,7 +19,7 @@ pub fn lower_proc<'m>(
     let Some(proc) = storage.proc(number) else {
         return Err(NoMemory);
     };
-    let mut b = Builder::new(alloc, arena, storage, number);
+    let mut b = Builder::new(alloc, arena, &*storage, number);
     declare(&mut b, proc);
     let exits = exits_of(&mut b, proc);
     let code = ending(&b, proc);
