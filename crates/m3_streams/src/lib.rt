@@ -4,8 +4,6 @@
 
 mod gathered;
 mod kept;
-#[cfg(test)]
-mod tests;
 
 pub use gathered::Gathered;
 pub use kept::Kept;

@@ -20,7 +20,7 @@ struct Call {
 }
 
 fn main(rt: HostRuntime) -> io::Result<ExitCode> {
-    let Ok(call) = call(&rt, rt.stdout(), rt.stderr()) else {
+    let Ok(call) = call_of(&rt, rt.stdout(), rt.stderr()) else {
         let told = StdSink::err(rt.stderr()).put(b"out of memory\n");
         return Ok(ExitCode::from(if told.is_ok() { 5 } else { 4 }));
     };
@@ -52,7 +52,7 @@ fn main(rt: HostRuntime) -> io::Result<ExitCode> {
 }
 
 /// The words and the streams, or want of memory.
-fn call<R: Env + Alloc<A = Global>>(rt: &R, out: Stdout, err: Stderr) -> Result<Call, NoMemory> {
+fn call_of<R: Env + Alloc<A = Global>>(rt: &R, out: Stdout, err: Stderr) -> Result<Call, NoMemory> {
     let alloc = rt.alloc();
     let words = match words(rt) {
         Ok(words) => words,
