@@ -11,25 +11,15 @@ use std::alloc::Global;
 
 /// The middle code of a procedure of the program, by its number. The module body that runs first
 /// gives all global variables their defaults and their constants before anything else.
-pub fn lower_proc<'m>(
-    alloc: Global,
-    arena: &'m Bump,
-    storage: &Storage<'_>,
-    number: u32,
-) -> Result<Proc<'m>, NoMemory> {
-    match storage.proc(number) {
-        Some(proc) => lower(alloc, arena, &*storage, proc, number),
-        None => Err(NoMemory),
-    }
-}
-
-fn lower<'m, 's>(
+pub fn lower_proc<'m, 's>(
     alloc: Global,
     arena: &'m Bump,
     storage: &'s Storage<'s>,
-    proc: &ProcDef,
     number: u32,
 ) -> Result<Proc<'m>, NoMemory> {
+    let Some(proc) = storage.proc(number) else {
+        return Err(NoMemory);
+    };
     let mut b = Builder::new(alloc, arena, storage, number);
     let code = whole_code(&mut b, proc);
     b.finish(code, storage.room(number).formals)
@@ -47,8 +37,8 @@ fn whole_code<'m>(b: &mut Builder<'m, '_>, proc: &ProcDef) -> Pending<'m> {
 
 /// The first values of the global variables, before the body that runs first.
 fn first_globals<'m>(b: &mut Builder<'m, '_>, exits: Exits<'m>, code: Pending<'m>) -> Pending<'m> {
-    if b.storage.core.order.first() == Some(&b.number) {
-        return init_globals(b, exits.around, code);
+    match b.storage.core.order.first() {
+        Some(first) if *first == b.number => init_globals(b, exits.around, code),
+        _ => code,
     }
-    code
 }
