@@ -88,7 +88,10 @@ pub fn compile(
         Err(refused) => return Err(refuse(alloc, sources, refused)),
     };
     let schedule = schedule_of(alloc, switches)?;
-    match build(alloc, &core) {
+    let Ok(core) = arena.try_alloc(core) else {
+        return Err(Err(Refusal::NO_MEMORY));
+    };
+    match build(alloc, arena, &*core) {
         Ok(image) => Ok((image, schedule)),
         Err(_) => Err(Err(Refusal::NO_MEMORY)),
     }
