@@ -4,6 +4,7 @@ ghost use Rattle.m3_image.specs.Images.{read_of};
 
 use crate::code::{Code, code_of};
 use bumpalo::Bump;
+use bumpalo::collections::into_bump_slice;
 use m3_base::{NoMemory, gap};
 use m3_core::Core;
 use m3_emit::Places;
@@ -31,10 +32,12 @@ fn program_parts<'a>(
     arena: &'a Bump,
     core: &'a Core<'a>,
 ) -> Result<ImageParts, NoMemory> {
-    let Ok(storage) = arena.try_alloc(Storage::of(alloc, core)?) else {
-        return Err(NoMemory);
-    };
-    parts_in(alloc, &*storage)
+    let mut kept = Vec::new(arena);
+    kept.push(Storage::of(alloc, core)?)?;
+    match into_bump_slice(kept) {
+        [storage, ..] => parts_in(alloc, storage),
+        [] => Err(NoMemory),
+    }
 }
 
 fn parts_in<'a>(alloc: Global, storage: &'a Storage<'a>) -> Result<ImageParts, NoMemory> {
