@@ -2,9 +2,11 @@
 ghost use Rattle.std.specs.Prelude.{◌≡◌, ◌<◌, true, length, All};
 
 use bumpalo::Bump;
+use bumpalo::collections::into_bump_slice;
 use m3_assembly::build;
 use m3_base::{Entry, NoMemory, Refusal as Broken, Refused, Source, rule_text};
 use m3_checker::check;
+use m3_core::Core;
 use m3_image_commands::{Answer, Refusal, schedule_of};
 use std::alloc::{AllocError, Global};
 
@@ -68,6 +70,16 @@ fn copies<'a>(
     Ok(copies)
 }
 
+/// The image of a checked program, which goes to the arena.
+fn image_of<'a>(alloc: Global, arena: &'a Bump, core: Core<'a>) -> Result<Vec<u8>, NoMemory> {
+    let mut kept = Vec::new(arena);
+    kept.push(core)?;
+    match into_bump_slice(kept) {
+        [core, ..] => build(alloc, arena, core),
+        [] => Err(NoMemory),
+    }
+}
+
 /// The image of a program, and the schedule of a switch file, whose lines are read once the sources
 /// are accepted.
 pub fn compile(
@@ -88,10 +100,7 @@ pub fn compile(
         Err(refused) => return Err(refuse(alloc, sources, refused)),
     };
     let schedule = schedule_of(alloc, switches)?;
-    let Ok(core) = arena.try_alloc(core) else {
-        return Err(Err(Refusal::NO_MEMORY));
-    };
-    match build(alloc, arena, &*core) {
+    match image_of(alloc, arena, core) {
         Ok(image) => Ok((image, schedule)),
         Err(_) => Err(Err(Refusal::NO_MEMORY)),
     }
