@@ -1,5 +1,0 @@
-//! The tests of m3_machine.
-#![tactic(auto)]
-
-#[cfg(test)]
-mod tests;
