@@ -276,7 +276,9 @@ impl<'m, 's> Builder<'m, 's> {
 
     /// Makes a block of the code, unless it only goes on at another one, which is told then.
     pub fn seal(&mut self, code: Pending<'m>) -> u32 {
-        if let (true, End::Goto(block)) = (code.ops.is_empty(), code.end) {
+        // Code that isn't whole may have lost its operations.
+        let is_bare = code.is_whole && code.ops.is_empty();
+        if let (true, End::Goto(block)) = (is_bare, code.end) {
             return block;
         }
         let block = self.block(code);
