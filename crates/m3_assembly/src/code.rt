@@ -128,7 +128,7 @@ struct Compiled {
     frame: u32,
 }
 
-fn compiled(
+fn compile(
     alloc: Global,
     storage: &Storage,
     constants: &Constants,
@@ -162,7 +162,7 @@ pub fn code_of(
     code.add_thread(alloc)?;
     for number in 0..storage.core.procs.len() {
         let number = place_number(number)?;
-        code.add_proc(compiled(alloc, storage, constants, places, number)?)?;
+        code.add_proc(compile(alloc, storage, constants, places, number)?)?;
     }
     Ok(code)
 }
