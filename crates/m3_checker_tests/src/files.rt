@@ -1,7 +1,7 @@
-use crate::answers::{copies, told};
 use bumpalo::Bump;
 use m3_base::{Refused, Source, rule_text};
 use m3_checker::check;
+use m3_checker_trial::{copies, told};
 use std::alloc::{AllocError, Global};
 use std::rt::Files;
 use std::{fs, io};

@@ -1,18 +1,15 @@
 //! Tries the types and constants of programs on files of cases, which the arguments name. A case
 //! is a title behind `== `, its files behind `--- NAME`, and behind `>>> ` what they give: `ok`,
 //! the least refusal as `FILE:LINE:COLUMN: rule N`, or `doubtful FILE:LINE:COLUMN` with the first
-//! constant that breaks a rule of expressions. Cases that come out otherwise are shown. The word
-//! `large` in place of a file tries programs at their real sizes. The word `build`, a name and files
-//! behind it print the refusal of these files alone.
+//! constant that breaks a rule of expressions. Cases that come out otherwise are shown. The word `build`, a
+//! name and files behind it print the refusal of these files alone.
 #![tactic(auto)]
 
 mod cases;
-mod large;
-mod programs;
+mod files;
 
 use cases::try_cases;
-use large::try_large;
-use programs::build;
+use files::build;
 use std::process::ExitCode;
 use std::rt::{Env, Files};
 use std::{env, fs, io};
@@ -29,12 +26,8 @@ fn run(rt: &(impl Print + Eprint + Env + Files + AllocGlobal)) -> io::Result<Exi
     }
     for word in &words {
         let name = word.as_str();
-        let tally = if name == "large" {
-            try_large(rt)?
-        } else {
-            let content = fs::read_to_string(rt, name)?;
-            try_cases(rt, content.as_str())?
-        };
+        let content = fs::read_to_string(rt, name)?;
+        let tally = try_cases(rt, content.as_str())?;
         let cases = tally.cases;
         let differing = tally.differing;
         println!(rt; "{name}: {cases} cases, {differing} come out otherwise")?;

@@ -1,7 +1,5 @@
-//! The tests of m3_image_commands: small images, built by hand, run and refused.
+//! The tests of m3_image_commands: the smallest image, changed, is run and refused.
 #![tactic(auto)]
 
-#[cfg(test)]
-mod images;
 #[cfg(test)]
 mod tests;

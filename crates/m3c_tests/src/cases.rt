@@ -33,6 +33,8 @@ pub struct Case {
     pub out: Option<&'static [u8]>,
     /// How the line on err begins; all of it where it ends in a line feed.
     pub line: &'static [u8],
+    /// How the line on err ends.
+    pub ending: &'static [u8],
 }
 
 /// What most programs have.
@@ -46,4 +48,5 @@ pub const DONE: Case = Case {
     status: 0,
     out: Some(b""),
     line: b"done ",
+    ending: b"\n",
 };

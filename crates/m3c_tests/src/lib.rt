@@ -4,6 +4,8 @@
 #[cfg(test)]
 mod cases;
 #[cfg(test)]
+mod dumps;
+#[cfg(test)]
 mod programs;
 #[cfg(test)]
 mod refusals;

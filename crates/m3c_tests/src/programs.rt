@@ -102,6 +102,7 @@ fn run_case(rt: &(impl Abort + AllocGlobal), case: &Case) -> Result<(), Fail> {
         assert_eq!(rt; answer.out.bytes(), out, "{}", case.what);
     }
     assert!(rt; answer.err.bytes().starts_with(case.line), "{}", case.what);
+    assert!(rt; answer.err.bytes().ends_with(case.ending), "{}", case.what);
     Ok(())
 }
 
@@ -132,7 +133,7 @@ fn programs_are_refused(rt: HostRuntime) -> Result<(), Fail> {
 // A shelf with a program that says hello.
 fn hello(alloc: Global) -> Result<MemShelf, Fail> {
     let mut shelf = MemShelf::new(alloc)?;
-    let text = b"MODULE Main; IMPORT IO; BEGIN IO.Put(\"hello\") END Main.";
+    let text = b"MODULE Main; IMPORT IO; BEGIN IO.Put(\"Hello, World!\\n\") END Main.";
     shelf.store(alloc, "Main.m3", text)?;
     Ok(shelf)
 }
@@ -147,7 +148,7 @@ fn an_image_is_built_and_runs(rt: HostRuntime) -> Result<(), Fail> {
     let words = some_words(rt.alloc(), &["run", "a.img"])?;
     let run = carry_out(rt.alloc(), words, &mut shelf, 0)?;
     assert_eq!(&rt; run.status, 0);
-    assert_eq!(&rt; run.out.bytes(), b"hello".as_slice());
+    assert_eq!(&rt; run.out.bytes(), b"Hello, World!\n".as_slice());
     assert_eq!(&rt; run.image.as_slice(), built.image.as_slice());
     let words = some_words(rt.alloc(), &["exec", "Main.m3"])?;
     let exec = carry_out(rt.alloc(), words, &mut shelf, 0)?;
@@ -208,6 +209,29 @@ fn a_store_fails(rt: HostRuntime) -> Result<(), Fail> {
     let answer = carry_out(rt.alloc(), words, &mut shelf, 0)?;
     assert_eq!(&rt; answer.status, 4);
     assert_eq!(&rt; answer.err.bytes(), b"write fault\n".as_slice());
+    Ok(())
+}
+
+#[test]
+fn the_first_put_fails(rt: HostRuntime) -> Result<(), Fail> {
+    let mut shelf = hello(rt.alloc())?;
+    let words = some_words(rt.alloc(), &["exec", "Main.m3"])?;
+    let answer = carry_out(rt.alloc(), words, &mut shelf, 1)?;
+    assert_eq!(&rt; answer.status, 4);
+    assert!(&rt; answer.out.bytes().is_empty());
+    assert_eq!(&rt; answer.err.bytes(), b"write fault\n".as_slice());
+    Ok(())
+}
+
+#[test]
+fn a_full_stack_leaves_what_was_put(rt: HostRuntime) -> Result<(), Fail> {
+    let Some(case) = RUNS.iter().find(|case| case.status == 16) else {
+        return Err(Fail::new("no such case"));
+    };
+    let mut shelf = shelf_of(rt.alloc(), case)?;
+    let words = words_of(rt.alloc(), case)?;
+    let answer = carry_out(rt.alloc(), words, &mut shelf, 0)?;
+    assert!(&rt; answer.out.bytes().starts_with(b"x"));
     Ok(())
 }
 

@@ -2,7 +2,7 @@
 use crate::cases::{Case, DONE, File, Switches};
 
 /// The least broken rule, with its place.
-pub const REFUSALS: [Case; 15] = [
+pub const REFUSALS: [Case; 16] = [
     Case {
         what: "two types that differ in a field",
         text: b"MODULE Main;
@@ -101,6 +101,13 @@ BEGIN END Stack.",
         text: b"MODULE Main; (* (* *) BEGIN END Main.",
         status: 1,
         line: b"Main.m3:1:14: rule 2 open comment\n",
+        ..DONE
+    },
+    Case {
+        what: "an open comment alone",
+        text: b"(*",
+        status: 1,
+        line: b"Main.m3:1:1: rule 2 open comment\n",
         ..DONE
     },
     Case {

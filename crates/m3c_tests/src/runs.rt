@@ -22,6 +22,7 @@ BEGIN r.a[3] := 37; Bump(r.a[3]); IO.PutInt(r.a[3]) END Main.",
         switches: Switches::Lines(b"-\n-\n-\ng\n"),
         out: Some(b"42"),
         line: b"done points 5 instructions ",
+        ending: b" collections 1\n",
         ..DONE
     },
     Case {

@@ -133,6 +133,8 @@ fn commands_are_refused(rt: HostRuntime) -> Result<(), Fail> {
         2,
         usage,
     );
+    let words = ["exec", "--heap", "63", "Main.m3"];
+    refuses(&rt, &command(rt.alloc(), &words, b"", 0)?, 2, usage);
     refuses(&rt, &command(rt.alloc(), &["exec", ""], b"", 0)?, 2, usage);
     let absent = command(rt.alloc(), &["exec", "Nope.m3"], b"", 0)?;
     refuses(&rt, &absent, 6, b"absent Nope.m3\n");

@@ -145,6 +145,7 @@ END Main.",
         switches: Switches::Lines(b"-\n-\n-\n-\n-\n-\n1\n1\n"),
         status: 12,
         line: b"deadlock points 8 instructions ",
+        ending: b" collections 0\n",
         ..DONE
     },
     Case {

@@ -1,0 +1,6 @@
+use Rattle.std.proofs.Common.{◌<◌, All, length}
+use Rattle.m3_checker_trial.proofs.answers.copies.Given as goal
+
+-- the copies so far are short
+abbrev pub invariant-loop-source : goal.invariant-loop-source
+invariant-loop-source l = All (λ source. length source.text.now < 4294967295) l.copies.items

@@ -1,0 +1,21 @@
+use std::alloc::AllocError;
+
+/// Adds a number of four bytes, low byte first.
+pub fn add(bytes: &mut Vec<u8>, number: u32) -> Result<(), AllocError> {
+    bytes.extend_from_slice(&number.to_le_bytes())
+}
+
+/// Adds a list: the count of its numbers, and these.
+pub fn add_list(bytes: &mut Vec<u8>, numbers: &[u32]) -> Result<(), AllocError> {
+    add(bytes, numbers.len() as u32)?;
+    for number in numbers {
+        add(bytes, *number)?;
+    }
+    Ok(())
+}
+
+/// Adds a section: the count of its bytes, and these.
+pub fn add_section(bytes: &mut Vec<u8>, content: &[u8]) -> Result<(), AllocError> {
+    add(bytes, content.len() as u32)?;
+    bytes.extend_from_slice(content)
+}
