@@ -44,7 +44,9 @@ fn counts(dump: &str, head: &str) -> (u64, u64) {
         if line.starts_with("proc ") {
             is_inside = line.starts_with(head);
         } else if is_inside && line.starts_with("point") {
-            points = points.wrapping_add(u64::from(line.split_once(" r").is_some()));
+            if line.split_once(" r").is_some() {
+                points = points.wrapping_add(1);
+            }
         } else if is_inside {
             instructions = instructions.wrapping_add(1);
         }
