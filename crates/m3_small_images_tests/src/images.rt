@@ -1,6 +1,6 @@
 //! Images of two or three procedures, with the same types, globals, constants, places and exceptions in each.
 use crate::assembly::{Assembly, Row};
-use crate::bytes::{add, add_section};
+use crate::bytes::{add, add_count, add_section};
 use std::alloc::{AllocError, Global};
 
 const NONE: u32 = 4_294_967_295;
@@ -84,10 +84,10 @@ fn add_child(bytes: &mut Vec<u8>) -> Result<(), AllocError> {
 fn table_of(alloc: Global, rows: &[Row]) -> Result<Vec<u8>, AllocError> {
     let mut bytes = Vec::new(alloc);
     let mut all = Vec::new(alloc);
-    add(&mut bytes, rows.len() as u32)?;
+    add_count(&mut bytes, rows.len())?;
     for row in rows {
         add(&mut bytes, row.instruction)?;
-        add(&mut bytes, all.len() as u32)?;
+        add_count(&mut bytes, all.len())?;
         all.extend_from_slice(row.bytes.as_slice())?;
     }
     bytes.extend_from_slice(all.as_slice())?;

@@ -114,8 +114,8 @@ fn add_way(alloc: Global, bytes: &mut Vec<u8>, way: &str) -> Result<(), AllocErr
             subtracted.push(place)?;
         }
     }
-    bytes.push(added.len() as u8)?;
-    bytes.push(subtracted.len() as u8)?;
+    bytes.push(u8::try_from(added.len()).unwrap_or(u8::MAX))?;
+    bytes.push(u8::try_from(subtracted.len()).unwrap_or(u8::MAX))?;
     add_all(bytes, added.as_slice())?;
     add_all(bytes, subtracted.as_slice())
 }
