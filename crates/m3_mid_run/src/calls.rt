@@ -37,6 +37,7 @@ impl<'a> Machine<'a> {
                 pos,
                 ..
             } => {
+                self.may_go(service, operands)?;
                 self.pass_point()?;
                 let result = self.serve(service, operands, pos)?;
                 match to {

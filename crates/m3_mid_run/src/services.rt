@@ -141,23 +141,31 @@ impl<'a> Machine<'a> {
         Ok(part)
     }
 
+    /// Whether the thread may go: a mutex that it holds already lets it wait for ever, and no point is
+    /// passed then.
+    pub(crate) fn may_go(&mut self, service: Service, operands: &[Operand]) -> Result<(), Stop> {
+        if service == Service::Acquire {
+            let cell = self.operand_at(operands, 0)?;
+            if let Some(mutex) = self.memory.mutex(cell)
+                && mutex.is_held
+            {
+                return Err(Stop::Deadlock);
+            }
+        }
+        Ok(())
+    }
+
     /// Takes a mutex, or gives it back.
     fn hold(&mut self, service: Service, operands: &[Operand], pos: Pos) -> Result<Word, Stop> {
         let cell = self.operand_at(operands, 0)?;
         let Some(mutex) = self.memory.mutex(cell) else {
             return Err(Stop::Stuck("no mutex"));
         };
-        match (service, mutex.is_held) {
-            (Service::Acquire, true) => Err(Stop::Deadlock),
-            (Service::Acquire, false) => {
-                mutex.is_held = true;
-                Ok(NOTHING)
-            }
-            (_, true) => {
-                mutex.is_held = false;
-                Ok(NOTHING)
-            }
-            (_, false) => Err(Stop::Fault(FaultKind::NotHeld, pos)),
+        let is_taken = service == Service::Acquire;
+        if !is_taken && !mutex.is_held {
+            return Err(Stop::Fault(FaultKind::NotHeld, pos));
         }
+        mutex.is_held = is_taken;
+        Ok(NOTHING)
     }
 }

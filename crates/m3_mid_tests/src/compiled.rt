@@ -1,6 +1,7 @@
 ghost use Rattle.std.specs.Prelude.{◌<◌, All, length};
 
 use bumpalo::Bump;
+use crate::orders::tested;
 use m3_base::{NoMemory, Refused, Source, fault_name, place_number};
 use m3_checker::check;
 use m3_core::Core;
@@ -10,7 +11,7 @@ use m3_lower_stmt::lower_proc;
 use m3_mid::Proc;
 use m3_mid_run::{CellType, Program, Stop, run};
 use m3_mid_text::Text;
-use m3_mid_valid::{Surroundings, broken_block, is_valid};
+use m3_mid_valid::{Surroundings, is_block, is_valid};
 use m3_storage::Storage;
 use std::alloc::Global;
 
@@ -84,12 +85,22 @@ fn broken(
     };
     for (number, proc) in procs.iter().enumerate() {
         if !is_valid(proc, &around) {
-            let place = broken_block(proc, &around).unwrap_or(0);
+            let place = first_broken(proc, &around);
             let text = Text(proc);
             return Ok(Some(format!(in alloc; "P{number} B{place}\n{text}")?));
         }
     }
     Ok(None)
+}
+
+/// The first block that isn't well formed, or how many there are where all are.
+fn first_broken(p: &Proc<'_>, around: &Surroundings<'_>) -> usize {
+    for (place, block) in p.blocks.iter().enumerate() {
+        if !is_block(p, around, block) {
+            return place;
+        }
+    }
+    p.blocks.len()
 }
 
 /// How a run ended, as the commands tell it.
@@ -163,15 +174,15 @@ fn run_core(alloc: Global, core: &Core<'_>, input: &[u8]) -> Result<Given, NoMem
 }
 
 /// Runs the program of some sources.
-pub fn run_sources(
+pub fn run_sources<'a>(
     alloc: Global,
-    sources: &[Source<'_>],
+    arena: &'a Bump,
+    sources: &[Source<'a>],
     input: &[u8],
 ) -> Result<Given, NoMemory>
     requires { All (λ source. length source.text.now < 4294967295) sources.now }
 {
-    let arena = Bump::new(alloc);
-    match check(alloc, &arena, sources) {
+    match check(alloc, arena, sources) {
         Ok(core) => run_core(alloc, &core, input),
         Err(Refused::NoMemory) => Err(NoMemory),
         Err(Refused::Rule(broken)) => {
@@ -182,30 +193,39 @@ pub fn run_sources(
     }
 }
 
-/// The middle code of a procedure by its name, as text.
-fn text_in(alloc: Global, core: &Core<'_>, name: &[u8]) -> Result<String, NoMemory> {
+/// The middle code of a procedure by its name, as text, or the order in which it tests for faults.
+fn code_in(
+    alloc: Global,
+    core: &Core<'_>,
+    name: &[u8],
+    is_order: bool,
+) -> Result<String, NoMemory> {
     let storage = Storage::of(alloc, core)?;
     let arena = Bump::new(alloc);
     for (number, proc) in core.procs.iter().enumerate() {
         if proc.name == name {
             let code = lower_proc(alloc, &arena, &storage, place_number(number)?)?;
+            if is_order {
+                return tested(alloc, &code);
+            }
             return Ok(format!(in alloc; "{}", Text(&code))?);
         }
     }
     Ok(String::new(alloc))
 }
 
-/// The middle code of a procedure of some sources, as text.
-pub fn text_of(
+/// The middle code of a procedure of some sources, as text, or the order in which it tests for faults.
+pub fn code_of<'a>(
     alloc: Global,
-    sources: &[Source<'_>],
+    arena: &'a Bump,
+    sources: &[Source<'a>],
     name: &[u8],
+    is_order: bool,
 ) -> Result<String, NoMemory>
     requires { All (λ source. length source.text.now < 4294967295) sources.now }
 {
-    let arena = Bump::new(alloc);
-    match check(alloc, &arena, sources) {
-        Ok(core) => text_in(alloc, &core, name),
+    match check(alloc, arena, sources) {
+        Ok(core) => code_in(alloc, &core, name, is_order),
         Err(_) => Ok(String::from_str(alloc, "refused")?),
     }
 }

@@ -1,18 +1,30 @@
-//! Runs programs as middle code. `run FILES` runs one, with the input from standard input, and puts what it
-//! put and how it ended; `text PROCEDURE FILES` puts a procedure as middle code.
+//! Tries what is lowered. Each procedure of each program has to be well formed, and what a program gives as
+//! middle code has to be what is wanted. Without words all tables are tried; `run FILES` runs a program, and
+//! `text PROCEDURE FILES` puts a procedure as middle code.
 #![tactic(auto)]
 
 ghost use Rattle.std.specs.Prelude.{◌<◌, All, length, IfOk, OnOk};
 
+mod cases;
 mod compiled;
+mod orders;
 
 use bumpalo::Bump;
-use compiled::{run_sources, text_of};
+use cases::{Table, Tally, try_orders, try_pairs};
+use compiled::{code_of, run_sources};
 use m3_base::Source;
 use std::rt::{Env, Files};
 use std::{env, fs, io};
 
-fn read<'a, R: Files + AllocGlobal>(rt: &R, arena: &'a Bump, name: &str) -> io::Result<Source<'a>> {
+fn out_of_memory() -> io::Error {
+    io::Error::from(io::ErrorKind::OutOfMemory)
+}
+
+fn read<'a, R: Files + AllocGlobal>(
+    rt: &R,
+    arena: &'a Bump,
+    name: &str,
+) -> io::Result<Source<'a>> {
     let text = fs::read(rt, name)?;
     let name = &*arena.try_alloc_slice_copy(name.as_bytes())?;
     let text = &*arena.try_alloc_slice_copy(text.as_slice())?;
@@ -48,14 +60,13 @@ fn read_all<'a, R: Files + AllocGlobal>(
     Ok(sources)
 }
 
-fn out_of_memory() -> io::Error {
-    io::Error::from(io::ErrorKind::OutOfMemory)
-}
-
-fn run_files<R: Print + Eprint + Files + AllocGlobal>(rt: &R, names: &[String], input: &[u8]) -> io::Result<()> {
+fn run_files<R: Print + Eprint + Files + AllocGlobal>(
+    rt: &R,
+    names: &[String],
+) -> io::Result<()> {
     let arena = Bump::new(rt.alloc());
     let sources = read_all(rt, &arena, names)?;
-    match run_sources(rt.alloc(), sources.as_slice(), input) {
+    match run_sources(rt.alloc(), &arena, sources.as_slice(), &[]) {
         Ok(given) => {
             let mut out = io::writer(rt);
             io::Write::write_all(&mut out, given.output.as_slice())?;
@@ -65,20 +76,74 @@ fn run_files<R: Print + Eprint + Files + AllocGlobal>(rt: &R, names: &[String], 
     }
 }
 
-fn put_text<R: Print + Files + AllocGlobal>(rt: &R, name: &str, names: &[String]) -> io::Result<()> {
+fn put_text<R: Print + Files + AllocGlobal>(
+    rt: &R,
+    name: &str,
+    names: &[String],
+) -> io::Result<()> {
     let arena = Bump::new(rt.alloc());
     let sources = read_all(rt, &arena, names)?;
-    match text_of(rt.alloc(), sources.as_slice(), name.as_bytes()) {
+    match code_of(rt.alloc(), &arena, sources.as_slice(), name.as_bytes(), false) {
         Ok(text) => print!(rt; "{text}"),
         Err(_) => Err(out_of_memory()),
     }
 }
 
-fn carry_out<R: Print + Eprint + Files + AllocGlobal>(rt: &R, words: &[String]) -> io::Result<()> {
+fn report<R: Print>(rt: &R, name: &str, tally: Tally, told: &str) -> io::Result<()> {
+    let (tried, differing) = (tally.cases, tally.differing);
+    println!(rt; "{name}: {tried} tried, {differing} differ")?;
+    print!(rt; "{told}")
+}
+
+/// Tries the cases of a table.
+fn try_table<R: Print + Files + AllocGlobal>(rt: &R, name: &str) -> io::Result<()> {
+    let text = fs::read_to_string(rt, name)?;
+    let mut told = String::new(rt.alloc());
+    let tally = match Table::of(rt.alloc(), text.as_str()) {
+        Ok(table) => table.try_all(rt.alloc(), &mut told),
+        Err(no_memory) => Err(no_memory),
+    };
+    match tally {
+        Ok(tally) => report(rt, name, tally, told.as_str()),
+        Err(_) => Err(out_of_memory()),
+    }
+}
+
+/// Tries the lines of a table in a frame: those of orders, or pairs of them.
+fn try_framed<R: Print + Files + AllocGlobal>(rt: &R, name: &str, frame: &str) -> io::Result<()> {
+    let frame = fs::read_to_string(rt, frame)?;
+    let table = fs::read_to_string(rt, name)?;
+    let mut told = String::new(rt.alloc());
+    let (frame, table) = (frame.as_str(), table.as_str());
+    let tally = if name == "orders" {
+        try_orders(rt.alloc(), frame, table, &mut told)
+    } else {
+        try_pairs(rt.alloc(), frame, table, &mut told)
+    };
+    match tally {
+        Ok(tally) => report(rt, name, tally, told.as_str()),
+        Err(_) => Err(out_of_memory()),
+    }
+}
+
+fn try_all<R: Print + Files + AllocGlobal>(rt: &R) -> io::Result<()> {
+    try_table(rt, "outcomes")?;
+    try_table(rt, "texts")?;
+    try_framed(rt, "orders", "orders-frame")?;
+    try_framed(rt, "pairs", "pairs-frame")
+}
+
+fn carry_out<R: Print + Eprint + Files + AllocGlobal>(
+    rt: &R,
+    words: &[String],
+) -> io::Result<()> {
     match words {
-        [_, mode, names @ ..] if mode.as_str() == "run" => run_files(rt, names, &[]),
-        [_, mode, name, names @ ..] if mode.as_str() == "text" => put_text(rt, name.as_str(), names),
-        _ => Ok(()),
+        [_, mode, names @ ..] if mode.as_str() == "run" => run_files(rt, names),
+        [_, mode, name, names @ ..] if mode.as_str() == "text" => {
+            put_text(rt, name.as_str(), names)
+        }
+        [_, mode, name] if mode.as_str() == "table" => try_table(rt, name.as_str()),
+        _ => try_all(rt),
     }
 }
 

@@ -1,92 +1,105 @@
-use crate::flow::{end_fits, op_fits};
-use crate::operands::{Surroundings, has_kind};
-use m3_mid::{AccessMark, Block, ForMark, Kind, MidOp, Proc, Slot};
+ghost use Rattle.std.specs.Prelude.{◌≡◌, ◌↔◌, ◌<◌, ◌≤◌, ℕ, [], IsTrue, length, All, slice_get, IsSomeAnd};
+ghost use Rattle.m3_mid_valid.specs.WellFormed.{IsOp, IsBlock, IsSlot, IsIndex, IsAccess, IsMark, IsWellFormed};
 
-fn ops_fit(p: &Proc, around: &Surroundings, ops: &[MidOp]) -> bool {
-    for op in ops {
-        if !op_fits(p, around, *op) {
+use crate::memory::has_slot_kind;
+use crate::operands::{Surroundings, has_kind};
+use crate::ops::{is_end, is_op};
+use m3_mid::{AccessMark, Block, ForMark, Kind, MidOp, Proc};
+
+/// Whether a block of a procedure is well formed.
+pub fn is_block(p: &Proc, around: &Surroundings, block: &Block) -> bool
+    ensures { IsTrue result ↔ IsBlock p.now around.now block.now }
+{
+    are_ops(p, around, block.ops) && is_end(p, around, block.end)
+}
+
+fn are_ops(p: &Proc, around: &Surroundings, ops: &[MidOp]) -> bool
+    ensures { IsTrue result ↔ All (IsOp p.now around.now) ops.now }
+{
+    ops.iter().all(|op| is_op(p, around, *op))
+}
+
+fn are_blocks(p: &Proc, around: &Surroundings, blocks: &[Block]) -> bool
+    ensures { IsTrue result ↔ All (IsBlock p.now around.now) blocks.now }
+{
+    blocks.iter().all(|block| is_block(p, around, block))
+}
+
+fn is_slot(p: &Proc, slot: usize) -> bool
+    requires { slot < length p.now.slots.now }
+    ensures { IsTrue result ↔ IsSlot p.now slot }
+{
+    has_slot_kind(p.slots, slot, Kind::Number)
+        || (has_slot_kind(p.slots, slot, Kind::Tidy)
+            || (slot + 1 < p.formals as usize && has_slot_kind(p.slots, slot + 1, Kind::Tidy)))
+}
+
+fn are_slots_well(p: &Proc) -> bool
+    ensures { IsTrue result ↔ ((s : ℕ) → s < length p.now.slots.now → IsSlot p.now s) }
+{
+    for slot in 0..p.slots.len() {
+        if !is_slot(p, slot) {
             return false;
         }
     }
     true
 }
 
-fn block_fits(p: &Proc, around: &Surroundings, block: &Block) -> bool {
-    ops_fit(p, around, block.ops) && end_fits(p, around, block.end)
+fn is_index(op: &MidOp) -> bool
+    ensures { IsTrue result ↔ IsIndex op.now }
+{
+    match op {
+        MidOp::Index { .. } => true,
+        _ => false,
+    }
 }
 
-/// Whether a slot of Kind Address is a formal's, and the one behind it holds its base.
-fn slot_fits(p: &Proc, place: usize, slot: &Slot) -> bool {
-    slot.kind != Kind::Address
-        || (place + 1 < p.formals as usize && has_slot_kind(p.slots, place + 1, Kind::Tidy))
-}
-
-fn has_slot_kind(slots: &[Slot], place: usize, kind: Kind) -> bool {
-    match slots.get(place) {
-        Some(slot) => slot.kind == kind,
+fn is_index_at(ops: &[MidOp], place: u32) -> bool
+    ensures { IsTrue result ↔ IsSomeAnd (slice_get ops.now place) IsIndex }
+{
+    match ops.get(place as usize) {
+        Some(op) => is_index(op),
         None => false,
     }
 }
 
-fn slots_fit(p: &Proc) -> bool {
-    for (place, slot) in p.slots.iter().enumerate() {
-        if !slot_fits(p, place, slot) {
-            return false;
-        }
-    }
-    p.formals as usize <= p.slots.len()
-}
-
-fn access_fits(p: &Proc, access: &AccessMark) -> bool {
-    let Some(block) = p.blocks.get(access.block as usize) else {
-        return false;
-    };
+fn is_access(p: &Proc, access: &AccessMark) -> bool
+    ensures { IsTrue result ↔ IsAccess p.now access.now }
+{
     has_kind(p.temps, access.array, Kind::Tidy)
-        && match block.ops.get(access.op as usize) {
-            Some(MidOp::Index { .. }) => true,
-            _ => false,
+        && match p.blocks.get(access.block as usize) {
+            Some(block) => is_index_at(block.ops, access.op),
+            None => false,
         }
 }
 
-fn accesses_fit(p: &Proc, accesses: &[AccessMark]) -> bool {
-    for access in accesses {
-        if !access_fits(p, access) {
-            return false;
-        }
-    }
-    true
+fn are_accesses(p: &Proc, accesses: &[AccessMark]) -> bool
+    ensures { IsTrue result ↔ All (IsAccess p.now) accesses.now }
+{
+    accesses.iter().all(|access| is_access(p, access))
 }
 
-fn mark_fits(p: &Proc, mark: &ForMark) -> bool {
+fn is_mark(p: &Proc, mark: &ForMark) -> bool
+    ensures { IsTrue result ↔ IsMark p.now mark.now }
+{
     (mark.before as usize) < p.blocks.len()
-        && (mark.turn as usize) < p.blocks.len()
-        && (mark.accesses.is_empty() || has_kind(p.temps, mark.index, Kind::Number))
-        && accesses_fit(p, mark.accesses)
+        && ((mark.turn as usize) < p.blocks.len()
+            && ((mark.accesses.len() == 0 || has_kind(p.temps, mark.index, Kind::Number))
+                && are_accesses(p, mark.accesses)))
 }
 
-fn marks_fit(p: &Proc) -> bool {
-    for mark in p.loops {
-        if !mark_fits(p, mark) {
-            return false;
-        }
-    }
-    true
+fn are_marks(p: &Proc, loops: &[ForMark]) -> bool
+    ensures { IsTrue result ↔ All (IsMark p.now) loops.now }
+{
+    loops.iter().all(|mark| is_mark(p, mark))
 }
 
-/// The first block that isn't well formed; none where all are.
-pub fn broken_block(p: &Proc, around: &Surroundings) -> Option<usize> {
-    for (place, block) in p.blocks.iter().enumerate() {
-        if !block_fits(p, around, block) {
-            return Some(place);
-        }
-    }
-    None
-}
-
-/// Whether a procedure is well formed.
-pub fn is_valid(p: &Proc, around: &Surroundings) -> bool {
-    slots_fit(p)
-        && (p.start as usize) < p.blocks.len()
-        && broken_block(p, around).is_none()
-        && marks_fit(p)
+/// Whether a procedure is well formed in its program.
+pub fn is_valid(p: &Proc, around: &Surroundings) -> bool
+    ensures { IsTrue result ↔ IsWellFormed p.now around.now }
+{
+    p.formals as usize <= p.slots.len()
+        && (are_slots_well(p)
+            && ((p.start as usize) < p.blocks.len()
+                && (are_blocks(p, around, p.blocks) && are_marks(p, p.loops))))
 }
