@@ -8,13 +8,26 @@ use m3_storage::{Storage, number_of};
 use m3_types::TypeId;
 use std::alloc::Global;
 
-/// What holds at every place in a scope: the variables that are shown at its points, and the block
-/// that goes on where an exception is raised.
+/// What holds at every place in a scope: which one it is, the variables that it shows beside those of
+/// the scope around it, and the block that goes on where an exception is raised.
 #[derive(Clone, Copy)]
 pub struct Around<'m> {
-    pub shown: &'m [Shown],
+    pub scope: u32,
+    pub own: &'m [Shown],
     pub raised: u32,
 }
+
+/// A scope: the one around it, and what it shows beside that one's. All that is shown at its points is
+/// one row, which is made at the first of them.
+#[derive(Clone, Copy)]
+struct Scope<'m> {
+    outer: u32,
+    own: &'m [Shown],
+    row: Option<&'m [Shown]>,
+}
+
+/// The scope around all others, which shows nothing.
+pub const NO_SCOPE: u32 = u32::MAX;
 
 /// A procedure in the making. Blocks are sealed when their code is known; one that is reached from
 /// behind is reserved and set once. Where memory runs out the builder has failed, and what it
@@ -35,6 +48,7 @@ pub struct Builder<'m, 's> {
     sizes: Vec<Operand>,
     /// What the chains that are planned and not put into code yet give, stage by stage.
     stages: Vec<Value>,
+    scopes: Vec<Scope<'m>>,
     /// How many slots hold variables; those behind them hold values for a while.
     pub named_slots: u32,
     /// The temporaries in which an exception travels.
@@ -65,6 +79,7 @@ impl<'m, 's> Builder<'m, 's> {
             slots: Vec::new(alloc),
             sizes: Vec::new(alloc),
             stages: Vec::new(alloc),
+            scopes: Vec::new(alloc),
             named_slots: storage.room(number).slots,
             raised: Raised {
                 exception: 0,
@@ -245,9 +260,57 @@ impl<'m, 's> Builder<'m, 's> {
         self.row(row)
     }
 
-    /// A row of shown variables in the arena.
-    pub fn shown_row(&mut self, row: &[Shown]) -> &'m [Shown] {
-        self.row(row)
+    /// A scope inside another, that shows more variables. The block for exceptions is the same.
+    pub fn scope(&mut self, around: Around<'m>, own: &[Shown]) -> Around<'m> {
+        let own = self.row(own);
+        let place = self.scopes.len();
+        let scope = Scope {
+            outer: around.scope,
+            own,
+            row: None,
+        };
+        if place >= NO_SCOPE as usize || self.scopes.push(scope).is_err() {
+            self.has_failed = true;
+        }
+        Around {
+            scope: number_of(place),
+            own,
+            raised: around.raised,
+        }
+    }
+
+    /// All variables that are shown at the points of a scope.
+    pub fn shown(&mut self, around: Around<'m>) -> &'m [Shown] {
+        if let Some(scope) = self.scopes.get(around.scope as usize)
+            && let Some(row) = scope.row
+        {
+            return row;
+        }
+        let row = self.all_shown(around.scope);
+        let row = self.row(row.as_slice());
+        if let Some(scope) = self.scopes.get_mut(around.scope as usize) {
+            scope.row = Some(row);
+        }
+        row
+    }
+
+    /// The variables of a scope and of those around it, the outermost first.
+    fn all_shown(&mut self, scope: u32) -> Vec<Shown> {
+        let mut all = Vec::new(self.alloc);
+        let mut at = scope;
+        for _ in 0..self.scopes.len() {
+            let Some(scope) = self.scopes.get(at as usize).copied() else {
+                break;
+            };
+            for shown in scope.own.iter().rev() {
+                if all.push(*shown).is_err() {
+                    self.has_failed = true;
+                }
+            }
+            at = scope.outer;
+        }
+        all.reverse();
+        all
     }
 
     fn row<T: Copy>(&mut self, items: &[T]) -> &'m [T] {

@@ -9,7 +9,7 @@ mod pending;
 mod places;
 mod values;
 
-pub use builder::{Around, Builder};
+pub use builder::{Around, Builder, NO_SCOPE};
 pub use copies::{
     clear, cleared, cleared_value, cleared_word, copy_row, copy_words, load_words, set, slots_of,
     store_words, zero_words,

@@ -1,7 +1,7 @@
 use crate::exits::{Exits, Outcome, Returning};
 use crate::scopes::showing;
 use m3_base::FaultKind;
-use m3_builder::{Around, Builder, Location, Pending, Place, choice, kind_of_form};
+use m3_builder::{Around, Builder, Location, NO_SCOPE, Pending, Place, choice, kind_of_form};
 use m3_core::{ProcDef, VarDef, VarKind};
 use m3_mid::{End, Kind, MemoryWord, MidOp, Operand, Raised, Relation};
 use m3_shapes::dims_of;
@@ -144,7 +144,11 @@ pub fn exits_of<'m>(b: &mut Builder<'m, '_>, proc: &ProcDef) -> Exits<'m> {
     let outcome = outcome_of(b, proc);
     let raised = left_by_exception(b, proc);
     let exits = Exits {
-        around: Around { shown: &[], raised },
+        around: Around {
+            scope: NO_SCOPE,
+            own: &[],
+            raised,
+        },
         exit: raised,
         returning: Returning::Ends,
         outcome,

@@ -77,13 +77,14 @@ fn concatenated<'m>(
     pos: Pos,
 ) -> MidOp<'m> {
     let operands = b.operand_row(&[left.word(), right.word()]);
+    let shown = b.shown(around);
     MidOp::Service {
         service: Service::Concatenate,
         operands,
         to: Some(temp_in(target.word())),
         raised: None,
         pos,
-        shown: around.shown,
+        shown,
     }
 }
 

@@ -115,9 +115,8 @@ pub fn action<'m>(
         }
         _ => {
             let code = computed(b, call, x, y, operands, target, rest);
-            let code = code.after(MidOp::Point {
-                shown: around.shown,
-            });
+            let shown = b.shown(around);
+            let code = code.after(MidOp::Point { shown });
             check_byte_index(b, call, x, y, code)
         }
     }

@@ -70,13 +70,14 @@ pub fn serve<'m>(
         (code, None)
     };
     let operands = b.operand_row(operands);
+    let shown = b.shown(around);
     code.after(MidOp::Service {
         service,
         operands,
         to: result,
         raised,
         pos: call.pos,
-        shown: around.shown,
+        shown,
     })
 }
 

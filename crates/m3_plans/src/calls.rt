@@ -124,12 +124,13 @@ pub fn call_with<'m>(
         None => code,
     };
     let actuals = row_of_call(b, passed, buffer);
+    let shown = b.shown(around);
     let code = code.after(MidOp::Call {
         callee,
         actuals,
         result: word,
         raised,
-        shown: around.shown,
+        shown,
     });
     let code = match buffer {
         Some((to, slot)) => code.after(MidOp::SlotAddress { to, slot }),

@@ -20,12 +20,13 @@ pub fn make<'m>(
         b.fail();
         return rest;
     };
+    let shown = b.shown(around);
     if sizes.is_empty() {
         return rest.after(MidOp::Make {
             to,
             cell,
             sizes: None,
-            shown: around.shown,
+            shown,
         });
     }
     let first = b.result_slots(number_of(sizes.len()));
@@ -33,7 +34,7 @@ pub fn make<'m>(
         to,
         cell,
         sizes: Some(first),
-        shown: around.shown,
+        shown,
     });
     for (dim, size) in sizes.iter().enumerate() {
         code = code.after(MidOp::Store {
