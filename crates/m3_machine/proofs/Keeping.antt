@@ -12,3 +12,9 @@ unfolding counts
 still-counted all new n k h =
     let e : new.forks + new.waits ≡ all.forks + all.waits = ap counts k.rest in
     omega arith
+
+pub same-forks : (all new : Everyone) → KeepsStacks all new → new.forks ≡ all.forks
+same-forks all new k = ap (λ (a : Everyone). a.forks) k.rest
+
+pub same-waits : (all new : Everyone) → KeepsStacks all new → new.waits ≡ all.waits
+same-waits all new k = ap (λ (a : Everyone). a.waits) k.rest

@@ -33,8 +33,10 @@ fn kind_of(number: u8) -> Option<FaultKind> {
 impl<'a, S: Store> Machine<'a, S> {
     /// The word in a register of the running thread.
     pub(crate) fn word(&self, n: u8) -> u64 {
-        let regs = self.regs();
-        if n < 16 { regs.r[n as usize] } else { 0 }
+        match self.memory.threads.regs(self.running) {
+            Some(regs) if n < 16 => regs.r[n as usize],
+            _ => 0,
+        }
     }
 
     /// The running thread goes on to its next instruction.
@@ -89,8 +91,7 @@ impl<'a, S: Store> Machine<'a, S> {
 
     /// Carries out the running thread's instruction, whatever it is but plain.
     pub(crate) fn act<O: Sink>(&mut self, out: &mut O) -> Result<Progress, SinkFailed> {
-        let pc = self.regs().pc;
-        let Some(i) = self.image.fetch(pc) else {
+        let Some(i) = self.image.fetch(self.pc()) else {
             return Ok(Progress::trap(1));
         };
         let i = *i;

@@ -8,6 +8,7 @@ mod cells;
 mod inputs;
 mod machine;
 mod memory;
+mod near;
 mod outside;
 mod plain;
 mod points;

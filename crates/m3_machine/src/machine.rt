@@ -93,6 +93,14 @@ impl<'a, S: Store> Machine<'a, S> {
         }
     }
 
+    /// The instruction that the running thread stands at.
+    pub(crate) fn pc(&self) -> u32 {
+        match self.memory.threads.regs(self.running) {
+            Some(regs) => regs.pc,
+            None => 0,
+        }
+    }
+
     /// Sets the word at an address, if it can be set.
     pub(crate) fn set_word(&mut self, at: u64, word: u64) {
         let _is_set = self.memory.store(at, word);

@@ -71,8 +71,7 @@ impl<'a, S: Store> Machine<'a, S> {
 
     /// The running thread stands at the instruction that it has come to.
     pub(crate) fn stand(&mut self) {
-        let pc = self.regs().pc;
-        let Some(i) = self.image.fetch(pc) else {
+        let Some(i) = self.image.fetch(self.pc()) else {
             return;
         };
         let i = *i;

@@ -1,9 +1,11 @@
 use crate::machine::Machine;
+use crate::near::{Place, Stack};
 use crate::plain::Halt;
 use crate::progress::Progress;
 use crate::strides::{Pace, stride};
 use m3_base::{Entry, Outcome};
 use m3_heap::Store;
+use m3_isa::Op;
 use m3_ports::{Sink, SinkFailed};
 
 /// Past its last entry a schedule names no thread and asks for no collection.
@@ -24,42 +26,55 @@ fn later_entries(entries: &[Entry]) -> &[Entry] {
     }
 }
 
+/// Whether a thread that stands at such an instruction may have to wait.
+fn may_wait(op: Op) -> bool {
+    match op {
+        Op::Acq | Op::Join | Op::Ajoin => true,
+        _ => false,
+    }
+}
+
 impl<'a, S: Store> Machine<'a, S> {
     /// How many instructions a turn may have.
     fn turn_limit(&self) -> u64 {
         (self.stack + 1) * u64::from(self.image.image().code_len())
     }
 
-    /// Goes on with the running thread, as far as nothing else may go or happen between its instructions.
+    /// Goes on with the running thread, as far as nothing has to be chosen or done between its instructions.
     fn go_far(&mut self, pace: &mut Pace) -> (Halt, u64) {
         let mut regs = self.regs();
+        let mut at = Place {
+            pc: regs.pc,
+            fp: regs.fp,
+        };
         let points = pace.points;
-        let (halt, count) = stride(
-            &self.image,
-            &mut regs.r,
-            &mut regs.pc,
-            &mut regs.fp,
-            &mut self.memory,
-            pace,
-        );
+        let (halt, count) = stride(&self.image, &mut regs.r, &mut at, &mut self.memory, pace);
+        regs.pc = at.pc;
+        regs.fp = at.fp;
         self.set_regs(regs);
         self.points = self.points.wrapping_add(points.wrapping_sub(pace.points));
         self.instructions = self.instructions.wrapping_add(u128::from(count));
         (halt, count)
     }
 
-    /// What follows once no plain instruction is left to go: the turn is over at a point instruction, or it goes
-    /// on with an instruction that isn't plain, if there is one and so many may still be executed.
-    fn settle(&mut self, left: u64) -> Progress {
-        let pc = self.regs().pc;
-        let Some(i) = self.image.fetch(pc) else {
+    /// What follows where the running thread has come to an instruction that the machine has to look at: the turn is
+    /// over at a point instruction, and the next begins at once where no choice is left; or it goes on, if so many
+    /// instructions may still be executed.
+    fn settle(&mut self, pace: &mut Pace) -> Progress {
+        let Some(i) = self.image.fetch(self.pc()) else {
             return Progress::trap(1);
         };
         if i.op.is_point() {
-            self.stand();
-            return Progress::Rests;
+            if pace.points == 0 || may_wait(i.op) {
+                self.stand();
+                return Progress::Rests;
+            }
+            self.points = self.points.wrapping_add(1);
+            pace.points -= 1;
+            pace.left = pace.limit;
+            return Progress::Goes;
         }
-        if left == 0 {
+        if pace.left == 0 {
             return Progress::trap(8);
         }
         Progress::Goes
@@ -73,8 +88,10 @@ impl<'a, S: Store> Machine<'a, S> {
             None => 0,
         };
         Pace {
-            base,
-            stack: self.stack,
+            stack: Stack {
+                base,
+                words: self.stack,
+            },
             limit,
             left: limit,
             points,
@@ -98,8 +115,8 @@ impl<'a, S: Store> Machine<'a, S> {
             if let Halt::Trapped(n) = halt {
                 return Ok(Progress::trap(n));
             }
-            progress = self.settle(pace.left);
-            if progress == Progress::Goes && halt != Halt::Used {
+            progress = self.settle(pace);
+            if progress == Progress::Goes {
                 progress = self.act(out)?;
                 pace.left = pace.left.saturating_sub(1);
                 spent += 1;

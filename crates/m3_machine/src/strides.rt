@@ -1,119 +1,256 @@
 //! A thread's instructions one after another, over points too where nothing else may go between them.
-ghost use Rattle.std.specs.Prelude.{◌≤◌};
+ghost use Rattle.std.specs.Prelude.{◌≡◌, ◌≤◌, ℕ, true, Some, List, length, slice_get};
+ghost use Rattle.m3_heap.specs.Shapes.{Shape};
+ghost use Rattle.m3_isa.specs.Instructions.{IsInstruction};
+ghost use Rattle.m3_isa.specs.declared.instructions.Instr.{Instr as Instruction};
 
+use crate::memory::Memory;
+use crate::near::{Place, Stack, callee_of, enter, give, leave, tell_of_type};
+use crate::outside::Outside;
 use crate::plain::Halt;
 use m3_decoded::Decoded;
-use m3_isa::{Instr, Op, Step, Words, carry_out};
+use m3_heap::Store;
+use m3_isa::{Instr, Op, Step, carry_out};
 
 // After so many instructions the counts are added up.
-const MOST: u64 = 1 << 32;
+const MOST: u64 = 1 << 62;
 
 /// Where a thread's stack is, and what is left: of the instructions that a turn may have, those of this turn, and
 /// the points that may be passed without a choice.
 #[derive(Clone, Copy, Debug)]
 pub(crate) struct Pace {
-    pub(crate) base: u64,
-    pub(crate) stack: u64,
+    pub(crate) stack: Stack,
     pub(crate) limit: u64,
     pub(crate) left: u64,
     pub(crate) points: u64,
 }
 
-/// Enters a callee's frame, if the callee is there and the stack has the words.
-fn enter<W: Words>(
+/// What falls by one with each instruction, and where it is when the turn may have no more; and the points that
+/// may be passed without a choice.
+#[derive(Clone, Copy, Debug)]
+struct Fuel {
+    left: u64,
+    floor: u64,
+    limit: u64,
+    points: u64,
+}
+
+impl Fuel {
+    fn of(pace: &Pace) -> Fuel {
+        Fuel {
+            left: MOST,
+            floor: MOST.saturating_sub(pace.left),
+            limit: pace.limit,
+            points: pace.points,
+        }
+    }
+
+    /// Whether one point more may be passed without a choice, and the counts needn't be added up first.
+    #[inline(always)]
+    fn may_pass(&self) -> bool
+        ensures points { result ≡ true → 1 ≤ self.now.points }
+        ensures left { result ≡ true → self.now.limit ≤ self.now.left }
+    {
+        self.points > 0 && self.left >= self.limit
+    }
+
+    /// A turn is over and the next begins, if there is a place to go to.
+    #[inline(always)]
+    fn pass(&mut self, next: Option<Place>) -> Option<Place>
+        requires points { 1 ≤ self.old.points }
+        requires left { self.old.limit ≤ self.old.left }
+        ensures left { self.new.left ≡ self.old.left }
+        ensures next { result ≡ next }
+    {
+        if next.is_some() {
+            self.points -= 1;
+            self.floor = self.left - self.limit;
+        }
+        next
+    }
+}
+
+/// NEW, where the heap has the words.
+fn make_near<S: Store>(
+    image: &Decoded<'_>,
+    i: Instr,
+    r: &mut [u64; 16],
+    at: Place,
+    outside: &mut Outside<S>,
+) -> Option<Place>
+    ensures words { length outside.new.globals.items ≡ length outside.old.globals.items }
+    ensures fitting { (shapes : List Shape) → S.fits outside.old.heap.store shapes → S.fits outside.new.heap.store shapes }
+{
+    let kind = i.imm.cast_unsigned();
+    let shape = image.shape(kind)?;
+    if shape.kind() != 0 {
+        return None;
+    }
+    let cell = outside.allocate(kind, u64::from(shape.words()).max(1))?;
+    Some(give(r, i.a, cell, at))
+}
+
+/// CALL, CALLR and CALLM.
+#[inline(always)]
+fn call<S: Store>(
+    image: &Decoded<'_>,
+    i: Instr,
+    r: &[u64; 16],
+    at: Place,
+    memory: &mut Memory<S>,
+    stack: Stack,
+) -> Option<Place>
+    ensures forks { memory.new.threads.forks ≡ memory.old.threads.forks }
+    ensures waits { memory.new.threads.waits ≡ memory.old.threads.waits }
+    ensures words { length memory.new.outside.globals.items ≡ length memory.old.outside.globals.items }
+    ensures fitting { (shapes : List Shape) → S.fits memory.old.outside.heap.store shapes → S.fits memory.new.outside.heap.store shapes }
+{
+    let number = if i.op == Op::Call {
+        i.imm.cast_unsigned()
+    } else {
+        callee_of(image, i, r, at, memory)?
+    };
+    enter(image, number, at, memory, stack)
+}
+
+/// A plain instruction.
+#[inline(always)]
+fn go_plainly<S: Store>(
+    i: &Instr,
+    r: &mut [u64; 16],
+    at: &mut Place,
+    memory: &mut Memory<S>,
+) -> Step
+    requires { IsInstruction i.now }
+    ensures forks { memory.new.threads.forks ≡ memory.old.threads.forks }
+    ensures waits { memory.new.threads.waits ≡ memory.old.threads.waits }
+    ensures words { length memory.new.outside.globals.items ≡ length memory.old.outside.globals.items }
+    ensures fitting { (shapes : List Shape) → S.fits memory.old.outside.heap.store shapes → S.fits memory.new.outside.heap.store shapes }
+{
+    carry_out(i, r, &mut at.pc, at.fp, memory)
+}
+
+/// A call, a return, a test of a type, a new cell that fits or a point, if no choice comes before it. None says that
+/// nothing was done.
+#[inline(always)]
+fn go_near<S: Store>(
     image: &Decoded<'_>,
     i: &Instr,
-    pc: &mut u32,
-    fp: &mut u64,
-    memory: &mut W,
-    pace: &Pace,
-) -> bool
-    ensures { W.keeps memory.old memory.new }
+    r: &mut [u64; 16],
+    at: Place,
+    memory: &mut Memory<S>,
+    stack: Stack,
+    fuel: &mut Fuel,
+) -> Option<Place>
+    ensures forks { memory.new.threads.forks ≡ memory.old.threads.forks }
+    ensures waits { memory.new.threads.waits ≡ memory.old.threads.waits }
+    ensures words { length memory.new.outside.globals.items ≡ length memory.old.outside.globals.items }
+    ensures fitting { (shapes : List Shape) → S.fits memory.old.outside.heap.store shapes → S.fits memory.new.outside.heap.store shapes }
+    ensures left { fuel.new.left ≡ fuel.old.left }
 {
-    let Some(caller) = image.containing(*pc) else {
-        return false;
-    };
-    let Some(callee) = image.proc(i.imm.cast_unsigned()) else {
-        return false;
-    };
-    let frame = fp.wrapping_add(u64::from(caller.body));
-    let place = frame.wrapping_sub(pace.base);
-    if place >= pace.stack || pace.stack - place < u64::from(callee.frame) {
-        return false;
+    match i.op {
+        Op::Ret => return leave(image.code().len(), at, memory),
+        Op::Meth | Op::Subt => return tell_of_type(image, *i, r, at, memory),
+        _ => {}
     }
-    let _is_back_set = memory.store(frame, u64::from(*pc) + 1);
-    let _is_frame_set = memory.store(frame.wrapping_add(1), *fp);
-    *pc = callee.first;
-    *fp = frame;
-    true
+    if !fuel.may_pass() {
+        return None;
+    }
+    let next = match i.op {
+        Op::Point => Some(at.next()),
+        Op::New => make_near(image, *i, r, at, &mut memory.outside),
+        _ => call(image, *i, r, at, memory, stack),
+    };
+    fuel.pass(next)
 }
 
-/// Returns to the caller's frame, if its instruction is in the code.
-fn leave<W: Words>(code: u32, pc: &mut u32, fp: &mut u64, memory: &W) -> bool {
-    let Some(back) = memory.load(*fp) else {
-        return false;
-    };
-    let Some(frame) = memory.load(fp.wrapping_add(1)) else {
-        return false;
-    };
-    if back >= u64::from(code) {
-        return false;
-    }
-    *pc = back as u32;
-    *fp = frame;
-    true
-}
-
-/// Carries out the running thread's instructions, as long as they are plain, calls, returns or points that nothing
-/// happens at. Says why the row ended, and how many were executed.
+/// Carries out one instruction. Or it says why it didn't, or that it trapped.
 #[inline(always)]
-pub(crate) fn stride<W: Words>(
+fn go_on<S: Store>(
+    image: &Decoded<'_>,
+    i: &Instr,
+    r: &mut [u64; 16],
+    at: &mut Place,
+    memory: &mut Memory<S>,
+    stack: Stack,
+    fuel: &mut Fuel,
+) -> Option<Halt>
+    requires { IsInstruction i.now }
+    ensures forks { memory.new.threads.forks ≡ memory.old.threads.forks }
+    ensures waits { memory.new.threads.waits ≡ memory.old.threads.waits }
+    ensures words { length memory.new.outside.globals.items ≡ length memory.old.outside.globals.items }
+    ensures fitting { (shapes : List Shape) → S.fits memory.old.outside.heap.store shapes → S.fits memory.new.outside.heap.store shapes }
+    ensures left { fuel.new.left ≡ fuel.old.left }
+{
+    match i.op {
+        Op::Call | Op::Callr | Op::Callm | Op::Ret | Op::Meth | Op::Subt | Op::New | Op::Point =>
+            match go_near(image, i, r, *at, memory, stack, fuel) {
+                Some(next) => {
+                    *at = next;
+                    None
+                }
+                None => Some(Halt::Other),
+            },
+        _ => match go_plainly(i, r, at, memory) {
+            Step::Went => None,
+            Step::Other => Some(Halt::Other),
+            Step::Trapped(n) => Some(Halt::Trapped(n)),
+        },
+    }
+}
+
+/// Goes on as long as instructions are plain, or nothing has to be chosen or done before or after them.
+#[inline(always)]
+fn go<S: Store>(
     image: &Decoded<'_>,
     r: &mut [u64; 16],
-    pc: &mut u32,
-    fp: &mut u64,
-    memory: &mut W,
+    at: &mut Place,
+    memory: &mut Memory<S>,
+    stack: Stack,
+    fuel: &mut Fuel,
+) -> Halt
+    ensures forks { memory.new.threads.forks ≡ memory.old.threads.forks }
+    ensures waits { memory.new.threads.waits ≡ memory.old.threads.waits }
+    ensures words { length memory.new.outside.globals.items ≡ length memory.old.outside.globals.items }
+    ensures fitting { (shapes : List Shape) → S.fits memory.old.outside.heap.store shapes → S.fits memory.new.outside.heap.store shapes }
+{
+    let code = image.code();
+    'steps: while fuel.left > fuel.floor {
+        if at.pc as usize >= code.len() {
+            return Halt::Left;
+        }
+        match go_on(image, &code[at.pc as usize], r, at, memory, stack, fuel) {
+            None => fuel.left -= 1,
+            Some(Halt::Trapped(n)) => {
+                fuel.left -= 1;
+                return Halt::Trapped(n);
+            }
+            Some(halt) => return halt,
+        }
+    }
+    Halt::Other
+}
+
+/// Carries out the running thread's instructions, as long as nothing has to be chosen or done before or after them.
+/// Says why the row ended, and how many were executed.
+#[inline(never)]
+pub(crate) fn stride<S: Store>(
+    image: &Decoded<'_>,
+    r: &mut [u64; 16],
+    at: &mut Place,
+    memory: &mut Memory<S>,
     pace: &mut Pace,
 ) -> (Halt, u64)
-    ensures { W.keeps memory.old memory.new }
+    ensures forks { memory.new.threads.forks ≡ memory.old.threads.forks }
+    ensures waits { memory.new.threads.waits ≡ memory.old.threads.waits }
+    ensures words { length memory.new.outside.globals.items ≡ length memory.old.outside.globals.items }
+    ensures fitting { (shapes : List Shape) → S.fits memory.old.outside.heap.store shapes → S.fits memory.new.outside.heap.store shapes }
 {
-    let code = image.image().code_len();
-    let mut count = 0;
-    while count < MOST {
-        let Some(i) = image.fetch(*pc) else {
-            return (Halt::Left, count);
-        };
-        match i.op {
-            Op::Point | Op::Call => {
-                if pace.points == 0 {
-                    return (Halt::Other, count);
-                }
-                if i.op == Op::Point {
-                    *pc = pc.wrapping_add(1);
-                } else if !enter(image, i, pc, fp, memory, pace) {
-                    return (Halt::Other, count);
-                }
-                pace.points -= 1;
-                pace.left = pace.limit;
-            }
-            Op::Ret => {
-                if pace.left == 0 || !leave(code, pc, fp, memory) {
-                    return (Halt::Other, count);
-                }
-            }
-            _ => {
-                if pace.left == 0 {
-                    return (Halt::Other, count);
-                }
-                match carry_out(i, r, pc, *fp, memory) {
-                    Step::Went => {}
-                    Step::Other => return (Halt::Other, count),
-                    Step::Trapped(n) => return (Halt::Trapped(n), count + 1),
-                }
-            }
-        }
-        pace.left = pace.left.saturating_sub(1);
-        count += 1;
-    }
-    (Halt::Used, count)
+    let mut now = *at;
+    let mut fuel = Fuel::of(pace);
+    let halt = go(image, r, &mut now, memory, pace.stack, &mut fuel);
+    *at = now;
+    pace.left = fuel.left.saturating_sub(fuel.floor);
+    pace.points = fuel.points;
+    (halt, MOST.saturating_sub(fuel.left))
 }

@@ -1,6 +1,5 @@
 use Rattle.std.proofs.Common.{◌≡◌, ◌∙◌, arith, true, false, ap}
 use Rattle.std.proofs.Math.Logic.{∥∥₁_elim, ∥∥₁_prop}
-use Rattle.m3_machine.proofs.Keeping.{still-counted}
 use Rattle.m3_machine.proofs.machine.Machine.go_far.Goals as goal
 
 pub invariant_of-self : goal.invariant_of-self
@@ -8,7 +7,7 @@ invariant_of-self g c =
     let m = c.args.self.now in
     let kept = c.stride-halt.ensures in record {
       small = m.small;
-      counted = still-counted m.memory.threads c.stride-halt.new.memory.threads m.made kept.0.stacks m.counted;
-      words = kept.0.outside.count ∙ m.words;
-      fitting = λ e. ∥∥₁_elim (m.fitting e) ∥∥₁_prop (λ f. ∣ kept.1 _ f ∣₁);
+      counted = omega (arith, m.counted, kept.forks, kept.waits);
+      words = kept.words ∙ m.words;
+      fitting = λ e. ∥∥₁_elim (m.fitting e) ∥∥₁_prop (λ f. ∣ kept.fitting _ f ∣₁);
     }
