@@ -3,6 +3,8 @@ ghost use Rattle.std.specs.Result.{IsOk};
 ghost use Rattle.m3_image.specs.Images.{read_of};
 
 use crate::code::{Code, code_of};
+use bumpalo::Bump;
+use bumpalo::collections::into_bump_slice;
 use m3_base::{NoMemory, gap};
 use m3_core::Core;
 use m3_emit::Places;
@@ -12,11 +14,12 @@ use m3_image_writer::ImageParts;
 use m3_storage::Storage;
 use std::alloc::Global;
 
-/// The image of a checked program, of version 2 (docs/MACHINE.md).
-pub fn build(alloc: Global, core: &Core) -> Result<Vec<u8>, NoMemory>
+/// The image of a checked program, of version 2 (docs/MACHINE.md). The program stands in the arena, and
+/// what is known of where it keeps its things goes there too.
+pub fn build<'a>(alloc: Global, arena: &'a Bump, core: &'a Core<'a>) -> Result<Vec<u8>, NoMemory>
     ensures { IfOk result (λ image. IsOk (read_of image.items)) }
 {
-    let parts = program_parts(alloc, core)?;
+    let parts = program_parts(alloc, arena, core)?;
     match judged_image(alloc, &parts)? {
         Some(image) => Ok(image),
         // the parts of a checked program are those of an image
@@ -24,12 +27,24 @@ pub fn build(alloc: Global, core: &Core) -> Result<Vec<u8>, NoMemory>
     }
 }
 
-fn program_parts(alloc: Global, core: &Core) -> Result<ImageParts, NoMemory> {
-    let storage = Storage::of(alloc, core)?;
-    let constants = Constants::of(alloc, &storage)?;
+fn program_parts<'a>(
+    alloc: Global,
+    arena: &'a Bump,
+    core: &'a Core<'a>,
+) -> Result<ImageParts, NoMemory> {
+    let mut kept = Vec::new(arena);
+    kept.push(Storage::of(alloc, core)?)?;
+    match into_bump_slice(kept) {
+        [storage, ..] => parts_in(alloc, storage),
+        [] => Err(NoMemory),
+    }
+}
+
+fn parts_in<'a>(alloc: Global, storage: &'a Storage<'a>) -> Result<ImageParts, NoMemory> {
+    let constants = Constants::of(alloc, storage)?;
     let mut places = Places::new(alloc);
-    let code = code_of(alloc, &storage, &constants, &mut places)?;
-    parts_of(alloc, &storage, constants.words, code, &places)
+    let code = code_of(alloc, storage, &constants, &mut places)?;
+    parts_of(alloc, storage, constants.words, code, &places)
 }
 
 fn parts_of(

@@ -77,7 +77,8 @@ impl Code {
     fn add_start(&mut self, alloc: Global, order: &[u32]) -> Result<(), NoMemory> {
         let uncaught = place_number(order.len().saturating_mul(2).saturating_add(1))?;
         for number in order {
-            self.rows.push(empty_row(alloc, self.next()?))?;
+            let at = self.next()?;
+            self.rows.push(empty_row(alloc, at))?;
             let callee = target(number.saturating_add(2));
             self.code.push(instr(Op::Call, 0, 0, callee))?;
             self.code.push(instr(Op::Bnz, 1, 0, target(uncaught)))?;
@@ -128,9 +129,9 @@ struct Compiled {
     frame: u32,
 }
 
-fn compiled(
+fn compile<'s>(
     alloc: Global,
-    storage: &Storage,
+    storage: &'s Storage<'s>,
     constants: &Constants,
     places: &mut Places,
     number: u32,
@@ -151,9 +152,9 @@ fn compiled(
 }
 
 /// The code of all procedures of a program.
-pub fn code_of(
+pub fn code_of<'s>(
     alloc: Global,
-    storage: &Storage,
+    storage: &'s Storage<'s>,
     constants: &Constants,
     places: &mut Places,
 ) -> Result<Code, NoMemory> {
@@ -162,7 +163,7 @@ pub fn code_of(
     code.add_thread(alloc)?;
     for number in 0..storage.core.procs.len() {
         let number = place_number(number)?;
-        code.add_proc(compiled(alloc, storage, constants, places, number)?)?;
+        code.add_proc(compile(alloc, storage, constants, places, number)?)?;
     }
     Ok(code)
 }

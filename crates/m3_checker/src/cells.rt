@@ -50,7 +50,7 @@ impl Cells {
             if let Some(words) = self.words.get(&kind) {
                 return Ok(*words);
             }
-            match above(types, kind) {
+            match ancestor_of(types, kind) {
                 Above::Part(parent) => {
                     parts.push(kind)?;
                     kind = parent;
@@ -78,7 +78,7 @@ impl Cells {
     }
 }
 
-fn above(types: &SizedTypes<'_>, kind: TypeId) -> Above {
+fn ancestor_of(types: &SizedTypes<'_>, kind: TypeId) -> Above {
     match types.graph.nodes.get(kind.0 as usize) {
         Some(TypeNode::Object(_, parent, _, _, _)) => Above::Part(*parent),
         Some(TypeNode::Opaque(_, Secret::Thread)) => Above::Words(4),

@@ -111,20 +111,29 @@ impl<'a> Declarer<'_, 'a> {
         Ok(into_bump_slice(row))
     }
 
+    /// The elements of an array without the last one, where that repeats the one before; else None.
+    fn without_repeat(&self, row: &'a [ConstId]) -> Result<Option<&'a [ConstId]>, NoMemory> {
+        let [before @ .., last] = row else {
+            return Ok(None);
+        };
+        let Some(other) = before.last() else {
+            return Ok(None);
+        };
+        if self.are_same(*last, *other)? {
+            Ok(Some(before))
+        } else {
+            Ok(None)
+        }
+    }
+
     /// The elements of an array without the last ones that repeat the one before.
     fn without_repeats(&self, row: &'a [ConstId]) -> Result<&'a [ConstId], NoMemory> {
         let mut listed = row;
         for _ in 1..row.len() {
-            let [before @ .., last] = listed else {
-                return Ok(listed);
-            };
-            let Some(other) = before.last() else {
-                return Ok(listed);
-            };
-            if !self.are_same(*last, *other)? {
-                return Ok(listed);
+            match self.without_repeat(listed)? {
+                Some(before) => listed = before,
+                None => return Ok(listed),
             }
-            listed = before;
         }
         Ok(listed)
     }

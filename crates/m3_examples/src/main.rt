@@ -9,7 +9,7 @@ use std::rt::Files;
 use std::{fs, io};
 
 // The most bytes that a program may put.
-const ROOM: usize = 65_536;
+const ROOM: u64 = 65_536;
 
 /// What a command answered: its status, and what it put on out.
 #[derive(Drop)]
@@ -26,11 +26,18 @@ fn words_of(alloc: Global, words: &[&str]) -> Result<Vec<String>, AllocError> {
     Ok(all)
 }
 
+fn sink(alloc: Global) -> io::Result<MemSink> {
+    match MemSink::with_room(alloc, ROOM) {
+        Ok(sink) => Ok(sink),
+        Err(_) => Err(io::Error::from(io::ErrorKind::OutOfMemory)),
+    }
+}
+
 fn answer_of(rt: &(impl Files + AllocGlobal), words: &[&str]) -> io::Result<Answer> {
     let alloc = rt.alloc();
     let mut shelf = FileShelf::new(rt);
-    let mut out = MemSink::with_room(alloc, ROOM)?;
-    let mut err = MemSink::with_room(alloc, ROOM)?;
+    let mut out = sink(alloc)?;
+    let mut err = sink(alloc)?;
     let mut image = Vec::new(alloc);
     let words = words_of(alloc, words)?;
     let status = m3c(alloc, words, &mut shelf, &mut out, &mut err, &mut image);

@@ -6,7 +6,7 @@ use m3_types::{TypeId, TypeNode};
 use std::alloc::Global;
 
 /// Where the constants of an image begin (docs/MACHINE.md).
-const CONSTANTS: u64 = 1 << 50;
+const FIRST_CONSTANT: u64 = 1 << 50;
 
 /// The words of a program's constants: the cells of its texts, and the values of its records and arrays.
 #[derive(Drop)]
@@ -100,7 +100,8 @@ impl Constants {
             Some(Value::Number(number)) => self.words.push(number.cast_unsigned())?,
             Some(Value::Text(text)) => {
                 let start = self.texts.get(*text as usize).copied().unwrap_or(0);
-                self.words.push(CONSTANTS.wrapping_add(u64::from(start)))?;
+                self.words
+                    .push(FIRST_CONSTANT.wrapping_add(u64::from(start)))?;
             }
             Some(Value::Procedure(procedure)) => {
                 self.words.push(u64::from(*procedure).wrapping_add(3))?;

@@ -117,7 +117,7 @@ pub fn call_with<'m>(
     kind: Option<TypeId>,
     rest: Pending<'m>,
 ) -> Pending<'m> {
-    let Received { word, buffer, code } = received(b, after, kind, rest);
+    let Received { word, buffer, code } = receive(b, after, kind, rest);
     let raised = if can_raise { Some(b.raised) } else { None };
     let code = match raised {
         Some(raised) => unless_raised(b, around, raised, code),
@@ -177,7 +177,7 @@ fn unless_raised<'m>(
     )
 }
 
-fn received<'m>(
+fn receive<'m>(
     b: &mut Builder<'m, '_>,
     after: Value,
     kind: Option<TypeId>,
@@ -200,7 +200,7 @@ fn received<'m>(
                 code,
             }
         }
-        Value::At(place) => received_at(b, place, kind, rest),
+        Value::At(place) => receive_at(b, place, kind, rest),
         Value::Nothing | Value::Word(Operand::Number(_)) | Value::Known { .. } => Received {
             word: None,
             buffer: None,
@@ -209,7 +209,7 @@ fn received<'m>(
     }
 }
 
-fn received_at<'m>(
+fn receive_at<'m>(
     b: &mut Builder<'m, '_>,
     place: Place,
     kind: Option<TypeId>,

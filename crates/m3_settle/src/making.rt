@@ -518,6 +518,16 @@ fn method_value<'a>(
     Ok(found)
 }
 
+/// Whether one of some methods has a procedure as its default.
+fn has_default(methods: &[m3_syntax::Method<'_>]) -> bool {
+    for method in methods {
+        if method.default.is_some() {
+            return true;
+        }
+    }
+    false
+}
+
 /// Whether something is bound to the methods of an object type.
 fn binds_methods(plan: &Plan<'_>) -> bool {
     let Written::Part(TypeExp::Object { parts, .. }, place) = plan.written else {
@@ -526,12 +536,7 @@ fn binds_methods(plan: &Plan<'_>) -> bool {
     let Some(part) = parts.get(place as usize) else {
         return false;
     };
-    for method in part.methods {
-        if method.default.is_some() {
-            return true;
-        }
-    }
-    !part.overrides.is_empty()
+    has_default(part.methods) || !part.overrides.is_empty()
 }
 
 fn add_fields<'a>(

@@ -88,6 +88,49 @@ fn word_of<'m>(
     }
 }
 
+/// The way out of a body, which ends with a value where nothing is left to be done behind it.
+fn way_out<'m>(
+    b: &mut Builder<'m, '_>,
+    returning: Returning,
+    value: Option<Operand>,
+) -> Pending<'m> {
+    match returning {
+        Returning::Ends => Pending::bare(b.alloc, End::Return { value }),
+        Returning::Passes(block) | Returning::Drops(block) => b.goto(block),
+    }
+}
+
+/// Whether the value of RETURN is of no use.
+fn is_dropped(returning: Returning) -> bool {
+    match returning {
+        Returning::Drops(_) => true,
+        _ => false,
+    }
+}
+
+/// RETURN of a value that is of no use: it is evaluated all the same.
+fn return_dropped<'m>(b: &mut Builder<'m, '_>, exits: Exits<'m>, value: &CoreExpr) -> Pending<'m> {
+    let planned = plan_value(b, value);
+    let code = way_out(b, exits.returning, None);
+    emit_value(b, exits.around, value, planned, code)
+}
+
+/// RETURN of a word, which waits in a temporary where something is left to be done.
+fn return_word<'m>(
+    b: &mut Builder<'m, '_>,
+    exits: Exits<'m>,
+    value: &CoreExpr,
+    temp: u32,
+) -> Pending<'m> {
+    let operand = word_source(b, value);
+    let code = way_out(b, exits.returning, Some(operand));
+    let code = match exits.returning {
+        Returning::Ends => code,
+        _ => set(temp, operand, code),
+    };
+    word_of(b, exits, value, operand, code)
+}
+
 /// RETURN: the value, and then the way out.
 pub fn return_value<'m>(
     b: &mut Builder<'m, '_>,
@@ -95,47 +138,18 @@ pub fn return_value<'m>(
     value: Option<&CoreExpr>,
 ) -> Pending<'m> {
     let Some(value) = value else {
-        return match exits.returning {
-            Returning::Ends => Pending::bare(b.alloc, End::Return { value: None }),
-            Returning::Passes(block) | Returning::Drops(block) => b.goto(block),
-        };
+        return way_out(b, exits.returning, None);
     };
-    match (exits.returning, exits.outcome) {
-        (Returning::Drops(block), _) => {
-            let planned = plan_value(b, value);
-            let code = b.goto(block);
-            emit_value(b, exits.around, value, planned, code)
-        }
-        (_, Outcome::Wide { slot, kind }) => {
-            let code = match exits.returning {
-                Returning::Passes(block) => b.goto(block),
-                _ => Pending::bare(b.alloc, End::Return { value: None }),
-            };
+    if is_dropped(exits.returning) {
+        return return_dropped(b, exits, value);
+    }
+    match exits.outcome {
+        Outcome::Wide { slot, kind } => {
+            let code = way_out(b, exits.returning, None);
             wide_result(b, exits, slot, kind, value, code)
         }
-        (Returning::Passes(block), Outcome::Word { temp, .. }) => {
-            let operand = word_source(b, value);
-            let code = set(temp, operand, b.goto(block));
-            word_of(b, exits, value, operand, code)
-        }
-        (_, Outcome::Word { .. }) => {
-            let operand = word_source(b, value);
-            let code = Pending::bare(
-                b.alloc,
-                End::Return {
-                    value: Some(operand),
-                },
-            );
-            word_of(b, exits, value, operand, code)
-        }
-        (_, Outcome::Nothing) => {
-            let planned = plan_value(b, value);
-            let code = match exits.returning {
-                Returning::Passes(block) => b.goto(block),
-                _ => Pending::bare(b.alloc, End::Return { value: None }),
-            };
-            emit_value(b, exits.around, value, planned, code)
-        }
+        Outcome::Word { temp, .. } => return_word(b, exits, value, temp),
+        Outcome::Nothing => return_dropped(b, exits, value),
     }
 }
 

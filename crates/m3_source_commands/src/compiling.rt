@@ -3,7 +3,7 @@ ghost use Rattle.std.specs.Prelude.{◌≡◌, ◌<◌, true, length, All};
 
 use bumpalo::Bump;
 use m3_assembly::build;
-use m3_base::{Entry, Refusal as Broken, Refused, Source, rule_text};
+use m3_base::{Entry, NoMemory, Refusal as Broken, Refused, Source, rule_text};
 use m3_checker::check;
 use m3_image_commands::{Answer, Refusal, schedule_of};
 use std::alloc::{AllocError, Global};
@@ -48,6 +48,26 @@ fn are_short(sources: &[Source<'_>]) -> bool
         .all(|source| source.text.len() < 4_294_967_295)
 }
 
+/// A copy of a source in the arena.
+fn copy_of<'a>(arena: &'a Bump, source: &Source<'_>) -> Result<Source<'a>, NoMemory> {
+    let name = &*arena.try_alloc_slice_copy(source.name)?;
+    let text = &*arena.try_alloc_slice_copy(source.text)?;
+    Ok(Source { name, text })
+}
+
+/// Copies of some sources in the arena: the trees in it borrow their texts.
+fn copies<'a>(
+    alloc: Global,
+    arena: &'a Bump,
+    sources: &[Source<'_>],
+) -> Result<Vec<Source<'a>>, NoMemory> {
+    let mut copies = Vec::new(alloc);
+    for source in sources {
+        copies.push(copy_of(arena, source)?)?;
+    }
+    Ok(copies)
+}
+
 /// The image of a program, and the schedule of a switch file, whose lines are read once the sources
 /// are accepted.
 pub fn compile(
@@ -55,16 +75,23 @@ pub fn compile(
     sources: &[Source<'_>],
     switches: &[u8],
 ) -> Step<'static, (Vec<u8>, Vec<Entry>)> {
-    if !are_short(sources) {
+    let owner = Bump::new(alloc);
+    let arena = &owner;
+    let Ok(copies) = copies(alloc, arena, sources) else {
+        return Err(Err(Refusal::NO_MEMORY));
+    };
+    if !are_short(&copies) {
         return Err(Err(Refusal::NO_MEMORY));
     }
-    let arena = Bump::new(alloc);
-    let core = match check(alloc, &arena, sources) {
+    let core = match check(alloc, arena, copies.as_slice()) {
         Ok(core) => core,
         Err(refused) => return Err(refuse(alloc, sources, refused)),
     };
     let schedule = schedule_of(alloc, switches)?;
-    match build(alloc, &core) {
+    let Ok(core) = arena.try_alloc(core) else {
+        return Err(Err(Refusal::NO_MEMORY));
+    };
+    match build(alloc, arena, &*core) {
         Ok(image) => Ok((image, schedule)),
         Err(_) => Err(Err(Refusal::NO_MEMORY)),
     }

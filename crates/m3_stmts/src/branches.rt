@@ -1,7 +1,7 @@
 use crate::bodies::{Body, NewVariable};
 use crate::labels::{all_ranges, ranges_at};
 use crate::loops::condition;
-use crate::statements::statements;
+use crate::sequences::statements;
 use bumpalo::collections::into_bump_slice;
 use m3_base::{NoMemory, Pos};
 use m3_core::{Arm, CaseBranch, CoreStmt, Role, TypeBranch, VarKind};

@@ -1,5 +1,5 @@
 use crate::bodies::{Body, NewVariable};
-use crate::statements::statements;
+use crate::sequences::statements;
 use bumpalo::collections::into_bump_slice;
 use m3_base::{NoMemory, Pos};
 use m3_core::{CoreExpr, CoreStmt, Handler as CoreHandler, Role, VarKind};
@@ -129,7 +129,7 @@ struct Head<'a> {
     variable: Option<u32>,
 }
 
-fn head<'a>(
+fn head_of<'a>(
     checker: &mut Checker<'_, 'a>,
     body: &mut Body<'a>,
     names: &[Qualid<'a>],
@@ -190,7 +190,7 @@ fn handler<'a>(
     body: &mut Body<'a>,
     handler: &Handler<'a>,
 ) -> Result<CoreHandler<'a>, NoMemory> {
-    let head = head(checker, body, handler.exceptions, handler.argument)?;
+    let head = head_of(checker, body, handler.exceptions, handler.argument)?;
     let row = statements(checker, body, handler.body)?;
     Ok(CoreHandler {
         exceptions: head.exceptions,

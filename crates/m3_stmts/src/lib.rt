@@ -10,11 +10,11 @@ mod labels;
 mod locks;
 mod loops;
 mod procedures;
-mod statements;
+mod sequences;
 mod variables;
 mod withs;
 
 pub use assignments::{initial_value, initial_values};
 pub use bodies::Body;
 pub use procedures::check_procedure;
-pub use statements::statements;
+pub use sequences::statements;

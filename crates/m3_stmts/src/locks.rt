@@ -1,6 +1,6 @@
 use crate::bodies::Body;
-use crate::statements::statements;
-use crate::withs::{Target, bind, target};
+use crate::sequences::statements;
+use crate::withs::{Target, bind, target_of};
 use m3_base::{NoMemory, Pos};
 use m3_core::{
     Base, BuiltinCall, Chain, CoreExpr, CoreStmt, Role, Routine, Step, VarKind, WithBinding,
@@ -47,7 +47,7 @@ fn hide<'a>(
     mutex: &Expr<'a>,
 ) -> Result<Option<Hidden<'a>>, NoMemory> {
     let at = mutex.pos();
-    let Some(target) = target(checker, mutex)? else {
+    let Some(target) = target_of(checker, mutex)? else {
         return Ok(None);
     };
     let kind = kind_of(&target);

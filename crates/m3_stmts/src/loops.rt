@@ -1,5 +1,5 @@
 use crate::bodies::{Body, NewVariable};
-use crate::statements::statements;
+use crate::sequences::statements;
 use m3_base::{NoMemory, Pos};
 use m3_core::{CoreExpr, CoreStmt, Role, VarKind};
 use m3_exprs::expression;

@@ -1,6 +1,6 @@
 use crate::assignments::initial_values;
 use crate::bodies::Body;
-use crate::statements::statements;
+use crate::sequences::statements;
 use crate::variables::{declare_formals, declare_locals};
 use bumpalo::collections::into_bump_slice;
 use m3_base::{NoMemory, Pos};

@@ -1,5 +1,5 @@
 use crate::bodies::{Body, NewVariable};
-use crate::statements::statements;
+use crate::sequences::statements;
 use bumpalo::collections::into_bump_slice;
 use m3_base::NoMemory;
 use m3_core::{Bound, CoreStmt, Role, VarKind, WithBinding};
@@ -16,7 +16,7 @@ pub struct Target<'a> {
 }
 
 /// What a name is bound to: the place of a designator, else a value.
-pub fn target<'a>(
+pub fn target_of<'a>(
     checker: &mut Checker<'_, 'a>,
     value: &Expr<'a>,
 ) -> Result<Option<Target<'a>>, NoMemory> {
@@ -100,7 +100,7 @@ fn bind_all<'a>(
 ) -> Result<&'a [WithBinding<'a>], NoMemory> {
     let mut bound = Vec::new(checker.arena);
     for binding in bindings {
-        if let Some(target) = target(checker, binding.value)? {
+        if let Some(target) = target_of(checker, binding.value)? {
             let made = bind(checker, body, binding.name, Role::With, &target)?;
             bound.push(made)?;
         }

@@ -73,6 +73,13 @@ fn some_words(alloc: Global, words: &[&str]) -> Result<Vec<String>, Fail> {
     Ok(all)
 }
 
+// The numbers of the puts on out and on err that are to fail; 0 for none.
+#[derive(Clone, Copy)]
+struct FailingPuts {
+    out: u64,
+    err: u64,
+}
+
 // Carries out a command on a shelf. The put of this number on out fails.
 fn carry_out(
     alloc: Global,
@@ -80,9 +87,23 @@ fn carry_out(
     shelf: &mut MemShelf,
     failing: u64,
 ) -> Result<Answer, Fail> {
+    let failing = FailingPuts {
+        out: failing,
+        err: 0,
+    };
+    carry_out_failing(alloc, words, shelf, failing)
+}
+
+fn carry_out_failing(
+    alloc: Global,
+    words: Vec<String>,
+    shelf: &mut MemShelf,
+    failing: FailingPuts,
+) -> Result<Answer, Fail> {
     let mut out = MemSink::with_room(alloc, 4096)?;
-    out.fail_at(failing)?;
+    out.fail_at(failing.out)?;
     let mut err = MemSink::with_room(alloc, 4096)?;
+    err.fail_at(failing.err)?;
     let mut image = Vec::new(alloc);
     let status = m3c(alloc, words, shelf, &mut out, &mut err, &mut image);
     Ok(Answer {
@@ -203,11 +224,30 @@ fn a_fetch_fails(rt: HostRuntime) -> Result<(), Fail> {
 #[test]
 fn a_store_fails(rt: HostRuntime) -> Result<(), Fail> {
     let mut shelf = hello(rt.alloc())?;
-    shelf.fail_at(3)?;
+    shelf.store(rt.alloc(), "a.img", b"old")?;
+    // Two stores and the fetch of Main.m3 were the first calls.
+    shelf.fail_at(4)?;
     let words = some_words(rt.alloc(), &["build", "a.img", "Main.m3"])?;
     let answer = carry_out(rt.alloc(), words, &mut shelf, 0)?;
     assert_eq!(&rt; answer.status, 4);
     assert_eq!(&rt; answer.err.bytes(), b"write fault\n".as_slice());
+    let mut held = Vec::new(rt.alloc());
+    assert_eq!(&rt; shelf.fetch(rt.alloc(), "a.img", 99, &mut held), Ok(()));
+    assert_eq!(&rt; held.as_slice(), b"old".as_slice());
+    let words = some_words(rt.alloc(), &["exec", "Main.m3"])?;
+    let exec = carry_out(rt.alloc(), words, &mut shelf, 0)?;
+    assert_eq!(&rt; exec.out.bytes(), b"hello".as_slice());
+    Ok(())
+}
+
+#[test]
+fn the_line_is_not_put(rt: HostRuntime) -> Result<(), Fail> {
+    let mut shelf = hello(rt.alloc())?;
+    let words = some_words(rt.alloc(), &["exec", "Main.m3"])?;
+    let failing = FailingPuts { out: 0, err: 1 };
+    let answer = carry_out_failing(rt.alloc(), words, &mut shelf, failing)?;
+    assert_eq!(&rt; answer.status, 4);
+    assert_eq!(&rt; answer.out.bytes(), b"hello".as_slice());
     Ok(())
 }
 
@@ -277,17 +317,34 @@ fn each_byte_is_no_program(rt: HostRuntime) -> Result<(), Fail> {
     Ok(())
 }
 
+// `exec` of one text that is refused: its line.
+fn refused(rt: &(impl Abort + AllocGlobal), text: &[u8], line: &[u8]) -> Result<(), Fail> {
+    let mut shelf = MemShelf::new(rt.alloc())?;
+    shelf.store(rt.alloc(), "Main.m3", text)?;
+    let words = some_words(rt.alloc(), &["exec", "Main.m3"])?;
+    let answer = carry_out(rt.alloc(), words, &mut shelf, 0)?;
+    assert_eq!(rt; answer.status, 1);
+    assert_eq!(rt; answer.err.bytes(), line);
+    Ok(())
+}
+
+#[test]
+fn a_mark_is_all(rt: HostRuntime) -> Result<(), Fail> {
+    refused(&rt, b"(*", b"Main.m3:1:1: rule 2 open comment\n")?;
+    refused(&rt, b"\n <*", b"Main.m3:2:2: rule 3 open pragma\n")?;
+    refused(&rt, b"\"", b"Main.m3:1:1: rule 4 open text\n")
+}
+
 #[test]
 fn parentheses_lie_too_deep(rt: HostRuntime) -> Result<(), Fail> {
     let mut text = Vec::from_slice(rt.alloc(), b"MODULE Main; BEGIN EVAL ")?;
     for _open in 0..201 {
         text.push(b'(')?;
     }
-    let mut shelf = MemShelf::new(rt.alloc())?;
-    shelf.store(rt.alloc(), "Main.m3", text.as_slice())?;
-    let words = some_words(rt.alloc(), &["exec", "Main.m3"])?;
-    let answer = carry_out(rt.alloc(), words, &mut shelf, 0)?;
-    assert_eq!(&rt; answer.status, 1);
-    assert!(&rt; answer.err.bytes().ends_with(b"rule 13 nesting too deep\n"));
-    Ok(())
+    // The 199th parenthesis lies in a block, a statement and 199 expressions.
+    refused(
+        &rt,
+        text.as_slice(),
+        b"Main.m3:1:223: rule 13 nesting too deep\n",
+    )
 }
