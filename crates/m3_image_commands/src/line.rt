@@ -1,4 +1,6 @@
 //! The line for err, in memory that is taken before it is known.
+ghost use Rattle.m3_image_commands.specs.Statuses.{IsEnded};
+
 use itoa::Buffer;
 use m3_base::{Outcome, fault_name};
 use m3_image::ImageView;
@@ -40,7 +42,9 @@ pub fn longest_name(image: &ImageView<'_>) -> usize {
 }
 
 /// Adds how a run ended, and gives the status.
-pub fn add_outcome(line: &mut Vec<u8>, image: &ImageView<'_>, outcome: Outcome) -> u8 {
+pub fn add_outcome(line: &mut Vec<u8>, image: &ImageView<'_>, outcome: Outcome) -> u8
+    ensures { IsEnded result }
+{
     match outcome {
         Outcome::Fault(kind, file, at) => {
             add(line, b"fault ");
@@ -65,7 +69,9 @@ pub fn add_outcome(line: &mut Vec<u8>, image: &ImageView<'_>, outcome: Outcome) 
     }
 }
 
-fn add_plain_outcome(line: &mut Vec<u8>, outcome: Outcome) -> u8 {
+fn add_plain_outcome(line: &mut Vec<u8>, outcome: Outcome) -> u8
+    ensures { IsEnded result }
+{
     let (text, status): (&[u8], u8) = match outcome {
         Outcome::Deadlock => (b"deadlock", 12),
         Outcome::ThreadsFull => (b"threads full", 13),

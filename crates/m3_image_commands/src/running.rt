@@ -1,5 +1,9 @@
+ghost use Rattle.std.specs.Prelude.{ℕ, List, IfOk, IfErr, IsOk, IsErr};
+ghost use Rattle.m3_image.specs.Images.{read_of};
+ghost use Rattle.m3_image_commands.specs.Statuses.{Carries, Fetches, Puts, RefusesBy};
+
 use crate::answers::{Answer, Refusal};
-use crate::fetching::{fetch, fetch_run_files};
+use crate::fetching::{RunFiles, fetch, fetch_run_files};
 use crate::line::{LINE_ROOM, add, add_long_number, add_number, add_outcome, longest_name};
 use m3_base::{Entry, ScheduleRefusal, read_schedule};
 use m3_command_line::{Limits, RunOptions};
@@ -26,7 +30,10 @@ pub struct Run<'a> {
 pub fn read_image<'a>(
     alloc: Global,
     bytes: &'a [u8],
-) -> Result<ImageView<'a>, Result<Answer, Refusal<'static>>> {
+) -> Result<ImageView<'a>, Result<Answer, Refusal<'static>>>
+    ensures ok { IfOk result (λ v. IsOk (read_of bytes.now)) }
+    ensures err { IfErr result (λ e. RefusesBy 8 e × IsErr (read_of bytes.now)) }
+{
     match ImageView::read(bytes) {
         Ok(image) => Ok(image),
         Err(refusal) => Err(refuse(8, image_refusal_line(alloc, refusal))),
@@ -34,7 +41,9 @@ pub fn read_image<'a>(
 }
 
 /// A refusal with a line of its own, if there was memory for it.
-fn refuse(status: u8, line: Result<Vec<u8>, AllocError>) -> Result<Answer, Refusal<'static>> {
+fn refuse(status: u8, line: Result<Vec<u8>, AllocError>) -> Result<Answer, Refusal<'static>>
+    ensures { RefusesBy status result }
+{
     match line {
         Ok(line) => Ok(Answer { status, line }),
         Err(_) => Err(Refusal::NO_MEMORY),
@@ -55,7 +64,9 @@ fn schedule_refusal_line(alloc: Global, refusal: ScheduleRefusal) -> Result<Vec<
 pub fn schedule_of(
     alloc: Global,
     switches: &[u8],
-) -> Result<Vec<Entry>, Result<Answer, Refusal<'static>>> {
+) -> Result<Vec<Entry>, Result<Answer, Refusal<'static>>>
+    ensures { IfErr result (RefusesBy 9) }
+{
     match read_schedule(alloc, switches) {
         Ok(schedule) => Ok(schedule),
         Err(ScheduleRefusal::NoMemory) => Err(Err(Refusal::NO_MEMORY)),
@@ -82,7 +93,12 @@ fn run_view<O: Sink>(
     image: ImageView<'_>,
     run: Run<'_>,
     out: &mut O,
-) -> Result<Answer, Refusal<'static>> {
+) -> Result<Answer, Refusal<'static>>
+    ensures { (bytes : List ℕ) → IsOk (read_of bytes) → Puts bytes (record {
+      taken = (O.taken out.old, O.taken out.new);
+      faults = (O.faults out.old, O.faults out.new);
+    }) result }
+{
     let room = LINE_ROOM.saturating_add(longest_name(&image));
     let Ok(mut line) = Vec::with_capacity(alloc, room) else {
         return Err(Refusal::NO_MEMORY);
@@ -111,7 +127,12 @@ pub fn run_bytes<O: Sink>(
     bytes: &[u8],
     run: Run<'_>,
     out: &mut O,
-) -> Result<Answer, Refusal<'static>> {
+) -> Result<Answer, Refusal<'static>>
+    ensures { Puts bytes.now (record {
+      taken = (O.taken out.old, O.taken out.new);
+      faults = (O.faults out.old, O.faults out.new);
+    }) result }
+{
     match read_image(alloc, bytes) {
         Ok(image) => run_view(alloc, image, run, out),
         Err(answer) => answer,
@@ -125,7 +146,12 @@ fn run_fetched<O: Sink>(
     switches: &[u8],
     run: Run<'_>,
     out: &mut O,
-) -> Result<Answer, Refusal<'static>> {
+) -> Result<Answer, Refusal<'static>>
+    ensures { Puts bytes.now (record {
+      taken = (O.taken out.old, O.taken out.new);
+      faults = (O.faults out.old, O.faults out.new);
+    }) result }
+{
     let image = match read_image(alloc, bytes) {
         Ok(image) => image,
         Err(answer) => return answer,
@@ -151,9 +177,22 @@ pub fn run_image<'a, F: Shelf, O: Sink>(
     shelf: &mut F,
     out: &mut O,
     image: &mut Vec<u8>,
-) -> Result<Answer, Refusal<'a>> {
-    fetch_image(alloc, name, shelf, image)?;
-    let files = fetch_run_files(alloc, shelf, options)?;
+) -> Result<Answer, Refusal<'a>>
+    ensures { Carries (record {
+      held = (F.held shelf.old, F.held shelf.new);
+      faults = (F.faults shelf.old, F.faults shelf.new);
+      store_faults = (F.store_faults shelf.old, F.store_faults shelf.new);
+      absences = (F.absences shelf.old, F.absences shelf.new);
+      excesses = (F.excesses shelf.old, F.excesses shelf.new);
+    }) (record {
+      taken = (O.taken out.old, O.taken out.new);
+      faults = (O.faults out.old, O.faults out.new);
+    }) image.new.items result }
+{
+    let files = match fetch_all(alloc, name, options, shelf, image) {
+        Ok(files) => files,
+        Err(refusal) => return Err(refusal),
+    };
     let run = Run {
         limits: options.limits,
         schedule: &[],
@@ -163,12 +202,42 @@ pub fn run_image<'a, F: Shelf, O: Sink>(
     run_fetched(alloc, image, &files.switches, run, out)
 }
 
+// Fetches an image, and then the files of a run's options.
+fn fetch_all<'a, F: Shelf>(
+    alloc: Global,
+    name: &'a str,
+    options: RunOptions<'a>,
+    shelf: &mut F,
+    image: &mut Vec<u8>,
+) -> Result<RunFiles, Refusal<'a>>
+    ensures { Fetches (record {
+      held = (F.held shelf.old, F.held shelf.new);
+      faults = (F.faults shelf.old, F.faults shelf.new);
+      store_faults = (F.store_faults shelf.old, F.store_faults shelf.new);
+      absences = (F.absences shelf.old, F.absences shelf.new);
+      excesses = (F.excesses shelf.old, F.excesses shelf.new);
+    }) result }
+{
+    match fetch_image(alloc, name, shelf, image) {
+        Ok(()) => fetch_run_files(alloc, shelf, options),
+        Err(refusal) => Err(refusal),
+    }
+}
+
 /// Fetches an image.
 pub fn fetch_image<'a, F: Shelf>(
     alloc: Global,
     name: &'a str,
     shelf: &mut F,
     image: &mut Vec<u8>,
-) -> Result<(), Refusal<'a>> {
+) -> Result<(), Refusal<'a>>
+    ensures { Fetches (record {
+      held = (F.held shelf.old, F.held shelf.new);
+      faults = (F.faults shelf.old, F.faults shelf.new);
+      store_faults = (F.store_faults shelf.old, F.store_faults shelf.new);
+      absences = (F.absences shelf.old, F.absences shelf.new);
+      excesses = (F.excesses shelf.old, F.excesses shelf.new);
+    }) result }
+{
     fetch(alloc, shelf, name, IMAGE_CAP, image)
 }

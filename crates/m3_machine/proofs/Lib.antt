@@ -2,3 +2,4 @@ pub mod Placing
 pub mod StackPuts
 pub mod PlainSteps
 pub mod Keeping
+pub mod RoseLemmas

@@ -1,4 +1,6 @@
+ghost use Rattle.std.specs.Prelude.{◌≤◌, OnErr};
 ghost use Rattle.m3_isa.specs.Instructions.{IsInstruction};
+ghost use Rattle.m3_ports.specs.Counts.{Rose};
 
 use crate::machine::Machine;
 use crate::progress::Progress;
@@ -88,7 +90,10 @@ impl<'a, S: Store> Machine<'a, S> {
     }
 
     /// Carries out the running thread's instruction, whatever it is but plain.
-    pub(crate) fn act<O: Sink>(&mut self, out: &mut O) -> Result<Progress, SinkFailed> {
+    pub(crate) fn act<O: Sink>(&mut self, out: &mut O) -> Result<Progress, SinkFailed>
+        ensures rises { O.faults out.old ≤ O.faults out.new }
+        ensures failed { OnErr result (Rose (O.faults out.old) (O.faults out.new)) }
+    {
         let pc = self.regs().pc;
         let Some(i) = self.image.fetch(pc) else {
             return Ok(Progress::trap(1));

@@ -1,3 +1,6 @@
+ghost use Rattle.std.specs.Prelude.{◌≤◌, OnErr};
+ghost use Rattle.m3_ports.specs.Counts.{Rose};
+
 use crate::machine::Machine;
 use crate::progress::Progress;
 use itoa::Buffer;
@@ -11,9 +14,13 @@ impl<'a, S: Store> Machine<'a, S> {
         &mut self,
         i: Instr,
         out: &mut O,
-    ) -> Result<Progress, SinkFailed> {
+    ) -> Result<Progress, SinkFailed>
+        ensures rises { O.faults out.old ≤ O.faults out.new }
+        ensures failed { OnErr result (Rose (O.faults out.old) (O.faults out.new)) }
+    {
         let mut buffer = Buffer::new();
-        out.put(buffer.format(self.word(i.a).cast_signed()).as_bytes())?;
+        let number = self.word(i.a).cast_signed();
+        self.pending.put(buffer.format(number).as_bytes(), out)?;
         Ok(self.go_on())
     }
 
@@ -22,8 +29,12 @@ impl<'a, S: Store> Machine<'a, S> {
         &mut self,
         i: Instr,
         out: &mut O,
-    ) -> Result<Progress, SinkFailed> {
-        out.put(&[(self.word(i.a) % 256) as u8])?;
+    ) -> Result<Progress, SinkFailed>
+        ensures rises { O.faults out.old ≤ O.faults out.new }
+        ensures failed { OnErr result (Rose (O.faults out.old) (O.faults out.new)) }
+    {
+        let byte = (self.word(i.a) % 256) as u8;
+        self.pending.put(&[byte], out)?;
         Ok(self.go_on())
     }
 

@@ -9,6 +9,7 @@ mod inputs;
 mod machine;
 mod memory;
 mod outside;
+mod pending;
 mod plain;
 mod points;
 mod progress;

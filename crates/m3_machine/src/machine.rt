@@ -6,6 +6,7 @@ ghost use Rattle.m3_sections.specs.Shapes.{shape_of};
 ghost use Rattle.m3_decoded.specs.Ready.{image_of};
 
 use crate::memory::Memory;
+use crate::pending::Pending;
 use m3_decoded::Decoded;
 use m3_heap::Store;
 use m3_image::ImageView;
@@ -28,6 +29,7 @@ pub struct Machine<'a, S: Store> {
     pub(crate) points: u64,
     pub(crate) instructions: u128,
     pub(crate) collections: u64,
+    pub(crate) pending: Pending,
     // how many forks, waits and ends were carried out at most
     pub(crate) made: u64,
     // a collection ended in trap 9, and what it left isn't looked at any more

@@ -1,3 +1,6 @@
+ghost use Rattle.std.specs.Prelude.{◌≤◌, OnErr};
+ghost use Rattle.m3_ports.specs.Counts.{Rose};
+
 use crate::machine::Machine;
 use crate::plain::Halt;
 use crate::progress::Progress;
@@ -83,7 +86,11 @@ impl<'a, S: Store> Machine<'a, S> {
 
     /// Goes on to a point instruction at which the machine has to choose or to act, to the thread's end or to the
     /// run's.
-    fn turn<O: Sink>(&mut self, pace: &mut Pace, out: &mut O) -> Result<Progress, SinkFailed> {
+    #[tactic(auto, using(crate::proofs::RoseLemmas::rose_later))]
+    fn turn<O: Sink>(&mut self, pace: &mut Pace, out: &mut O) -> Result<Progress, SinkFailed>
+        ensures rises { O.faults out.old ≤ O.faults out.new }
+        ensures failed { OnErr result (Rose (O.faults out.old) (O.faults out.new)) }
+    {
         let mut fuel = u128::from(pace.points)
             .wrapping_mul(u128::from(pace.limit))
             .wrapping_add(u128::from(pace.limit));
@@ -114,12 +121,32 @@ impl<'a, S: Store> Machine<'a, S> {
 
     /// Runs on, with a schedule and so many points at most. SinkFailed comes only where a put failed; an outcome
     /// says that the sink took all output.
+    #[tactic(auto, using(crate::proofs::RoseLemmas::rose_later))]
     pub fn run<O: Sink>(
         &mut self,
         schedule: &[Entry],
         points: u64,
         out: &mut O,
-    ) -> Result<Outcome, SinkFailed> {
+    ) -> Result<Outcome, SinkFailed>
+        ensures rises { O.faults out.old ≤ O.faults out.new }
+        ensures failed { OnErr result (Rose (O.faults out.old) (O.faults out.new)) }
+    {
+        let outcome = self.run_on(schedule, points, out)?;
+        self.pending.flush(out)?;
+        Ok(outcome)
+    }
+
+    /// The same, where the last output may still wait.
+    #[tactic(auto, using(crate::proofs::RoseLemmas::rose_later))]
+    fn run_on<O: Sink>(
+        &mut self,
+        schedule: &[Entry],
+        points: u64,
+        out: &mut O,
+    ) -> Result<Outcome, SinkFailed>
+        ensures rises { O.faults out.old ≤ O.faults out.new }
+        ensures failed { OnErr result (Rose (O.faults out.old) (O.faults out.new)) }
+    {
         let mut entries = schedule;
         let mut left = points;
         while left > 0 {

@@ -3,6 +3,7 @@ ghost use Rattle.std.specs.Prelude.{◌≡◌, ◌≤◌, ◌<◌, [], false, le
 use crate::machine::Machine;
 use crate::memory::Memory;
 use crate::outside::Outside;
+use crate::pending::Pending;
 use m3_base::NoMemory;
 use m3_decoded::Decoded;
 use m3_heap::{Closed, Store};
@@ -79,6 +80,7 @@ impl<'a, S: Store> Machine<'a, S> {
         let sizes = room_for_sizes(alloc, most_dims(&image), store.free_words())?;
         let room = Room::new(alloc, stack)?;
         let threads = Threads::new(alloc, threads, stack)?;
+        let pending = Pending::new(alloc)?;
         let image = Decoded::of(alloc, image)?;
         let mut machine = Machine {
             image,
@@ -99,6 +101,7 @@ impl<'a, S: Store> Machine<'a, S> {
             points: 0,
             instructions: 0,
             collections: 0,
+            pending,
             made: 0,
             stuck: false,
         };

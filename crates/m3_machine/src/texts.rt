@@ -1,4 +1,5 @@
-ghost use Rattle.std.specs.Prelude.{◌≤◌};
+ghost use Rattle.std.specs.Prelude.{◌≤◌, OnErr};
+ghost use Rattle.m3_ports.specs.Counts.{Rose};
 
 use crate::machine::Machine;
 use crate::progress::Progress;
@@ -176,7 +177,11 @@ impl<'a, S: Store> Machine<'a, S> {
     }
 
     /// Puts the bytes of a text's words.
-    fn put_part<O: Sink>(&self, part: Part, out: &mut O) -> Result<(), SinkFailed> {
+    #[tactic(auto, using(crate::proofs::RoseLemmas::rose_later))]
+    fn put_part<O: Sink>(&mut self, part: Part, out: &mut O) -> Result<(), SinkFailed>
+        ensures rises { O.faults out.old ≤ O.faults out.new }
+        ensures failed { OnErr result (Rose (O.faults out.old) (O.faults out.new)) }
+    {
         for k in 0..part.count.div_ceil(8) {
             let word = match self.memory.load(part.text.wrapping_add(2 + k)) {
                 Some(word) => word,
@@ -184,17 +189,21 @@ impl<'a, S: Store> Machine<'a, S> {
             };
             let bytes = word.to_le_bytes();
             let left = part.count.wrapping_sub(k.wrapping_mul(8)).min(8) as usize;
-            out.put(&bytes[..left])?;
+            self.pending.put(&bytes[..left], out)?;
         }
         Ok(())
     }
 
     /// PUT: all words of the text are loaded before its first byte is put.
+    #[tactic(auto, using(crate::proofs::RoseLemmas::rose_later))]
     pub(crate) fn put_text<O: Sink>(
         &mut self,
         i: Instr,
         out: &mut O,
-    ) -> Result<Progress, SinkFailed> {
+    ) -> Result<Progress, SinkFailed>
+        ensures rises { O.faults out.old ≤ O.faults out.new }
+        ensures failed { OnErr result (Rose (O.faults out.old) (O.faults out.new)) }
+    {
         let text = self.word(i.a);
         let Some(count) = self.memory.load(text.wrapping_add(1)) else {
             return Ok(Progress::trap(2));

@@ -1,4 +1,9 @@
 //! The commands.
+ghost use Rattle.std.specs.Prelude.{◌≡◌, [], IfOk, IfErr, IsOk};
+ghost use Rattle.m3_image.specs.Images.{read_of};
+ghost use Rattle.m3_image_commands.specs.Statuses.{Carries, Commands, Puts, PutsNothing, Putting, Shelving, StoresNothing};
+ghost use Rattle.m3_source_commands.specs.Building.{Stores, RefusesSources, PutsFromSources};
+
 use crate::compiling::compile;
 use crate::sources::{Sources, fetch_sources, views_of, views_of_bytes};
 use m3_base::{Entry, NoMemory, Source};
@@ -16,7 +21,15 @@ fn store_image<F: Shelf>(
     name: &str,
     shelf: &mut F,
     image: &[u8],
-) -> Result<Answer, Refusal<'static>> {
+) -> Result<Answer, Refusal<'static>>
+    ensures { Stores (record {
+      held = (F.held shelf.old, F.held shelf.new);
+      faults = (F.faults shelf.old, F.faults shelf.new);
+      store_faults = (F.store_faults shelf.old, F.store_faults shelf.new);
+      absences = (F.absences shelf.old, F.absences shelf.new);
+      excesses = (F.excesses shelf.old, F.excesses shelf.new);
+    }) name.now image.now result }
+{
     match shelf.store(alloc, name, image) {
         Ok(()) => Ok(Answer::silent(alloc)),
         Err(ShelfFault::NoMemory) => Err(Refusal::NO_MEMORY),
@@ -30,7 +43,10 @@ fn compile_into(
     sources: Result<Vec<Source<'_>>, NoMemory>,
     switches: &[u8],
     image: &mut Vec<u8>,
-) -> Result<Vec<Entry>, Result<Answer, Refusal<'static>>> {
+) -> Result<Vec<Entry>, Result<Answer, Refusal<'static>>>
+    ensures ok { IfOk result (λ entries. IsOk (read_of image.new.items)) }
+    ensures err { IfErr result RefusesSources }
+{
     let Ok(sources) = sources else {
         return Err(Err(Refusal::NO_MEMORY));
     };
@@ -46,7 +62,15 @@ fn build_files<'a, F: Shelf>(
     files: &[&'a str],
     shelf: &mut F,
     image: &mut Vec<u8>,
-) -> Result<Answer, Refusal<'a>> {
+) -> Result<Answer, Refusal<'a>>
+    ensures { (out : Putting) → PutsNothing out → Carries (record {
+      held = (F.held shelf.old, F.held shelf.new);
+      faults = (F.faults shelf.old, F.faults shelf.new);
+      store_faults = (F.store_faults shelf.old, F.store_faults shelf.new);
+      absences = (F.absences shelf.old, F.absences shelf.new);
+      excesses = (F.excesses shelf.old, F.excesses shelf.new);
+    }) out image.new.items result }
+{
     let sources = fetch_sources(alloc, shelf, files)?;
     let views = views_of(alloc, &sources.names, &sources.texts);
     match compile_into(alloc, views, b"", image) {
@@ -63,7 +87,18 @@ fn exec_files<'a, F: Shelf, O: Sink>(
     shelf: &mut F,
     out: &mut O,
     image: &mut Vec<u8>,
-) -> Result<Answer, Refusal<'a>> {
+) -> Result<Answer, Refusal<'a>>
+    ensures { Carries (record {
+      held = (F.held shelf.old, F.held shelf.new);
+      faults = (F.faults shelf.old, F.faults shelf.new);
+      store_faults = (F.store_faults shelf.old, F.store_faults shelf.new);
+      absences = (F.absences shelf.old, F.absences shelf.new);
+      excesses = (F.excesses shelf.old, F.excesses shelf.new);
+    }) (record {
+      taken = (O.taken out.old, O.taken out.new);
+      faults = (O.faults out.old, O.faults out.new);
+    }) image.new.items result }
+{
     let sources = fetch_sources(alloc, shelf, files)?;
     let given = fetch_run_files(alloc, shelf, options)?;
     exec_sources(alloc, &sources, &given, options, out, image)
@@ -78,7 +113,12 @@ fn exec_sources<'a, O: Sink>(
     options: RunOptions<'a>,
     out: &mut O,
     image: &mut Vec<u8>,
-) -> Result<Answer, Refusal<'static>> {
+) -> Result<Answer, Refusal<'static>>
+    ensures { PutsFromSources image.new.items (record {
+      taken = (O.taken out.old, O.taken out.new);
+      faults = (O.faults out.old, O.faults out.new);
+    }) result }
+{
     let views = views_of(alloc, &sources.names, &sources.texts);
     match compile_into(alloc, views, &given.switches, image) {
         Ok(schedule) => {
@@ -112,7 +152,15 @@ pub fn exec_text<O: Sink, E: Sink>(
     out: &mut O,
     err: &mut E,
     image: &mut Vec<u8>,
-) -> u8 {
+) -> u8
+    ensures { (shelf : Shelving) → StoresNothing shelf → Commands shelf (record {
+      taken = (O.taken out.old, O.taken out.new);
+      faults = (O.faults out.old, O.faults out.new);
+    }) (record {
+      taken = (E.taken err.old, E.taken err.new);
+      faults = (E.faults err.old, E.faults err.new);
+    }) image.new.items result }
+{
     let mut sources = Sources::new(alloc);
     if sources.add(name, text).is_err() {
         return tell(err, Err(Refusal::NO_MEMORY));
@@ -131,7 +179,12 @@ fn bench<O: Sink>(
     number: u64,
     out: &mut O,
     image: &mut Vec<u8>,
-) -> Result<Answer, Refusal<'static>> {
+) -> Result<Answer, Refusal<'static>>
+    ensures { PutsFromSources image.new.items (record {
+      taken = (O.taken out.old, O.taken out.new);
+      faults = (O.faults out.old, O.faults out.new);
+    }) result }
+{
     let Ok(workload) = make(alloc, number) else {
         return Err(Refusal::NO_MEMORY);
     };
@@ -156,7 +209,18 @@ fn carry_out<'a, F: Shelf, O: Sink>(
     shelf: &mut F,
     out: &mut O,
     image: &mut Vec<u8>,
-) -> Result<Answer, Refusal<'a>> {
+) -> Result<Answer, Refusal<'a>>
+    ensures { Carries (record {
+      held = (F.held shelf.old, F.held shelf.new);
+      faults = (F.faults shelf.old, F.faults shelf.new);
+      store_faults = (F.store_faults shelf.old, F.store_faults shelf.new);
+      absences = (F.absences shelf.old, F.absences shelf.new);
+      excesses = (F.excesses shelf.old, F.excesses shelf.new);
+    }) (record {
+      taken = (O.taken out.old, O.taken out.new);
+      faults = (O.faults out.old, O.faults out.new);
+    }) image.new.items result }
+{
     match request {
         Request::Build { image: name, files } => build_files(alloc, *name, files, shelf, image),
         Request::Run {
@@ -181,7 +245,21 @@ pub fn command<F: Shelf, O: Sink, E: Sink>(
     out: &mut O,
     err: &mut E,
     image: &mut Vec<u8>,
-) -> u8 {
+) -> u8
+    ensures { Commands (record {
+      held = (F.held shelf.old, F.held shelf.new);
+      faults = (F.faults shelf.old, F.faults shelf.new);
+      store_faults = (F.store_faults shelf.old, F.store_faults shelf.new);
+      absences = (F.absences shelf.old, F.absences shelf.new);
+      excesses = (F.excesses shelf.old, F.excesses shelf.new);
+    }) (record {
+      taken = (O.taken out.old, O.taken out.new);
+      faults = (O.faults out.old, O.faults out.new);
+    }) (record {
+      taken = (E.taken err.old, E.taken err.new);
+      faults = (E.faults err.old, E.faults err.new);
+    }) image.new.items result }
+{
     match read_words(alloc, words) {
         Ok(Some(request)) => {
             let answer = carry_out(alloc, &request, shelf, out, image);

@@ -1,5 +1,8 @@
 //! From sources to the bytes of an image.
-ghost use Rattle.std.specs.Prelude.{◌≡◌, ◌<◌, true, length, All};
+ghost use Rattle.std.specs.Prelude.{◌≡◌, ◌<◌, true, length, All, IfOk, IfErr, IsOk};
+ghost use Rattle.m3_image.specs.Images.{read_of};
+ghost use Rattle.m3_image_commands.specs.Statuses.{RefusesBy};
+ghost use Rattle.m3_source_commands.specs.Building.{RefusesSources};
 
 use bumpalo::Bump;
 use m3_assembly::build;
@@ -28,7 +31,9 @@ fn refuse(
     alloc: Global,
     sources: &[Source<'_>],
     refused: Refused,
-) -> Result<Answer, Refusal<'static>> {
+) -> Result<Answer, Refusal<'static>>
+    ensures { RefusesBy 1 result }
+{
     match refused {
         Refused::NoMemory => Err(Refusal::NO_MEMORY),
         Refused::Rule(broken) => match rule_line(alloc, sources, broken) {
@@ -54,7 +59,10 @@ pub fn compile(
     alloc: Global,
     sources: &[Source<'_>],
     switches: &[u8],
-) -> Step<'static, (Vec<u8>, Vec<Entry>)> {
+) -> Step<'static, (Vec<u8>, Vec<Entry>)>
+    ensures ok { IfOk result (λ built. IsOk (read_of built.0.items)) }
+    ensures err { IfErr result RefusesSources }
+{
     if !are_short(sources) {
         return Err(Err(Refusal::NO_MEMORY));
     }

@@ -1,4 +1,6 @@
 //! The FILEs of a command.
+ghost use Rattle.m3_image_commands.specs.Statuses.{Fetches};
+
 use m3_base::{Bytes, NoMemory, Source};
 use m3_image_commands::{Refusal, fetch};
 use m3_ports::Shelf;
@@ -39,7 +41,15 @@ pub fn fetch_sources<'a, F: Shelf>(
     alloc: Global,
     shelf: &mut F,
     files: &[&'a str],
-) -> Result<Sources<'a>, Refusal<'a>> {
+) -> Result<Sources<'a>, Refusal<'a>>
+    ensures { Fetches (record {
+      held = (F.held shelf.old, F.held shelf.new);
+      faults = (F.faults shelf.old, F.faults shelf.new);
+      store_faults = (F.store_faults shelf.old, F.store_faults shelf.new);
+      absences = (F.absences shelf.old, F.absences shelf.new);
+      excesses = (F.excesses shelf.old, F.excesses shelf.new);
+    }) result }
+{
     let mut sources = Sources::new(alloc);
     let mut left = SOURCES_CAP;
     for name in files {

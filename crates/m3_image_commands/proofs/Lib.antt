@@ -1,0 +1,3 @@
+pub mod FetchLemmas
+pub mod CarryLemmas
+pub mod TellLemmas
