@@ -10,7 +10,7 @@ use Rattle.m3_base.specs.declared.outcomes.Outcome.TheVariants.{Done, Fault}
 use Rattle.m3_ports.specs.Files.{Files, IsNotHeld, IsHeldOver}
 use Rattle.m3_build.specs.Terms.{Term, outcome_of}
 use Rattle.m3_build.specs.PlainForm.{IsPlain}
-use Rattle.m3c.specs.Command.{Call, CountRose, IsSilent, IsRead, Ran, Answers, end_status, Promises, file_cap}
+use Rattle.m3c.specs.Command.{Call, CountRose, IsSilent, IsRead, Ran, Answers, IsOther, end_status, Promises, file_cap}
 
 or_parts : (a b : Bool) → (a || b) ≡ true → (a ≡ true) ⊎ (b ≡ true)
 or_parts true b e = inl refl
@@ -55,14 +55,6 @@ module _ (call : Call) (status : ℕ) (table : Answers call status) (files : Fil
       let o = same_run call files name text puts (Fault Overflow 0 r.0) f h g p r.1 in
       inl (e ∙ ap end_status o, subst (λ x. Ran call x) o r.1)
 
-  at_1 : status ≡ 1 → Complete
-  at_1 e =
-      let n = table.not_built e in
-      absurd (n.other puts (subst (λ x. IsPlain x puts) (same_text call files name text n.name n.text f h g n.read) p))
-
-  at_2 : status ≡ 2 → Complete
-  at_2 e = let u = table.usage e in absurd (some_none name (sym f ∙ u.0))
-
   at_4 : status ≡ 4 → Complete
   at_4 e = absurd (no_rise (table.write_fault e))
     where
@@ -88,20 +80,31 @@ module _ (call : Call) (status : ℕ) (table : Answers call status) (files : Fil
   complete : Complete
   complete =
       split (0 == status) _ (λ e. at_0 (same_number 0 status e)) (λ r.
-      split (1 == status) _ (λ e. at_1 (same_number 1 status e)) (λ r.
-      split (2 == status) _ (λ e. at_2 (same_number 2 status e)) (λ r.
       split (3 == status) _ (λ e. let a = table.read_fault (same_number 3 status e) in absurd (no_fault a.holds)) (λ r.
       split (4 == status) _ (λ e. at_4 (same_number 4 status e)) (λ r.
       split (5 == status) _ (λ e. let n = table.no_memory (same_number 5 status e) in inr (same_number 5 status e, n.0)) (λ r.
       split (6 == status) _ (λ e. at_6 (same_number 6 status e)) (λ r.
       split (7 == status) _ (λ e. at_7 (same_number 7 status e)) (λ r.
-      split (10 == status) _ (λ e. at_10 (same_number 10 status e)) (λ r. absurd (false≢true r)) r) r) r) r) r) r) r) r) table.known
+      split (10 == status) _ (λ e. at_10 (same_number 10 status e)) (λ r. absurd (false≢true r)) r) r) r) r) r) r) table.known
     where
       split : (a b : Bool) → (a ≡ true → Complete) → (b ≡ true → Complete) → (a || b) ≡ true → Complete
       split a b x y e = elim (or_parts a b e) [ inl t ↦ x t | inr t ↦ y t ]
 
 pub promised : (call : Call) (status : ℕ) → Answers call status → Promises call status
 promised call status table = record {
-  table = table;
+  table = inl table;
   complete = λ files name text puts f h g short p a b c. complete call status table files name text puts f h g short p a b c;
+}
+
+-- another command says nothing of the plain form
+not_plain : (call : Call) (files : Files) (name text : List ℕ) (puts : List Term) → call.file ≡ Some name → call.held ≡ Some files → get files name ≡ Some text → IsPlain text puts → IsOther call.file call.held → ⊥
+not_plain call files name text puts f h g p (inl none) = some_none name (sym f ∙ none)
+not_plain call files name text puts f h g p (inr n) =
+    let same : text ≡ n.text = same_text call files name text n.name n.text f h g (record { named = n.named; short = n.short; held = n.told }) in
+    n.other puts (subst (λ x. IsPlain x puts) same p)
+
+pub other_promised : (call : Call) (status : ℕ) → IsOther call.file call.held → Promises call status
+other_promised call status other = record {
+  table = inr other;
+  complete = λ files name text puts f h g short p a b c. absurd (not_plain call files name text puts f h g p other);
 }

@@ -1,11 +1,13 @@
 -- The rows of the table of statuses.
-use Rattle.std.proofs.Common.{◌≡◌, ℕ, ◌≤◌, List, [], ◌∷◌, ◌++◌, length, Option, None, Some, refl, sym, ap, ◌∙◌, subst, inl, inr, ◌⊎◌, arith, append_assoc}
+use Rattle.std.proofs.Common.{◌≡◌, ℕ, ◌≤◌, List, [], ◌∷◌, ◌++◌, length, Option, Some, refl, sym, ap, ◌∙◌, subst, inl, inr, ◌⊎◌, arith, append_assoc}
 use Rattle.std.specs.Prelude.{IfSome, codes}
 use Rattle.m3_base.specs.declared.outcomes.FaultKind.TheVariants.{Overflow}
 use Rattle.m3_base.specs.declared.outcomes.Outcome.{Outcome}
 use Rattle.m3_base.specs.declared.outcomes.Outcome.TheVariants.{Done, Fault}
 use Rattle.std.specs.FinMap.{get}
 use Rattle.m3_ports.specs.Counts.{Rose}
+use Rattle.m3_ports.specs.Files.{Files}
+use Rattle.m3_build.specs.PlainForm.{IsPlain}
 use Rattle.m3_isa.specs.declared.instructions.Instr.{Instr}
 use Rattle.m3_build.specs.Terms.{Term, Value, Gives, Overflows, value_of, ended_by, outcome_of, output_of, points_of}
 use Rattle.m3_build.specs.Machine.{State, Ends, run, start}
@@ -48,40 +50,10 @@ read_text call name text before after bytes named e empty same short held =
       held = subst (λ b. IfSome call.held (λ files. get files name ≡ Some b)) t held;
     }
 
-pub row_not_built : (call : Call) → NotPlain call → Answers call 1
-row_not_built call row = record {
-  known = refl;
-  done = λ e. absurd (omega arith);
-  not_built = λ e. row;
-  usage = λ e. absurd (omega arith);
-  read_fault = λ e. absurd (omega arith);
-  write_fault = λ e. absurd (omega arith);
-  no_memory = λ e. absurd (omega arith);
-  absent = λ e. absurd (omega arith);
-  too_long = λ e. absurd (omega arith);
-  fault = λ e. absurd (omega arith);
-}
-
-pub row_usage : (call : Call) → (call.file ≡ None) × IsSilent call × Says call (codes "usage: m3c build, run, exec, dump or bench") → Answers call 2
-row_usage call row = record {
-  known = refl;
-  done = λ e. absurd (omega arith);
-  not_built = λ e. absurd (omega arith);
-  usage = λ e. row;
-  read_fault = λ e. absurd (omega arith);
-  write_fault = λ e. absurd (omega arith);
-  no_memory = λ e. absurd (omega arith);
-  absent = λ e. absurd (omega arith);
-  too_long = λ e. absurd (omega arith);
-  fault = λ e. absurd (omega arith);
-}
-
 pub row_write_fault : (call : Call) → CountRose call.out_faults ⊎ CountRose call.err_faults → Answers call 4
 row_write_fault call row = record {
   known = refl;
   done = λ e. absurd (omega arith);
-  not_built = λ e. absurd (omega arith);
-  usage = λ e. absurd (omega arith);
   read_fault = λ e. absurd (omega arith);
   write_fault = λ e. row;
   no_memory = λ e. absurd (omega arith);
@@ -94,8 +66,6 @@ pub row_no_memory : (call : Call) → IsSilent call × Says call (codes "out of 
 row_no_memory call row = record {
   known = refl;
   done = λ e. absurd (omega arith);
-  not_built = λ e. absurd (omega arith);
-  usage = λ e. absurd (omega arith);
   read_fault = λ e. absurd (omega arith);
   write_fault = λ e. absurd (omega arith);
   no_memory = λ e. row;
@@ -108,8 +78,6 @@ row_done : (call : Call) → Ran call Done → Answers call 0
 row_done call row = record {
   known = refl;
   done = λ e. row;
-  not_built = λ e. absurd (omega arith);
-  usage = λ e. absurd (omega arith);
   read_fault = λ e. absurd (omega arith);
   write_fault = λ e. absurd (omega arith);
   no_memory = λ e. absurd (omega arith);
@@ -122,8 +90,6 @@ row_fault : (call : Call) → (line : ℕ) × Ran call (Fault Overflow 0 line) �
 row_fault call row = record {
   known = refl;
   done = λ e. absurd (omega arith);
-  not_built = λ e. absurd (omega arith);
-  usage = λ e. absurd (omega arith);
   read_fault = λ e. absurd (omega arith);
   write_fault = λ e. absurd (omega arith);
   no_memory = λ e. absurd (omega arith);
@@ -131,6 +97,19 @@ row_fault call row = record {
   too_long = λ e. absurd (omega arith);
   fault = λ e. row;
 }
+
+-- a text that was read and isn't in the plain form
+pub not_plain_text : (held : Option Files) (name text before after bytes : List ℕ) → after ≡ before ++ bytes → before ≡ [] → text ≡ after → length bytes ≤ 1048576 → IfSome held (λ files. get files name ≡ Some bytes) → ((puts : List Term) → IsPlain text puts → ⊥) → NotPlain (Some name) held
+not_plain_text held name text before after bytes e empty same short told other =
+    let t : bytes ≡ text = sym (same ∙ e ∙ ap (λ b. b ++ bytes) empty) in
+    record {
+      name = name;
+      text = text;
+      named = refl;
+      short = subst (λ b. length b ≤ 1048576) t short;
+      told = subst (λ b. IfSome held (λ files. get files name ≡ Some b)) t told;
+      other = other;
+    }
 
 -- ---- a run
 
@@ -216,8 +195,6 @@ module _ (a : Call) (line : List ℕ) (file : Option (List ℕ)) (err : Option (
   answers_on status r = record {
     known = r.known;
     done = λ e. ran_on Done (r.done e);
-    not_built = λ e. let n = r.not_built e in record { name = n.name; text = n.text; read = read_on n.name n.text n.read; other = n.other; silent = n.silent; says = say _ n.says };
-    usage = λ e. let u = r.usage e in (same ∙ u.0, u.1, say _ u.2);
     read_fault = λ e. refuse_on _ _ (r.read_fault e);
     write_fault = λ e. inl (out_rose (r.write_fault e));
     no_memory = λ e. let n = r.no_memory e in (n.0, say _ n.1);
@@ -225,12 +202,6 @@ module _ (a : Call) (line : List ℕ) (file : Option (List ℕ)) (err : Option (
     too_long = λ e. refuse_on _ _ (r.too_long e);
     fault = λ e. let f = r.fault e in (f.0, ran_on _ f.1);
   }
-
--- ---- lines
-
-pub line_not_built : (line line1 line0 name piece name' : List ℕ) → line0 ≡ [] → name' ≡ name → line1 ≡ line0 ++ name' → line ≡ line1 ++ piece → piece ≡ codes ":1:1: rule 99 not built yet" ++ codes "\n" → Some line ≡ Some ([] ++ ((name ++ codes ":1:1: rule 99 not built yet") ++ codes "\n"))
-line_not_built line line1 line0 name piece name' e n e1 e2 p =
-    ap Some (e2 ∙ ap (λ l. l ++ piece) (e1 ∙ ap (λ l. l ++ name') e ∙ n) ∙ ap (λ x. name ++ x) p ∙ sym (append_assoc name (codes ":1:1: rule 99 not built yet") (codes "\n")))
 
 -- the command's last step: the line goes to err, or the put fails
 pub told_or_failed : (a : Call) (line : List ℕ) (file : Option (List ℕ)) (err : Option (List ℕ) × Option (List ℕ)) (err_faults : ℕ × ℕ) (status result : ℕ) (line' : List ℕ) → file ≡ a.file → a.err ≡ (Some [], Some line) → a.err_faults ≡ (0, 0) → line' ≡ line → Answers a status → ((result ≡ status) × Took err line') ⊎ ((result ≡ 4) × CountRose err_faults) → Answers (told a file err err_faults) result

@@ -22,7 +22,7 @@ abbrev pub is_name : List ℕ → Bool
 is_name [] = false
 is_name (b ∷ bytes) = not (b == 45)
 
--- the file that the words name, where they are a command line: exec FILE
+-- the file that the words name, where they are exec FILE without options
 abbrev pub file_of : List (List ℕ) → Option (List ℕ)
 file_of [] = None
 file_of (command ∷ []) = None
@@ -109,21 +109,24 @@ pub record Refuses (call : Call) (cause : List ℕ) (Holds : List ℕ → Type 0
   pub silent : IsSilent call
   pub says : Says call (cause ++ codes " " ++ name)
 
--- the file is no text of the plain form
-pub record NotPlain (call : Call) : Type 0 where
+-- the words name a file that was read, and its text isn't in the plain form
+pub record NotPlain (file : Option (List ℕ)) (held : Option Files) : Type 0 where
   pub name : List ℕ
   pub text : List ℕ
-  pub read : IsRead call name text
+  pub named : file ≡ Some name
+  pub short : length text ≤ file_cap
+  pub told : IfSome held (λ files. get files name ≡ Some text)
   pub other : (puts : List Term) → IsPlain text puts → ⊥
-  pub silent : IsSilent call
-  pub says : Says call (name ++ codes ":1:1: rule 99 not built yet")
 
--- each status, and when it comes
+-- the words are another command than exec FILE with a text in the plain form: what it answers isn't said
+-- here
+abbrev pub IsOther : Option (List ℕ) → Option Files → Type 0
+IsOther file held = (file ≡ None) ⊎ NotPlain file held
+
+-- each status of a text in the plain form, or of a file that can't be fetched, and when it comes
 pub record Answers (call : Call) (status : ℕ) : Type 0 where
-  pub known : IsTrue (list_any (λ s. s == status) (0 ∷ 1 ∷ 2 ∷ 3 ∷ 4 ∷ 5 ∷ 6 ∷ 7 ∷ 10 ∷ []))
+  pub known : IsTrue (list_any (λ s. s == status) (0 ∷ 3 ∷ 4 ∷ 5 ∷ 6 ∷ 7 ∷ 10 ∷ []))
   pub done : status ≡ 0 → Ran call Done
-  pub not_built : status ≡ 1 → NotPlain call
-  pub usage : status ≡ 2 → (call.file ≡ None) × IsSilent call × Says call (codes "usage: m3c build, run, exec, dump or bench")
   pub read_fault : status ≡ 3 → Refuses call (codes "read fault") (λ name. CountRose call.faults)
   pub write_fault : status ≡ 4 → CountRose call.out_faults ⊎ CountRose call.err_faults
   pub no_memory : status ≡ 5 → IsSilent call × Says call (codes "out of memory")
@@ -146,5 +149,5 @@ IsComplete call status =
 
 -- the table, and completeness
 pub record Promises (call : Call) (status : ℕ) : Type 0 where
-  pub table : Answers call status
+  pub table : Answers call status ⊎ IsOther call.file call.held
   pub complete : IsComplete call status

@@ -1,13 +1,13 @@
 // The command: its words, its files and its answer.
 
-ghost use Rattle.std.specs.Prelude.{◌≡◌, ◌+◌, ◌≤◌, ◌++◌, [], ◌⊎◌, ℕ, List, Option, Some, None, Result, length, codes, map, string_bytes, vec_len, vec_capacity, IfOk, MatchOption, IsErrOf};
+ghost use Rattle.std.specs.Prelude.{◌≡◌, ◌+◌, ◌≤◌, ◌++◌, [], ◌⊎◌, ℕ, List, Option, Some, None, Result, length, codes, map, string_bytes, vec_len, vec_capacity, IfOk, MatchOption, MatchResult, IsErrOf};
 ghost use Rattle.m3_base.specs.declared.outcomes.Outcome.TheVariants.{Done, Fault};
 ghost use Rattle.m3_base.specs.declared.outcomes.FaultKind.TheVariants.{Overflow};
 ghost use Rattle.m3_ports.specs.Counts.{Rose};
 ghost use Rattle.m3_ports.specs.declared.shelves.ShelfFault.TheVariants.{Absent, TooLong, Failed, NoMemory};
 ghost use Rattle.m3_build.specs.Terms.{Term};
 ghost use Rattle.m3_build.specs.PlainForm.{IsPlain};
-ghost use Rattle.m3c.specs.Command.{file_of, is_name, Took, Answers, Promises};
+ghost use Rattle.m3c.specs.Command.{file_of, is_name, Took, Answers, IsOther, NotPlain, Promises};
 ghost use Rattle.m3c.specs.Compiled.{Compiles, refusal, refusal_status};
 
 use crate::machine::run;
@@ -15,13 +15,10 @@ use crate::report::{LINE_ROOM, add, add_report};
 use crate::stack::Stack;
 use m3_build::{PlainCode, PlainRefused, build_plain, read_plain};
 use m3_ports::{Shelf, ShelfFault, Sink};
+use m3_source_commands::{command, exec_text};
 use std::alloc::Global;
 
 // The statuses that the command ends with, beside those of a run.
-const NOT_BUILT: u8 = 1;
-
-const USAGE: u8 = 2;
-
 const READ_FAULT: u8 = 3;
 
 const WRITE_FAULT: u8 = 4;
@@ -37,9 +34,10 @@ const FILE_CAP: u64 = 1_048_576;
 
 /// Carries out the command that the words give, without the program's name, and gives its status.
 ///
-/// For now the one command is `exec FILE`, with a FILE in the plain form: its text is compiled and run,
-/// its output goes to `out`, and one line goes to `err`. `image` stays empty. No status but 4 comes
-/// where a sink failed.
+/// The commands are `build IMAGE FILE..`, `run IMAGE`, `exec FILE..`, `dump IMAGE` and `bench N`. Output
+/// goes to `out`, one line to `err`, and the bytes of the image that was built, run or dumped to
+/// `image`. `exec FILE` of a text in the plain form is compiled by the generator that is proved, and
+/// leaves no image. No such status but 4 comes where a sink failed.
 pub fn m3c<F: Shelf, O: Sink, E: Sink>(
     alloc: Global,
     words: Vec<String>,
@@ -60,17 +58,64 @@ pub fn m3c<F: Shelf, O: Sink, E: Sink>(
       err = (E.taken err.old, E.taken err.new);
       err_faults = (E.faults err.old, E.faults err.new);
     }) result }
-    ensures held { F.held shelf.new ≡ F.held shelf.old }
-    ensures image { image.new.items ≡ [] }
+    ensures held { (file_of (map string_bytes words.items) ≡ None) ⊎ (F.held shelf.new ≡ F.held shelf.old) }
+    ensures image { (image.new.items ≡ []) ⊎ IsOther (file_of (map string_bytes words.items)) (F.held shelf.old) }
 {
-    let Some(name) = file_word(words.as_slice()) else {
-        return tell(err, USAGE, b"usage: m3c build, run, exec, dump or bench\n");
-    };
+    match file_word(words.as_slice()) {
+        Some(name) => exec_file(alloc, name, shelf, out, err, image),
+        None => other_command(alloc, words.as_slice(), shelf, out, err, image),
+    }
+}
+
+// Any other command than `exec FILE`.
+fn other_command<F: Shelf, O: Sink, E: Sink>(
+    alloc: Global,
+    words: &[String],
+    shelf: &mut F,
+    out: &mut O,
+    err: &mut E,
+    image: &mut Vec<u8>,
+) -> u8 {
+    let mut texts = Vec::new(alloc);
+    for word in words {
+        if texts.push(word.as_str()).is_err() {
+            return tell(err, NO_MEMORY, b"out of memory\n");
+        }
+    }
+    command(alloc, &texts, shelf, out, err, image)
+}
+
+// `exec FILE`: a text in the plain form by the generator that is proved, every other by the compiler.
+fn exec_file<F: Shelf, O: Sink, E: Sink>(
+    alloc: Global,
+    name: &str,
+    shelf: &mut F,
+    out: &mut O,
+    err: &mut E,
+    image: &mut Vec<u8>,
+) -> u8
+    requires { image.old.items ≡ [] }
+    ensures promises { Promises (record {
+      file = Some name.now;
+      held = F.held shelf.old;
+      faults = (F.faults shelf.old, F.faults shelf.new);
+      absences = (F.absences shelf.old, F.absences shelf.new);
+      excesses = (F.excesses shelf.old, F.excesses shelf.new);
+      out = (O.taken out.old, O.taken out.new);
+      out_faults = (O.faults out.old, O.faults out.new);
+      err = (E.taken err.old, E.taken err.new);
+      err_faults = (E.faults err.old, E.faults err.new);
+    }) result }
+    ensures held { F.held shelf.new ≡ F.held shelf.old }
+    ensures image { (image.new.items ≡ []) ⊎ IsOther (Some name.now) (F.held shelf.old) }
+{
     let Ok(mut line) = Vec::with_capacity(alloc, name.len() + LINE_ROOM) else {
         return tell(err, NO_MEMORY, b"out of memory\n");
     };
-    let status = execute(alloc, name, shelf, out, &mut line);
-    tell(err, status, line.as_slice())
+    match execute(alloc, name, shelf, out, &mut line) {
+        Ok(status) => tell(err, status, line.as_slice()),
+        Err(text) => exec_text(alloc, name, text, out, err, image),
+    }
 }
 
 // The file that the words name, where they are a command line.
@@ -106,17 +151,18 @@ fn tell<E: Sink>(err: &mut E, status: u8, line: &[u8]) -> u8
     }
 }
 
-// Fetches the file, compiles it and runs it. The line for err is added, and the status given.
+// Fetches the file, compiles it and runs it. The line for err is added, and the status given; a text
+// that isn't in the plain form comes back.
 fn execute<F: Shelf, O: Sink>(
     alloc: Global,
     name: &str,
     shelf: &mut F,
     out: &mut O,
     line: &mut Vec<u8>,
-) -> u8
+) -> Result<u8, Vec<u8>>
     requires empty { line.old.items ≡ [] }
     requires room { length name.now + 128 ≤ vec_capacity line.old }
-    ensures answers { Answers (record {
+    ensures answers { MatchResult result (λ status. Answers (record {
       file = Some name.now;
       held = F.held shelf.old;
       faults = (F.faults shelf.old, F.faults shelf.new);
@@ -126,34 +172,30 @@ fn execute<F: Shelf, O: Sink>(
       out_faults = (O.faults out.old, O.faults out.new);
       err = (Some [], Some line.new.items);
       err_faults = (0, 0);
-    }) result }
+    }) status) (λ text. NotPlain (Some name.now) (F.held shelf.old)) }
     ensures held { F.held shelf.new ≡ F.held shelf.old }
 {
     let mut text = Vec::new(alloc);
     if let Err(fault) = shelf.fetch(alloc, name, FILE_CAP, &mut text) {
-        return refuse(fault, name, line);
+        return Ok(refuse(fault, name, line));
     }
     let built = match compile(alloc, text.as_slice()) {
         Ok(built) => built,
-        Err(PlainRefused::NotBuilt) => {
-            add(line, name.as_bytes());
-            add(line, b":1:1: rule 99 not built yet\n");
-            return NOT_BUILT;
-        }
+        Err(PlainRefused::NotBuilt) => return Err(text),
         Err(PlainRefused::NoMemory) => {
             add(line, b"out of memory\n");
-            return NO_MEMORY;
+            return Ok(NO_MEMORY);
         }
     };
     let Ok(stack) = Stack::new(alloc) else {
         add(line, b"out of memory\n");
-        return NO_MEMORY;
+        return Ok(NO_MEMORY);
     };
     match run(stack, &built, out) {
-        Ok(ended) => add_report(line, name, ended),
+        Ok(ended) => Ok(add_report(line, name, ended)),
         Err(_) => {
             add(line, b"write fault\n");
-            WRITE_FAULT
+            Ok(WRITE_FAULT)
         }
     }
 }

@@ -1,81 +1,70 @@
-//! The program `m3c`: the real files, standard output and standard error around the commands.
+//! The program `m3c`: the real files, standard output and standard error around the command.
 #![tactic(auto)]
 
-use m3_command_line::{Request, read_words};
-use m3_image_commands::{dump_image, run_image, tell};
-use m3_ports::{FileShelf, Shelf, Sink, StdSink};
+use m3_base::NoMemory;
+use m3_ports::{FileShelf, Sink, StdSink};
+use m3_streams::{Gathered, Kept};
 use m3c::m3c;
-use std::alloc::{AllocError, Global};
-use std::io::ErrorKind;
+use std::alloc::Global;
+use std::io::{ErrorKind, Stderr, Stdout};
 use std::process::ExitCode;
 use std::rt::Env;
 use std::{env, io};
 
+/// What the command is called with.
+#[derive(Drop)]
+struct Call {
+    words: Vec<String>,
+    out: Gathered<StdSink<Stdout>>,
+    err: Kept<StdSink<Stderr>>,
+}
+
 fn main(rt: HostRuntime) -> io::Result<ExitCode> {
-    let mut shelf = FileShelf::new(&rt);
-    let mut out = StdSink::out(rt.stdout());
-    let mut err = StdSink::err(rt.stderr());
-    let words = match words(&rt) {
-        Ok(words) => words,
-        // Words that aren't UTF-8 are no command line, as no words are none.
-        Err(error) if error.kind() == ErrorKind::InvalidData => Vec::new(rt.alloc()),
-        Err(_) => {
-            let told = err.put(b"out of memory\n");
-            return Ok(ExitCode::from(if told.is_ok() { 5 } else { 4 }));
-        }
+    let Ok(call) = call_of(&rt, rt.stdout(), rt.stderr()) else {
+        let told = StdSink::err(rt.stderr()).put(b"out of memory\n");
+        return Ok(ExitCode::from(if told.is_ok() { 5 } else { 4 }));
     };
+    let mut shelf = FileShelf::new(&rt);
+    let Call {
+        words,
+        mut out,
+        mut err,
+    } = call;
     let mut image = Vec::new(rt.alloc());
-    let done = of_image(
+    let status = m3c(
         rt.alloc(),
-        words.as_slice(),
+        words,
         &mut shelf,
         &mut out,
         &mut err,
         &mut image,
-    )?;
-    let status = match done {
-        Some(status) => status,
-        None => {
-            let mut fresh = Vec::new(rt.alloc());
-            m3c(
-                rt.alloc(),
-                words,
-                &mut shelf,
-                &mut out,
-                &mut err,
-                &mut fresh,
-            )
-        }
+    );
+    // The output goes first, so that the line stands behind it.
+    let status = if out.flush().is_ok() {
+        status
+    } else {
+        err.forget();
+        let _kept = err.put(b"write fault\n");
+        4
     };
-    Ok(ExitCode::from(status))
+    let told = err.give();
+    Ok(ExitCode::from(if told.is_ok() { status } else { 4 }))
 }
 
-// Carries out a command over an image, and gives its status. None where the words are none.
-fn of_image<F: Shelf, O: Sink, E: Sink>(
-    alloc: Global,
-    words: &[String],
-    shelf: &mut F,
-    out: &mut O,
-    err: &mut E,
-    image: &mut Vec<u8>,
-) -> Result<Option<u8>, AllocError> {
-    let mut texts = Vec::new(alloc);
-    for word in words {
-        texts.push(word.as_str())?;
-    }
-    let answer = match read_words(alloc, &texts) {
-        Ok(
-            Some(
-                Request::Run {
-                    image: name,
-                    options,
-                },
-            ),
-        ) => run_image(alloc, name, options, shelf, out, image),
-        Ok(Some(Request::Dump { image: name })) => dump_image(alloc, name, shelf, out, image),
-        _ => return Ok(None),
+/// The words and the streams, or want of memory.
+fn call_of<R: Env + Alloc<A = Global>>(rt: &R, out: Stdout, err: Stderr) -> Result<Call, NoMemory> {
+    let alloc = rt.alloc();
+    let words = match words(rt) {
+        Ok(words) => words,
+        // Words that aren't UTF-8 are no command line, as no words are none.
+        Err(error) if error.kind() == ErrorKind::InvalidData => Vec::new(alloc),
+        Err(_) => return Err(NoMemory),
     };
-    Ok(Some(tell(err, answer)))
+    Ok(Call {
+        words,
+        out: Gathered::new(alloc, StdSink::out(out))?,
+        err: Kept::new(alloc, StdSink::err(err))?,
+    })
 }
 
 // The words of the command line, without the program's name.

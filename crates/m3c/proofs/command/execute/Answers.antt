@@ -1,18 +1,11 @@
 use Rattle.std.proofs.Common.{refl, ap, Some}
-use Rattle.m3c.proofs.Rows.{read_text, row_not_built, row_ran, ended_plainly, line_not_built}
+use Rattle.m3c.proofs.Rows.{read_text, not_plain_text, row_ran, ended_plainly}
 use Rattle.m3c.proofs.command.execute.Goals as goal
 
 pub returns-in-Err-NotBuilt-clause-answers : goal.returns-in-Err-NotBuilt-clause-answers
 returns-in-Err-NotBuilt-clause-answers g c =
     let f = c.in_default.ensures.fetches.ok in
-    row_not_built _ (record {
-      name = c.args.name.now;
-      text = c.as_slice.result.now;
-      read = read_text _ c.args.name.now c.as_slice.result.now c.new-text.result.items c.fetch.new.into.items f.0 refl f.1 c.new-text.ensures.items c.as_slice.ensures.value f.2 f.3;
-      other = c.in-Err-NotBuilt.ensures.not_built (cc);
-      silent = refl;
-      says = line_not_built _ _ _ c.args.name.now _ _ c.requires.empty c.as_bytes.ensures.value c.add.ensures.items c.add-in-Err-NotBuilt.ensures.items refl;
-    })
+    not_plain_text _ c.args.name.now c.as_slice.result.now c.new-text.result.items c.fetch.new.into.items f.0 f.1 c.new-text.ensures.items c.as_slice.ensures.value f.2 f.3 (c.in-Err-NotBuilt.ensures.not_built (cc))
 
 pub add_report-requires-clause-outcome : goal.add_report-requires-clause-outcome
 add_report-requires-clause-outcome g c =

@@ -1,0 +1,193 @@
+//! The commands.
+use crate::compiling::compile;
+use crate::sources::{Sources, fetch_sources, views_of, views_of_bytes};
+use m3_base::{Entry, NoMemory, Source};
+use m3_command_line::{Limits, Request, RunOptions, read_words};
+use m3_image_commands::{
+    Answer, Refusal, Run, RunFiles, dump_image, fetch_run_files, run_bytes, run_image, tell,
+};
+use m3_ports::{Shelf, ShelfFault, Sink};
+use m3_workload::make;
+use std::alloc::Global;
+
+/// Stores an image.
+fn store_image<F: Shelf>(
+    alloc: Global,
+    name: &str,
+    shelf: &mut F,
+    image: &[u8],
+) -> Result<Answer, Refusal<'static>> {
+    match shelf.store(alloc, name, image) {
+        Ok(()) => Ok(Answer::silent(alloc)),
+        Err(ShelfFault::NoMemory) => Err(Refusal::NO_MEMORY),
+        Err(_) => Err(Refusal::WRITE_FAULT),
+    }
+}
+
+/// Puts the bytes of a program's image into `image`, and gives the schedule of its switch file.
+fn compile_into(
+    alloc: Global,
+    sources: Result<Vec<Source<'_>>, NoMemory>,
+    switches: &[u8],
+    image: &mut Vec<u8>,
+) -> Result<Vec<Entry>, Result<Answer, Refusal<'static>>> {
+    let Ok(sources) = sources else {
+        return Err(Err(Refusal::NO_MEMORY));
+    };
+    let (bytes, schedule) = compile(alloc, &sources, switches)?;
+    *image = bytes;
+    Ok(schedule)
+}
+
+/// `build IMAGE FILE..`: stores the image of a program.
+fn build_files<'a, F: Shelf>(
+    alloc: Global,
+    name: &'a str,
+    files: &[&'a str],
+    shelf: &mut F,
+    image: &mut Vec<u8>,
+) -> Result<Answer, Refusal<'a>> {
+    let sources = fetch_sources(alloc, shelf, files)?;
+    let views = views_of(alloc, &sources.names, &sources.texts);
+    match compile_into(alloc, views, b"", image) {
+        Ok(_) => store_image(alloc, name, shelf, image),
+        Err(answer) => answer,
+    }
+}
+
+/// `exec FILE..`: runs a program from memory.
+fn exec_files<'a, F: Shelf, O: Sink>(
+    alloc: Global,
+    files: &[&'a str],
+    options: RunOptions<'a>,
+    shelf: &mut F,
+    out: &mut O,
+    image: &mut Vec<u8>,
+) -> Result<Answer, Refusal<'a>> {
+    let sources = fetch_sources(alloc, shelf, files)?;
+    let given = fetch_run_files(alloc, shelf, options)?;
+    exec_sources(alloc, &sources, &given, options, out, image)
+}
+
+/// Runs a program whose files were fetched, with those of its options. The bytes of its image go to
+/// `image`.
+fn exec_sources<'a, O: Sink>(
+    alloc: Global,
+    sources: &Sources<'a>,
+    given: &RunFiles,
+    options: RunOptions<'a>,
+    out: &mut O,
+    image: &mut Vec<u8>,
+) -> Result<Answer, Refusal<'static>> {
+    let views = views_of(alloc, &sources.names, &sources.texts);
+    match compile_into(alloc, views, &given.switches, image) {
+        Ok(schedule) => {
+            let run = Run {
+                limits: options.limits,
+                schedule: &schedule,
+                input: &given.input,
+                tells_collections: options.switches.is_some(),
+            };
+            run_bytes(alloc, image, run, out)
+        }
+        Err(answer) => answer,
+    }
+}
+
+/// The options of a run where none was given.
+fn no_options() -> RunOptions<'static> {
+    RunOptions {
+        switches: None,
+        input: None,
+        limits: Limits::usual(),
+    }
+}
+
+/// Runs the program of one file, without options: `exec FILE` where its text is there already. Output
+/// goes to `out`, one line to `err`, and the bytes of the image to `image`. Gives the status.
+pub fn exec_text<O: Sink, E: Sink>(
+    alloc: Global,
+    name: &str,
+    text: Vec<u8>,
+    out: &mut O,
+    err: &mut E,
+    image: &mut Vec<u8>,
+) -> u8 {
+    let mut sources = Sources::new(alloc);
+    if sources.add(name, text).is_err() {
+        return tell(err, Err(Refusal::NO_MEMORY));
+    }
+    let given = RunFiles {
+        switches: Vec::new(alloc),
+        input: Vec::new(alloc),
+    };
+    let answer = exec_sources(alloc, &sources, &given, no_options(), out, image);
+    tell(err, answer)
+}
+
+/// `bench N`: runs the workload of a number.
+fn bench<O: Sink>(
+    alloc: Global,
+    number: u64,
+    out: &mut O,
+    image: &mut Vec<u8>,
+) -> Result<Answer, Refusal<'static>> {
+    let Ok(workload) = make(alloc, number) else {
+        return Err(Refusal::NO_MEMORY);
+    };
+    let views = views_of_bytes(alloc, &workload.names, &workload.texts);
+    match compile_into(alloc, views, b"", image) {
+        Ok(_) => {
+            let run = Run {
+                limits: Limits::of_bench(),
+                schedule: &workload.schedule,
+                input: b"",
+                tells_collections: false,
+            };
+            run_bytes(alloc, image, run, out)
+        }
+        Err(answer) => answer,
+    }
+}
+
+fn carry_out<'a, F: Shelf, O: Sink>(
+    alloc: Global,
+    request: &Request<'a>,
+    shelf: &mut F,
+    out: &mut O,
+    image: &mut Vec<u8>,
+) -> Result<Answer, Refusal<'a>> {
+    match request {
+        Request::Build { image: name, files } => build_files(alloc, *name, files, shelf, image),
+        Request::Run {
+            image: name,
+            options,
+        } => run_image(alloc, *name, *options, shelf, out, image),
+        Request::Exec { files, options } => {
+            exec_files(alloc, files, *options, shelf, out, image)
+        }
+        Request::Dump { image: name } => dump_image(alloc, *name, shelf, out, image),
+        Request::Bench { number } => bench(alloc, *number, out, image),
+    }
+}
+
+/// Carries out the command that some words say, without the program's name: output goes to `out`,
+/// one line to `err`, and the bytes of the image that was built, run or dumped to `image`, which is
+/// to be empty before. Gives the status.
+pub fn command<F: Shelf, O: Sink, E: Sink>(
+    alloc: Global,
+    words: &[&str],
+    shelf: &mut F,
+    out: &mut O,
+    err: &mut E,
+    image: &mut Vec<u8>,
+) -> u8 {
+    match read_words(alloc, words) {
+        Ok(Some(request)) => {
+            let answer = carry_out(alloc, &request, shelf, out, image);
+            tell(err, answer)
+        }
+        Ok(None) => tell(err, Err(Refusal::USAGE)),
+        Err(_) => tell(err, Err(Refusal::NO_MEMORY)),
+    }
+}

@@ -1,0 +1,9 @@
+//! The commands over sources: `build IMAGE FILE..`, `exec FILE..` and `bench N`; and every command
+//! by its words.
+#![tactic(auto)]
+
+mod commands;
+mod compiling;
+mod sources;
+
+pub use commands::{command, exec_text};

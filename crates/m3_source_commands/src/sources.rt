@@ -1,0 +1,86 @@
+//! The FILEs of a command.
+use m3_base::{Bytes, NoMemory, Source};
+use m3_image_commands::{Refusal, fetch};
+use m3_ports::Shelf;
+use std::alloc::Global;
+
+// The most bytes of one FILE.
+const SOURCE_CAP: u64 = 1_048_576;
+
+// The most bytes of all FILEs.
+const SOURCES_CAP: u64 = 8_388_608;
+
+/// The names and texts of a program's files, in the order of the command.
+#[derive(Drop)]
+pub struct Sources<'a> {
+    pub names: Vec<&'a str>,
+    pub texts: Vec<Vec<u8>>,
+}
+
+impl<'a> Sources<'a> {
+    /// No file yet.
+    pub fn new(alloc: Global) -> Sources<'a> {
+        Sources {
+            names: Vec::new(alloc),
+            texts: Vec::new(alloc),
+        }
+    }
+
+    /// Adds a file behind the others.
+    pub fn add(&mut self, name: &'a str, text: Vec<u8>) -> Result<(), NoMemory> {
+        self.names.push(name)?;
+        self.texts.push(text)?;
+        Ok(())
+    }
+}
+
+/// Fetches the FILEs, each within its cap and what is left for all.
+pub fn fetch_sources<'a, F: Shelf>(
+    alloc: Global,
+    shelf: &mut F,
+    files: &[&'a str],
+) -> Result<Sources<'a>, Refusal<'a>> {
+    let mut sources = Sources::new(alloc);
+    let mut left = SOURCES_CAP;
+    for name in files {
+        let mut text = Vec::new(alloc);
+        fetch(alloc, shelf, *name, left.min(SOURCE_CAP), &mut text)?;
+        left = left.saturating_sub(text.len() as u64);
+        if sources.add(*name, text).is_err() {
+            return Err(Refusal::NO_MEMORY);
+        }
+    }
+    Ok(sources)
+}
+
+/// The files as the checker takes them.
+pub fn views_of<'s>(
+    alloc: Global,
+    names: &'s [&'s str],
+    texts: &'s [Vec<u8>],
+) -> Result<Vec<Source<'s>>, NoMemory> {
+    let mut views = Vec::new(alloc);
+    for (name, text) in names.iter().zip(texts) {
+        views.push(Source {
+            name: name.as_bytes(),
+            text: text.as_slice(),
+        })?;
+    }
+    Ok(views)
+}
+
+/// The same of files that the program made itself.
+pub fn views_of_bytes<'s>(
+    alloc: Global,
+    names: &'s [Bytes],
+    texts: &'s [Bytes],
+) -> Result<Vec<Source<'s>>, NoMemory> {
+    let mut views = Vec::new(alloc);
+    for (name, text) in names.iter().zip(texts) {
+        views.push(Source {
+            name: name.as_slice(),
+            text: text.as_slice(),
+        })?;
+    }
+    Ok(views)
+}

@@ -1,0 +1,12 @@
+use Rattle.std.proofs.Common.{refl, inr}
+use Rattle.m3c.proofs.Rows.{told_or_failed}
+use Rattle.m3c.proofs.Completes.{promised, other_promised}
+use Rattle.m3c.proofs.command.exec_file.Goals as goal
+
+pub returns-in-Ok-execute-clause-promises : goal.returns-in-Ok-execute-clause-promises
+returns-in-Ok-execute-clause-promises g c =
+    promised _ _ (told_or_failed _ c.execute.new.line.items _ _ _ c.in-Ok-execute.status c.tell-in-Ok-execute.result c.as_slice.result.now
+    refl refl refl c.as_slice.ensures.value c.in-Ok-execute.ensures.answers c.tell-in-Ok-execute.ensures)
+
+pub returns-clause-promises : goal.returns-clause-promises
+returns-clause-promises g c = other_promised _ _ (inr c.in-Err.ensures.answers)

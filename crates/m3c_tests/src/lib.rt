@@ -1,5 +1,0 @@
-//! The tests of the command.
-#![tactic(auto)]
-
-#[cfg(test)]
-mod tests;
