@@ -8,12 +8,21 @@ use m3_storage::{Storage, number_of};
 use m3_types::TypeId;
 use std::alloc::Global;
 
-/// What holds at every place in a scope: the variables that are shown at its points, and the block
-/// that goes on where an exception is raised.
+/// What holds at every place in a scope: which one it is, None where no scope around shows variables, and
+/// the block that goes on where an exception is raised.
 #[derive(Clone, Copy)]
-pub struct Around<'m> {
-    pub shown: &'m [Shown],
+pub struct Around {
+    pub scope: Option<u32>,
     pub raised: u32,
+}
+
+/// A scope that shows variables: the one around it, and what it shows beside that one's. All that is shown
+/// at its points is one row, which is made at the first of them.
+#[derive(Clone, Copy)]
+struct Scope<'m> {
+    outer: Option<u32>,
+    own: &'m [Shown],
+    row: Option<&'m [Shown]>,
 }
 
 /// A procedure in the making. Blocks are sealed when their code is known; one that is reached from
@@ -35,6 +44,7 @@ pub struct Builder<'m, 's> {
     sizes: Vec<Operand>,
     /// What the chains that are planned and not put into code yet give, stage by stage.
     stages: Vec<Value>,
+    scopes: Vec<Scope<'m>>,
     /// How many slots hold variables; those behind them hold values for a while.
     pub named_slots: u32,
     /// The temporaries in which an exception travels.
@@ -65,6 +75,7 @@ impl<'m, 's> Builder<'m, 's> {
             slots: Vec::new(alloc),
             sizes: Vec::new(alloc),
             stages: Vec::new(alloc),
+            scopes: Vec::new(alloc),
             named_slots: storage.room(number).slots,
             raised: Raised {
                 exception: 0,
@@ -245,9 +256,62 @@ impl<'m, 's> Builder<'m, 's> {
         self.row(row)
     }
 
-    /// A row of shown variables in the arena.
-    pub fn shown_row(&mut self, row: &[Shown]) -> &'m [Shown] {
-        self.row(row)
+    /// A scope inside another, that shows more variables. The block for exceptions is the same.
+    pub fn scope(&mut self, around: Around, own: &[Shown]) -> Around {
+        let scope = Scope {
+            outer: around.scope,
+            own: self.row(own),
+            row: None,
+        };
+        let place = self.scopes.len();
+        if place >= u32::MAX as usize || self.scopes.push(scope).is_err() {
+            self.has_failed = true;
+        }
+        Around {
+            scope: Some(number_of(place)),
+            raised: around.raised,
+        }
+    }
+
+    /// All variables that are shown at the points of a scope, those of the outermost scope first.
+    pub fn shown(&mut self, around: Around) -> &'m [Shown] {
+        let Some(place) = around.scope else {
+            return &[];
+        };
+        let Some(scope) = self.scopes.get(place as usize).copied() else {
+            return &[];
+        };
+        if let Some(row) = scope.row {
+            return row;
+        }
+        let all = self.all_shown(place);
+        let row = self.row(all.as_slice());
+        let scope = Scope {
+            row: Some(row),
+            ..scope
+        };
+        set_item(&mut self.scopes, place as usize, scope);
+        row
+    }
+
+    /// The variables of a scope and of those around it, the outermost first.
+    fn all_shown(&mut self, place: u32) -> Vec<Shown> {
+        let mut all = Vec::new(self.alloc);
+        let mut at = Some(place);
+        for _ in 0..self.scopes.len() {
+            let Some(place) = at else {
+                break;
+            };
+            let Some(scope) = self.scopes.get(place as usize).copied() else {
+                break;
+            };
+            if add_backward(scope.own, &mut all).is_err() {
+                self.has_failed = true;
+            }
+            at = scope.outer;
+        }
+        all.reverse();
+        all
     }
 
     fn row<T: Copy>(&mut self, items: &[T]) -> &'m [T] {
@@ -276,7 +340,9 @@ impl<'m, 's> Builder<'m, 's> {
 
     /// Makes a block of the code, unless it only goes on at another one, which is told then.
     pub fn seal(&mut self, code: Pending<'m>) -> u32 {
-        if let (true, End::Goto(block)) = (code.ops.is_empty(), code.end) {
+        // Code that isn't whole may have lost its operations.
+        let is_bare = code.is_whole && code.ops.is_empty();
+        if let (true, End::Goto(block)) = (is_bare, code.end) {
             return block;
         }
         let block = self.block(code);
@@ -352,6 +418,14 @@ fn kept<'m, T: Copy>(arena: &'m Bump, items: &[T]) -> Option<&'m [T]> {
         Ok(row) => Some(row),
         Err(_) => None,
     }
+}
+
+/// Adds the variables of a row, the last one first.
+fn add_backward(row: &[Shown], all: &mut Vec<Shown>) -> Result<(), NoMemory> {
+    for shown in row.iter().rev() {
+        all.push(*shown)?;
+    }
+    Ok(())
 }
 
 /// Sets the item at a place of a list, where it is there.

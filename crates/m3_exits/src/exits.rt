@@ -26,7 +26,7 @@ pub enum Returning {
 #[derive(Clone, Copy)]
 pub struct Exits<'m> {
     /// What is shown at points, and where an exception goes on.
-    pub around: Around<'m>,
+    pub around: Around,
     /// Where EXIT goes on.
     pub exit: u32,
     pub returning: Returning,
@@ -35,7 +35,7 @@ pub struct Exits<'m> {
 
 impl<'m> Exits<'m> {
     /// The same exits with other variables shown.
-    pub fn showing(self, around: Around<'m>) -> Exits<'m> {
+    pub fn showing(self, around: Around) -> Exits<'m> {
         Exits { around, ..self }
     }
 }

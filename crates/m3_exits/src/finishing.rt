@@ -107,8 +107,8 @@ pub fn overriding<'m>(b: &mut Builder<'m, '_>, exits: Exits<'m>) -> Exits<'m> {
     let exit = b.seal(exit);
     Exits {
         around: Around {
-            shown: exits.around.shown,
             raised,
+            ..exits.around
         },
         exit,
         ..exits

@@ -144,7 +144,10 @@ pub fn exits_of<'m>(b: &mut Builder<'m, '_>, proc: &ProcDef) -> Exits<'m> {
     let outcome = outcome_of(b, proc);
     let raised = left_by_exception(b, proc);
     let exits = Exits {
-        around: Around { shown: &[], raised },
+        around: Around {
+            scope: None,
+            raised,
+        },
         exit: raised,
         returning: Returning::Ends,
         outcome,

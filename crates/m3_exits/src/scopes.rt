@@ -1,5 +1,5 @@
 use crate::exits::Exits;
-use m3_builder::{Around, Builder, Location, Pending, Place};
+use m3_builder::{Builder, Location, Pending, Place};
 use m3_mid::{Held, Shown};
 use m3_shapes::store_default;
 use m3_storage::VarPlace;
@@ -8,12 +8,6 @@ use m3_types::TypeId;
 /// The exits of a scope in which more variables are shown.
 pub fn showing<'m>(b: &mut Builder<'m, '_>, exits: Exits<'m>, variables: &[u32]) -> Exits<'m> {
     let mut row = Vec::new(b.alloc);
-    for shown in exits.around.shown {
-        if row.push(*shown).is_err() {
-            b.fail();
-        }
-    }
-    let before = row.len();
     for variable in variables {
         if let Some(place) = b.storage.shown(b.number, *variable) {
             let at = match b.storage.place(b.number, *variable) {
@@ -25,14 +19,11 @@ pub fn showing<'m>(b: &mut Builder<'m, '_>, exits: Exits<'m>, variables: &[u32])
             }
         }
     }
-    if row.len() == before {
+    if row.is_empty() {
         return exits;
     }
-    let shown = b.shown_row(row.as_slice());
-    exits.showing(Around {
-        shown,
-        raised: exits.around.raised,
-    })
+    let around = b.scope(exits.around, row.as_slice());
+    exits.showing(around)
 }
 
 /// Where a variable of the own procedure is.

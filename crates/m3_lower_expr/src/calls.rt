@@ -17,7 +17,7 @@ use m3_types::{Formal, TypeId};
 #[cycle(expressions)]
 pub fn emit_call<'m>(
     b: &mut Builder<'m, '_>,
-    around: Around<'m>,
+    around: Around,
     actuals: &[CoreActual],
     pos: Pos,
     kind: Option<TypeId>,
@@ -52,7 +52,7 @@ pub fn emit_call<'m>(
 #[cycle(expressions)]
 pub fn emit_method<'m>(
     b: &mut Builder<'m, '_>,
-    around: Around<'m>,
+    around: Around,
     actuals: &[CoreActual],
     pos: Pos,
     owner: TypeId,
@@ -90,7 +90,7 @@ pub fn emit_method<'m>(
 #[cycle(expressions)]
 fn emit_actuals<'m>(
     b: &mut Builder<'m, '_>,
-    around: Around<'m>,
+    around: Around,
     actuals: &[CoreActual],
     formals: &[Formal],
     passed: &Passed,
@@ -119,7 +119,7 @@ fn emit_actuals<'m>(
 #[cycle(expressions)]
 fn emit_actual<'m>(
     b: &mut Builder<'m, '_>,
-    around: Around<'m>,
+    around: Around,
     actual: &CoreActual,
     planned: PlannedActual,
     rest: Pending<'m>,
@@ -155,7 +155,7 @@ fn emit_actual<'m>(
 #[cycle(expressions)]
 fn emit_place<'m>(
     b: &mut Builder<'m, '_>,
-    around: Around<'m>,
+    around: Around,
     kind: TypeId,
     chain: &Chain,
     checks_shape: bool,

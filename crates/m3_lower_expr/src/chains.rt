@@ -14,7 +14,7 @@ use m3_variables::{
 #[cycle(expressions)]
 pub fn emit_chain<'m>(
     b: &mut Builder<'m, '_>,
-    around: Around<'m>,
+    around: Around,
     chain: &Chain,
     rest: Pending<'m>,
 ) -> Pending<'m> {
@@ -34,7 +34,7 @@ pub fn emit_chain<'m>(
 #[cycle(expressions)]
 fn emit_step<'m>(
     b: &mut Builder<'m, '_>,
-    around: Around<'m>,
+    around: Around,
     step: &Step,
     pos: Pos,
     before_kind: Option<TypeId>,
@@ -89,7 +89,7 @@ fn emit_step<'m>(
 #[cycle(expressions)]
 fn emit_base<'m>(
     b: &mut Builder<'m, '_>,
-    around: Around<'m>,
+    around: Around,
     chain: &Chain,
     value: Value,
     rest: Pending<'m>,
@@ -116,7 +116,7 @@ fn emit_base<'m>(
 #[cycle(expressions)]
 fn emit_element<'m>(
     b: &mut Builder<'m, '_>,
-    around: Around<'m>,
+    around: Around,
     array: Place,
     kind: Option<TypeId>,
     index: &CoreExpr,
@@ -141,7 +141,7 @@ fn emit_element<'m>(
 #[cycle(expressions)]
 fn emit_subarray<'m>(
     b: &mut Builder<'m, '_>,
-    around: Around<'m>,
+    around: Around,
     chain: &Chain,
     place: Place,
     rest: Pending<'m>,
@@ -169,7 +169,7 @@ fn emit_subarray<'m>(
 #[cycle(expressions)]
 pub fn array_limit<'m>(
     b: &mut Builder<'m, '_>,
-    around: Around<'m>,
+    around: Around,
     limit: ArrayLimit,
     array: &Chain,
     to: u32,

@@ -12,7 +12,7 @@ use m3_variables::source;
 #[cycle(expressions)]
 pub fn condition<'m>(
     b: &mut Builder<'m, '_>,
-    around: Around<'m>,
+    around: Around,
     e: &CoreExpr,
     yes: u32,
     no: u32,
@@ -47,7 +47,7 @@ pub fn condition<'m>(
 #[cycle(expressions)]
 fn word_condition<'m>(
     b: &mut Builder<'m, '_>,
-    around: Around<'m>,
+    around: Around,
     e: &CoreExpr,
     yes: u32,
     no: u32,
@@ -60,7 +60,7 @@ fn word_condition<'m>(
 #[cycle(expressions)]
 fn row_condition<'m>(
     b: &mut Builder<'m, '_>,
-    around: Around<'m>,
+    around: Around,
     e: &CoreExpr,
     yes: u32,
     no: u32,
@@ -97,7 +97,7 @@ fn row_condition<'m>(
 #[cycle(expressions)]
 pub fn short_condition<'m>(
     b: &mut Builder<'m, '_>,
-    around: Around<'m>,
+    around: Around,
     e: &CoreExpr,
     yes: u32,
     no: u32,

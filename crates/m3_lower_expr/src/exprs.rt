@@ -17,7 +17,7 @@ use m3_variables::{environment_of, move_words, ready, source, words_in};
 #[cycle(expressions)]
 pub fn fetch<'m>(
     b: &mut Builder<'m, '_>,
-    around: Around<'m>,
+    around: Around,
     e: &CoreExpr,
     operand: Operand,
     rest: Pending<'m>,
@@ -35,7 +35,7 @@ pub fn fetch<'m>(
 #[cycle(expressions)]
 pub fn emit_value<'m>(
     b: &mut Builder<'m, '_>,
-    around: Around<'m>,
+    around: Around,
     e: &CoreExpr,
     value: Value,
     rest: Pending<'m>,
@@ -62,7 +62,7 @@ pub fn emit_value<'m>(
 #[cycle(expressions)]
 pub fn into_temp<'m>(
     b: &mut Builder<'m, '_>,
-    around: Around<'m>,
+    around: Around,
     e: &CoreExpr,
     to: u32,
     rest: Pending<'m>,
@@ -117,7 +117,7 @@ pub fn into_temp<'m>(
 #[cycle(expressions)]
 pub fn into_temps<'m>(
     b: &mut Builder<'m, '_>,
-    around: Around<'m>,
+    around: Around,
     e: &CoreExpr,
     first: u32,
     rest: Pending<'m>,
@@ -157,7 +157,7 @@ pub fn into_temps<'m>(
 #[cycle(expressions)]
 fn chain_into_temps<'m>(
     b: &mut Builder<'m, '_>,
-    around: Around<'m>,
+    around: Around,
     chain: &Chain,
     first: u32,
     rest: Pending<'m>,
@@ -175,7 +175,7 @@ fn chain_into_temps<'m>(
 #[cycle(expressions)]
 fn chain_into<'m>(
     b: &mut Builder<'m, '_>,
-    around: Around<'m>,
+    around: Around,
     chain: &Chain,
     to: u32,
     rest: Pending<'m>,
@@ -204,7 +204,7 @@ fn chain_into<'m>(
 #[cycle(expressions)]
 fn condition_into<'m>(
     b: &mut Builder<'m, '_>,
-    around: Around<'m>,
+    around: Around,
     e: &CoreExpr,
     to: u32,
     rest: Pending<'m>,
@@ -220,7 +220,7 @@ fn condition_into<'m>(
 #[cycle(expressions)]
 fn converted_into<'m>(
     b: &mut Builder<'m, '_>,
-    around: Around<'m>,
+    around: Around,
     pos: Pos,
     kind: TypeId,
     check: Conversion,
@@ -239,7 +239,7 @@ fn converted_into<'m>(
 #[cycle(expressions)]
 fn type_test_into<'m>(
     b: &mut Builder<'m, '_>,
-    around: Around<'m>,
+    around: Around,
     operand: &CoreExpr,
     kind: TypeId,
     to: u32,

@@ -12,7 +12,7 @@ use m3_shapes::{cell_defaults, make};
 #[cycle(expressions)]
 pub fn new_into<'m>(
     b: &mut Builder<'m, '_>,
-    around: Around<'m>,
+    around: Around,
     e: &CoreExpr,
     to: u32,
     rest: Pending<'m>,
@@ -42,7 +42,7 @@ pub fn new_into<'m>(
 #[cycle(expressions)]
 fn emit_sizes<'m>(
     b: &mut Builder<'m, '_>,
-    around: Around<'m>,
+    around: Around,
     sizes: &[CoreExpr],
     counts: &[Operand],
     rest: Pending<'m>,
@@ -66,7 +66,7 @@ fn emit_sizes<'m>(
 #[cycle(expressions)]
 fn emit_bindings<'m>(
     b: &mut Builder<'m, '_>,
-    around: Around<'m>,
+    around: Around,
     bindings: &[Binding],
     values: &[Value],
     rest: Pending<'m>,

@@ -15,7 +15,7 @@ use m3_variables::source;
 #[cycle(expressions)]
 pub fn operations_into<'m>(
     b: &mut Builder<'m, '_>,
-    around: Around<'m>,
+    around: Around,
     e: &CoreExpr,
     to: Value,
     rest: Pending<'m>,
@@ -37,7 +37,7 @@ pub fn operations_into<'m>(
 #[cycle(expressions)]
 pub fn emit_before<'m>(
     b: &mut Builder<'m, '_>,
-    around: Around<'m>,
+    around: Around,
     e: &CoreExpr,
     count: usize,
     planned: &Row,
@@ -53,7 +53,7 @@ pub fn emit_before<'m>(
 #[cycle(expressions)]
 fn emit_row<'m>(
     b: &mut Builder<'m, '_>,
-    around: Around<'m>,
+    around: Around,
     e: &CoreExpr,
     count: usize,
     planned: &Row,
@@ -92,7 +92,7 @@ fn emit_row<'m>(
 #[cycle(expressions)]
 pub fn prefixed_into<'m>(
     b: &mut Builder<'m, '_>,
-    around: Around<'m>,
+    around: Around,
     operators: &[Prefix],
     operand: &CoreExpr,
     to: u32,
@@ -118,7 +118,7 @@ pub fn prefixed_into<'m>(
 #[cycle(expressions)]
 pub fn set_into<'m>(
     b: &mut Builder<'m, '_>,
-    around: Around<'m>,
+    around: Around,
     kind: TypeId,
     elements: &[SetElement],
     to: u32,
@@ -141,7 +141,7 @@ pub fn set_into<'m>(
 #[cycle(expressions)]
 fn emit_set_element<'m>(
     b: &mut Builder<'m, '_>,
-    around: Around<'m>,
+    around: Around,
     element: &SetElement,
     planned: PlannedElement,
     rest: Pending<'m>,
@@ -162,7 +162,7 @@ fn emit_set_element<'m>(
 #[cycle(expressions)]
 pub fn builtin_into<'m>(
     b: &mut Builder<'m, '_>,
-    around: Around<'m>,
+    around: Around,
     call: &BuiltinCall,
     to: Option<u32>,
     rest: Pending<'m>,
@@ -177,7 +177,7 @@ pub fn builtin_into<'m>(
 #[cycle(expressions)]
 fn emit_operands<'m>(
     b: &mut Builder<'m, '_>,
-    around: Around<'m>,
+    around: Around,
     call: &BuiltinCall,
     operands: &[Operand],
     rest: Pending<'m>,

@@ -18,7 +18,7 @@ use m3_variables::source;
 #[cycle(expressions)]
 pub fn emit_structure<'m>(
     b: &mut Builder<'m, '_>,
-    around: Around<'m>,
+    around: Around,
     e: &CoreExpr,
     place: Place,
     rest: Pending<'m>,
@@ -62,7 +62,7 @@ pub fn emit_structure<'m>(
 #[cycle(expressions)]
 pub fn structure_into<'m>(
     b: &mut Builder<'m, '_>,
-    around: Around<'m>,
+    around: Around,
     e: &CoreExpr,
     kind: TypeId,
     to: Place,
@@ -92,7 +92,7 @@ pub fn structure_into<'m>(
 #[cycle(expressions)]
 pub fn value_into<'m>(
     b: &mut Builder<'m, '_>,
-    around: Around<'m>,
+    around: Around,
     e: &CoreExpr,
     kind: TypeId,
     to: Place,
@@ -120,7 +120,7 @@ pub fn value_into<'m>(
 #[cycle(expressions)]
 fn fields_into<'m>(
     b: &mut Builder<'m, '_>,
-    around: Around<'m>,
+    around: Around,
     kind: TypeId,
     fields: &[FieldValue],
     to: Place,
@@ -141,7 +141,7 @@ fn fields_into<'m>(
 #[cycle(expressions)]
 fn elements_into<'m>(
     b: &mut Builder<'m, '_>,
-    around: Around<'m>,
+    around: Around,
     kind: TypeId,
     elements: &[CoreExpr],
     is_filled: bool,
@@ -177,7 +177,7 @@ fn elements_into<'m>(
 #[cycle(expressions)]
 fn row_into<'m>(
     b: &mut Builder<'m, '_>,
-    around: Around<'m>,
+    around: Around,
     e: &CoreExpr,
     element: TypeId,
     words: u64,

@@ -39,8 +39,8 @@ pub fn try_except<'m>(
     let caught = clear_inside(b, body, caught);
     let raised = b.seal(caught);
     let around = Around {
-        shown: exits.around.shown,
         raised,
+        ..exits.around
     };
     let inside = match last {
         Some(block) => Exits {
@@ -141,8 +141,8 @@ pub fn try_finally<'m>(
     let returned = b.seal(code);
     let inside = Exits {
         around: Around {
-            shown: exits.around.shown,
             raised,
+            ..exits.around
         },
         exit,
         returning: match exits.returning {

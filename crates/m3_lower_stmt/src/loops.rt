@@ -45,9 +45,8 @@ pub fn for_loop<'m>(
         exit,
         ..showing(b, exits, &[*variable])
     };
-    let turn = turned(b, course).after(MidOp::Point {
-        shown: inside.around.shown,
-    });
+    let shown = b.shown(inside.around);
+    let turn = turned(b, course).after(MidOp::Point { shown });
     let code = statements(b, inside, body, turn);
     let code = match place.at {
         Location::Temps(_) => code,
@@ -69,9 +68,8 @@ pub fn plain_loop<'m>(
     let after = clear_inside(b, body, rest);
     let exit = b.seal(after);
     let head = b.reserve();
-    let turn = b.goto(head).after(MidOp::Point {
-        shown: exits.around.shown,
-    });
+    let shown = b.shown(exits.around);
+    let turn = b.goto(head).after(MidOp::Point { shown });
     let inside = Exits { exit, ..exits };
     let code = statements(b, inside, body, turn);
     b.set(head, code);
@@ -97,9 +95,8 @@ pub fn while_loop<'m>(
     let after = clear_inside(b, body, rest);
     let exit = b.seal(after);
     let head = b.reserve();
-    let turn = b.goto(head).after(MidOp::Point {
-        shown: exits.around.shown,
-    });
+    let shown = b.shown(exits.around);
+    let turn = b.goto(head).after(MidOp::Point { shown });
     let inside = Exits { exit, ..exits };
     let code = statements(b, inside, body, turn);
     let once = b.seal(code);
@@ -127,9 +124,8 @@ pub fn repeat_loop<'m>(
     let after = clear_inside(b, body, rest);
     let exit = b.seal(after);
     let head = b.reserve();
-    let turn = condition(b, exits.around, test, exit, head).after(MidOp::Point {
-        shown: exits.around.shown,
-    });
+    let shown = b.shown(exits.around);
+    let turn = condition(b, exits.around, test, exit, head).after(MidOp::Point { shown });
     let inside = Exits { exit, ..exits };
     let code = statements(b, inside, body, turn);
     b.set(head, code);

@@ -1,9 +1,9 @@
 use crate::forms::node_of;
 use crate::objects::{Objects, parent_of, unveiled};
 use m3_base::{NoMemory, place_number};
-use m3_same::same;
+use m3_classes::Classes;
 use m3_sizes::SizedTypes;
-use m3_types::{Field, Method, Secret, TypeId, TypeNode, parts_at};
+use m3_types::{Secret, TypeId, TypeNode};
 use std::alloc::Global;
 
 /// The number of the types of heap cells: 0 is a text and 1 a thread, and types that are the same have
@@ -22,8 +22,6 @@ pub const TEXT_CELL: u32 = 0;
 /// The number of thread cells.
 pub const THREAD_CELL: u32 = 1;
 
-const ROUNDS: u32 = 6;
-
 /// Whether heap cells of the type are made or tested under a number from 2 on.
 fn has_number(node: TypeNode) -> bool {
     match node {
@@ -37,155 +35,49 @@ fn has_number(node: TypeNode) -> bool {
     }
 }
 
-fn mix(mark: u64, word: u64) -> u64 {
-    let mixed = (mark ^ word).wrapping_mul(0x9e37_79b9_7f4a_7c15);
-    mixed ^ (mixed >> 29)
-}
-
-fn mix_text(mark: u64, text: &[u8]) -> u64 {
-    let mut mixed = mix(mark, text.len() as u64);
-    for byte in text {
-        mixed = mix(mixed, u64::from(*byte));
-    }
-    mixed
-}
-
-fn mix_names(mark: u64, names: &[&[u8]]) -> u64 {
-    let mut mixed = mark;
-    for name in names {
-        mixed = mix_text(mixed, name);
-    }
-    mixed
-}
-
-fn mix_fields(mark: u64, fields: &[Field]) -> u64 {
-    let mut mixed = mark;
-    for field in fields {
-        mixed = mix_text(mixed, field.name);
-    }
-    mixed
-}
-
-fn mix_methods(mark: u64, methods: &[Method]) -> u64 {
-    let mut mixed = mark;
-    for method in methods {
-        mixed = mix_text(mixed, method.name);
-    }
-    mixed
-}
-
-/// A number that types which are the same have in common, by their definitions at the top alone.
-fn mark_of(node: TypeNode) -> u64 {
-    match node {
-        TypeNode::Integer => 1,
-        TypeNode::Boolean => 2,
-        TypeNode::Character => 3,
-        TypeNode::Enumeration(names) => mix_names(4, names),
-        TypeNode::Subrange(_, first, last) => mix(
-            mix(5, first.cast_unsigned()),
-            last.cast_unsigned(),
-        ),
-        TypeNode::FixedArray(_, _) => 6,
-        TypeNode::OpenArray(_) => 7,
-        TypeNode::Fields(fields) => mix_fields(8, fields),
-        TypeNode::SetOf(_) => 9,
-        TypeNode::RefTo(brand, _) => mix(10, u64::from(brand.is_some())),
-        TypeNode::Object(brand, _, fields, methods, _) => {
-            let mark = mix(11, u64::from(brand.is_some()));
-            mix_methods(mix_fields(mark, fields), methods)
-        }
-        TypeNode::Procedure(formals, _, _) => mix(12, formals.len() as u64),
-        TypeNode::Opaque(_, _) => 13,
-        TypeNode::Null => 14,
-        TypeNode::RefAny => 15,
-        TypeNode::Text => 16,
-        TypeNode::Mutex => 17,
-        TypeNode::Root => 18,
-        TypeNode::Constant(_) => 19,
-        TypeNode::Reserved => 20,
-    }
-}
-
-/// For each type a number that types which are the same have in common, by what they contain to some
-/// depth.
-fn marks_of(alloc: Global, types: &SizedTypes) -> Result<Vec<u64>, NoMemory> {
-    let mut marks = Vec::new(alloc);
-    for at in &types.graph.nodes {
-        marks.push(mark_of(*at))?;
-    }
-    for _ in 0..ROUNDS {
-        marks = deeper(alloc, types, &marks)?;
-    }
-    Ok(marks)
-}
-
-fn deeper(alloc: Global, types: &SizedTypes, marks: &[u64]) -> Result<Vec<u64>, NoMemory> {
-    let mut next = Vec::new(alloc);
-    for (place, mark) in marks.iter().enumerate() {
-        let parts = parts_at(alloc, &types.graph.nodes, place)?;
-        let mut mixed = *mark;
-        for part in &parts {
-            mixed = mix(mixed, marks.get(*part).copied().unwrap_or(0));
-        }
-        next.push(mixed)?;
-    }
-    Ok(next)
-}
-
-/// A type with what it is sorted by: how many types are above it, and its mark.
+/// A type with what it is sorted by: how many types are above it, and then its place.
 #[derive(Clone, Copy, Debug, PartialEq, Eq, PartialOrd, Ord)]
 struct Candidate {
     depth: u32,
-    mark: u64,
     place: u32,
 }
 
 impl Cells {
     /// The numbers of the cells of some types.
     pub fn of(alloc: Global, types: &SizedTypes, objects: &Objects) -> Result<Cells, NoMemory> {
+        let count = types.graph.nodes.len();
         let mut cells = Cells {
-            numbers: vec![in alloc; None; types.graph.nodes.len()]?,
+            numbers: vec![in alloc; None; count]?,
             types: Vec::new(alloc),
         };
-        let candidates = candidates_of(alloc, types, objects)?;
-        let mut first = 0usize;
-        let mut group = (0u32, 0u64);
-        for candidate in &candidates {
-            if (candidate.depth, candidate.mark) != group {
-                group = (candidate.depth, candidate.mark);
-                first = cells.types.len();
+        let classes = Classes::of(alloc, &types.graph)?;
+        let mut by_class = vec![in alloc; None; count]?;
+        for candidate in &candidates_of(alloc, types, objects)? {
+            let t = TypeId(candidate.place);
+            if let Some(class) = classes.number(t) {
+                cells.add(t, class as usize, &mut by_class)?;
             }
-            cells.add(alloc, types, TypeId(candidate.place), first)?;
         }
         Ok(cells)
     }
 
-    /// Gives a type the number of the one from a place on that is the same, or else a new number.
+    /// Gives a type the number of its class, or a new number where the class has none yet.
     fn add(
         &mut self,
-        alloc: Global,
-        types: &SizedTypes,
         t: TypeId,
-        first: usize,
+        class: usize,
+        by_class: &mut Vec<Option<u32>>,
     ) -> Result<(), NoMemory> {
-        let mut place = self.types.len();
-        for other in first..self.types.len() {
-            let is_there = match self.types.get(other) {
-                Some(kind) => same(alloc, &types.graph, *kind, t)?,
-                None => false,
-            };
-            if is_there {
-                place = other;
-                break;
+        let number = match by_class.get(class) {
+            Some(Some(number)) => *number,
+            _ => {
+                let number = place_number(self.types.len().saturating_add(2))?;
+                self.types.push(t)?;
+                number
             }
-        }
-        if place == self.types.len() {
-            self.types.push(t)?;
-        }
-        let number = place_number(place.saturating_add(2))?;
-        if (t.0 as usize) < self.numbers.len() {
-            self.numbers[t.0 as usize] = Some(number);
-        }
+        };
+        set_number(by_class, class, number);
+        set_number(&mut self.numbers, t.0 as usize, number);
         Ok(())
     }
 
@@ -234,19 +126,23 @@ impl Cells {
     }
 }
 
+fn set_number(numbers: &mut Vec<Option<u32>>, place: usize, number: u32) {
+    if place < numbers.len() {
+        numbers[place] = Some(number);
+    }
+}
+
 fn candidates_of(
     alloc: Global,
     types: &SizedTypes,
     objects: &Objects,
 ) -> Result<Vec<Candidate>, NoMemory> {
-    let marks = marks_of(alloc, types)?;
     let mut candidates = Vec::new(alloc);
     for (place, at) in types.graph.nodes.iter().enumerate() {
         if has_number(*at) {
             let place = place_number(place)?;
             candidates.push(Candidate {
                 depth: depth_of(*at, objects, TypeId(place)),
-                mark: marks.get(place as usize).copied().unwrap_or(0),
                 place,
             })?;
         }

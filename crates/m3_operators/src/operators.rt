@@ -12,7 +12,7 @@ use m3_types::TypeId;
 /// Code that puts the result of an operation on two values where it is wanted.
 pub fn operate<'m>(
     b: &mut Builder<'m, '_>,
-    around: Around<'m>,
+    around: Around,
     operation: &Operation,
     kinds: (Option<TypeId>, Option<TypeId>),
     left: Value,
@@ -70,20 +70,21 @@ fn arithmetic<'m>(
 
 fn concatenated<'m>(
     b: &mut Builder<'m, '_>,
-    around: Around<'m>,
+    around: Around,
     left: Value,
     right: Value,
     target: Value,
     pos: Pos,
 ) -> MidOp<'m> {
     let operands = b.operand_row(&[left.word(), right.word()]);
+    let shown = b.shown(around);
     MidOp::Service {
         service: Service::Concatenate,
         operands,
         to: Some(temp_in(target.word())),
         raised: None,
         pos,
-        shown: around.shown,
+        shown,
     }
 }
 

@@ -93,7 +93,7 @@ fn result_temp(b: &mut Builder, to: Option<u32>, kind: Kind) -> u32 {
 /// What a routine does with its operands.
 pub fn action<'m>(
     b: &mut Builder<'m, '_>,
-    around: Around<'m>,
+    around: Around,
     call: &BuiltinCall,
     operands: &[Operand],
     to: Option<u32>,
@@ -115,9 +115,8 @@ pub fn action<'m>(
         }
         _ => {
             let code = computed(b, call, x, y, operands, target, rest);
-            let code = code.after(MidOp::Point {
-                shown: around.shown,
-            });
+            let shown = b.shown(around);
+            let code = code.after(MidOp::Point { shown });
             check_byte_index(b, call, x, y, code)
         }
     }

@@ -47,7 +47,7 @@ fn kind_of_result(service: Service) -> Option<Kind> {
 /// A service, and for one that may be alerted the exception that it raises then.
 pub fn serve<'m>(
     b: &mut Builder<'m, '_>,
-    around: Around<'m>,
+    around: Around,
     call: &BuiltinCall,
     service: Service,
     operands: &[Operand],
@@ -70,20 +70,21 @@ pub fn serve<'m>(
         (code, None)
     };
     let operands = b.operand_row(operands);
+    let shown = b.shown(around);
     code.after(MidOp::Service {
         service,
         operands,
         to: result,
         raised,
         pos: call.pos,
-        shown: around.shown,
+        shown,
     })
 }
 
 /// Raises Thread.Alerted where a service says so.
 fn alerted<'m>(
     b: &mut Builder<'m, '_>,
-    around: Around<'m>,
+    around: Around,
     raised: u32,
     rest: Pending<'m>,
 ) -> Pending<'m> {

@@ -109,7 +109,7 @@ struct Received<'m> {
 /// The call itself, with what becomes of its result and of an exception.
 pub fn call_with<'m>(
     b: &mut Builder<'m, '_>,
-    around: Around<'m>,
+    around: Around,
     callee: Callee,
     passed: &Passed,
     can_raise: bool,
@@ -124,12 +124,13 @@ pub fn call_with<'m>(
         None => code,
     };
     let actuals = row_of_call(b, passed, buffer);
+    let shown = b.shown(around);
     let code = code.after(MidOp::Call {
         callee,
         actuals,
         result: word,
         raised,
-        shown: around.shown,
+        shown,
     });
     let code = match buffer {
         Some((to, slot)) => code.after(MidOp::SlotAddress { to, slot }),
@@ -162,7 +163,7 @@ fn row_of_call<'m>(
 /// Goes on where no exception was raised.
 fn unless_raised<'m>(
     b: &mut Builder<'m, '_>,
-    around: Around<'m>,
+    around: Around,
     raised: Raised,
     rest: Pending<'m>,
 ) -> Pending<'m> {

@@ -10,7 +10,7 @@ use m3_types::{TypeId, TypeNode};
 /// The point at which a cell is made, with the sizes of its open dimensions in slots in a row.
 pub fn make<'m>(
     b: &mut Builder<'m, '_>,
-    around: Around<'m>,
+    around: Around,
     number: Option<u32>,
     sizes: &[Operand],
     to: u32,
@@ -20,12 +20,13 @@ pub fn make<'m>(
         b.fail();
         return rest;
     };
+    let shown = b.shown(around);
     if sizes.is_empty() {
         return rest.after(MidOp::Make {
             to,
             cell,
             sizes: None,
-            shown: around.shown,
+            shown,
         });
     }
     let first = b.result_slots(number_of(sizes.len()));
@@ -33,7 +34,7 @@ pub fn make<'m>(
         to,
         cell,
         sizes: Some(first),
-        shown: around.shown,
+        shown,
     });
     for (dim, size) in sizes.iter().enumerate() {
         code = code.after(MidOp::Store {
@@ -47,7 +48,7 @@ pub fn make<'m>(
 /// A new cell with a copy of an open array.
 pub fn copy_into_cell<'m>(
     b: &mut Builder<'m, '_>,
-    around: Around<'m>,
+    around: Around,
     kind: TypeId,
     from: Place,
     cell: u32,

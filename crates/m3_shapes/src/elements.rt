@@ -152,14 +152,12 @@ fn first_index(b: &Builder, kind: TypeId) -> i64 {
 }
 
 /// The sizes of the rows of an open array.
-fn inner_sizes(b: &Builder, array: Place) -> Vec<Operand> {
+fn inner_sizes(b: &mut Builder, array: Place) -> Vec<Operand> {
     let mut sizes = Vec::new(b.alloc);
     for dim in 1..array.dims {
-        if sizes
-            .push(b.size_at(array.sizes.wrapping_add(dim)))
-            .is_err()
-        {
-            return sizes;
+        let size = b.size_at(array.sizes.wrapping_add(dim));
+        if sizes.push(size).is_err() {
+            b.fail();
         }
     }
     sizes

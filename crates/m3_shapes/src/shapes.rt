@@ -36,7 +36,7 @@ pub fn element_words(b: &Builder, kind: TypeId, dims: u32) -> u64 {
 }
 
 /// The sizes of so many dimensions of an array at a place.
-pub fn shape_of(b: &Builder, place: Place, kind: TypeId, dims: u32) -> Vec<Operand> {
+pub fn shape_of(b: &mut Builder, place: Place, kind: TypeId, dims: u32) -> Vec<Operand> {
     let mut sizes = Vec::new(b.alloc);
     let mut at = kind;
     for dim in 0..dims {
@@ -52,7 +52,7 @@ pub fn shape_of(b: &Builder, place: Place, kind: TypeId, dims: u32) -> Vec<Opera
             _ => Operand::Number(0),
         };
         if sizes.push(size).is_err() {
-            return sizes;
+            b.fail();
         }
     }
     sizes

@@ -9,7 +9,7 @@ use m3_storage::number_of;
 /// Gives all global variables their defaults, and interface variables their constants.
 pub fn init_globals<'m>(
     b: &mut Builder<'m, '_>,
-    around: Around<'m>,
+    around: Around,
     rest: Pending<'m>,
 ) -> Pending<'m> {
     let mut code = rest;
@@ -30,7 +30,7 @@ pub fn init_globals<'m>(
 
 fn stored<'m>(
     b: &mut Builder<'m, '_>,
-    around: Around<'m>,
+    around: Around,
     e: &CoreExpr,
     to: Place,
     rest: Pending<'m>,
