@@ -21,11 +21,13 @@ pub enum Written<'a> {
     Signature(&'a Signature<'a>),
 }
 
-/// A type whose definition is a task: its unit, how it is written, and where rule 46 is reported.
+/// A type whose definition is a task: its unit, how it is written, and where rule 46 is reported: at its
+/// name, or where it has none at its first token.
 #[derive(Clone, Copy)]
 pub struct Plan<'a> {
     pub unit: u32,
     pub pos: Pos,
+    pub is_named: bool,
     pub written: Written<'a>,
 }
 

@@ -152,6 +152,7 @@ impl<'a> Declarer<'_, 'a> {
     fn stand_at(&mut self, kind: TypeId, pos: Pos) {
         if let Some(plan) = self.plans.get_mut(&kind) {
             plan.pos = pos;
+            plan.is_named = true;
         }
     }
 }

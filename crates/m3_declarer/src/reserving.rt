@@ -26,7 +26,15 @@ impl<'a> Declarer<'_, 'a> {
     /// A place for a definition that is a task.
     fn plan(&mut self, unit: u32, pos: Pos, written: Written<'a>) -> Result<TypeId, NoMemory> {
         let kind = self.eval.declared.types.reserve()?;
-        self.plans.insert(kind, Plan { unit, pos, written })?;
+        self.plans.insert(
+            kind,
+            Plan {
+                unit,
+                pos,
+                is_named: false,
+                written,
+            },
+        )?;
         Ok(kind)
     }
 

@@ -120,19 +120,49 @@ fn push_lacks<'a>(declarer: &mut Declarer<'_, 'a>, stack: &mut Vec<Need>) -> Res
     Ok(())
 }
 
-/// Refuses the tasks from a place of the stack on that are begun (rule 46).
+/// Refuses the tasks from a place of the stack on that are begun (rule 46): those that have names, or
+/// all where none has one.
 fn refuse_cycle<'a>(
     declarer: &mut Declarer<'_, 'a>,
     stack: &[Need],
     below: usize,
 ) -> Result<(), NoMemory> {
+    let by_name = has_named(declarer, stack, below);
     for (place, need) in stack.iter().enumerate() {
-        if place >= below && declarer.busy.get(need).copied() == Some(place) {
-            refuse_task(declarer, *need);
+        if is_on_cycle(declarer, *need, place, below) {
+            if is_named(declarer, *need) || !by_name {
+                refuse_task(declarer, *need);
+            }
             declarer.eval.settled.insert(*need)?;
         }
     }
     Ok(())
+}
+
+/// Whether a task at a place of the stack is begun, and stands from a place on.
+fn is_on_cycle<'a>(declarer: &Declarer<'_, 'a>, need: Need, place: usize, below: usize) -> bool {
+    place >= below && declarer.busy.get(&need).copied() == Some(place)
+}
+
+/// Whether a task of a cycle has a name.
+fn has_named<'a>(declarer: &Declarer<'_, 'a>, stack: &[Need], below: usize) -> bool {
+    for (place, need) in stack.iter().enumerate() {
+        if is_on_cycle(declarer, *need, place, below) && is_named(declarer, *need) {
+            return true;
+        }
+    }
+    false
+}
+
+/// Whether a task is the definition of a name.
+fn is_named<'a>(declarer: &Declarer<'_, 'a>, need: Need) -> bool {
+    match need {
+        Need::Constant(_) | Need::Kind(_) => true,
+        Need::Node(kind) | Need::Methods(kind) => match declarer.plans.get(&kind) {
+            Some(plan) => plan.is_named,
+            None => false,
+        },
+    }
 }
 
 fn refuse_task<'a>(declarer: &mut Declarer<'_, 'a>, need: Need) {
