@@ -24,7 +24,7 @@ pub enum Returning {
 
 /// How a statement can be left otherwise than at its end.
 #[derive(Clone, Copy)]
-pub struct Exits<'m> {
+pub struct Exits {
     /// What is shown at points, and where an exception goes on.
     pub around: Around,
     /// Where EXIT goes on.
@@ -33,9 +33,9 @@ pub struct Exits<'m> {
     pub outcome: Outcome,
 }
 
-impl<'m> Exits<'m> {
+impl Exits {
     /// The same exits with other variables shown.
-    pub fn showing(self, around: Around) -> Exits<'m> {
+    pub fn showing(self, around: Around) -> Exits {
         Exits { around, ..self }
     }
 }

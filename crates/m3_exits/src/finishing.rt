@@ -41,7 +41,7 @@ pub fn move_raised<'m>(from: Raised, to: Raised, rest: Pending<'m>) -> Pending<'
 /// Goes on as the body was left.
 pub fn dispatch<'m>(
     b: &mut Builder<'m, '_>,
-    exits: Exits<'m>,
+    exits: Exits,
     way: u32,
     kept: Raised,
     rest: Pending<'m>,
@@ -70,7 +70,7 @@ fn test<'m>(b: &mut Builder<'m, '_>, way: u32, number: i64, yes: u32, no: u32) -
 }
 
 /// Goes on with a RETURN whose value is kept already.
-fn return_kept<'m>(b: &mut Builder<'m, '_>, exits: Exits<'m>) -> Pending<'m> {
+fn return_kept<'m>(b: &mut Builder<'m, '_>, exits: Exits) -> Pending<'m> {
     match exits.returning {
         Returning::Passes(block) | Returning::Drops(block) => b.goto(block),
         Returning::Ends => {
@@ -85,7 +85,7 @@ fn return_kept<'m>(b: &mut Builder<'m, '_>, exits: Exits<'m>) -> Pending<'m> {
 
 /// The exits of a last part: where it leaves otherwise than at its end, a result that waits at the
 /// caller's address is given up, and its pointers are cleared.
-pub fn overriding<'m>(b: &mut Builder<'m, '_>, exits: Exits<'m>) -> Exits<'m> {
+pub fn overriding<'m>(b: &mut Builder<'m, '_>, exits: Exits) -> Exits {
     let Outcome::Wide { slot, kind } = exits.outcome else {
         return exits;
     };

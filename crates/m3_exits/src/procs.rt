@@ -140,7 +140,7 @@ pub fn first_moves<'m>(b: &Builder<'m, '_>, proc: &ProcDef, rest: Pending<'m>) -
 }
 
 /// The exits of a procedure's body.
-pub fn exits_of<'m>(b: &mut Builder<'m, '_>, proc: &ProcDef) -> Exits<'m> {
+pub fn exits_of<'m>(b: &mut Builder<'m, '_>, proc: &ProcDef) -> Exits {
     let outcome = outcome_of(b, proc);
     let raised = left_by_exception(b, proc);
     let exits = Exits {

@@ -6,7 +6,7 @@ use m3_storage::VarPlace;
 use m3_types::TypeId;
 
 /// The exits of a scope in which more variables are shown.
-pub fn showing<'m>(b: &mut Builder<'m, '_>, exits: Exits<'m>, variables: &[u32]) -> Exits<'m> {
+pub fn showing<'m>(b: &mut Builder<'m, '_>, exits: Exits, variables: &[u32]) -> Exits {
     let mut row = Vec::new(b.alloc);
     for variable in variables {
         if let Some(place) = b.storage.shown(b.number, *variable) {

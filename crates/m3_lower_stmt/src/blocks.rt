@@ -8,7 +8,7 @@ use m3_simple_stmts::{bind_all, clear_bindings, scopes_of};
 #[cycle(statements)]
 pub fn block<'m>(
     b: &mut Builder<'m, '_>,
-    exits: Exits<'m>,
+    exits: Exits,
     s: &CoreStmt,
     rest: Pending<'m>,
 ) -> Pending<'m> {
@@ -32,7 +32,7 @@ pub fn block<'m>(
 #[cycle(statements)]
 pub fn with<'m>(
     b: &mut Builder<'m, '_>,
-    exits: Exits<'m>,
+    exits: Exits,
     s: &CoreStmt,
     rest: Pending<'m>,
 ) -> Pending<'m> {

@@ -12,7 +12,7 @@ use m3_variables::source;
 #[cycle(statements)]
 pub fn if_arms<'m>(
     b: &mut Builder<'m, '_>,
-    exits: Exits<'m>,
+    exits: Exits,
     s: &CoreStmt,
     rest: Pending<'m>,
 ) -> Pending<'m> {
@@ -43,7 +43,7 @@ pub fn if_arms<'m>(
 #[cycle(statements)]
 pub fn case_of<'m>(
     b: &mut Builder<'m, '_>,
-    exits: Exits<'m>,
+    exits: Exits,
     s: &CoreStmt,
     rest: Pending<'m>,
 ) -> Pending<'m> {
@@ -75,7 +75,7 @@ pub fn case_of<'m>(
 #[cycle(statements)]
 fn labels_of<'m>(
     b: &mut Builder<'m, '_>,
-    exits: Exits<'m>,
+    exits: Exits,
     branches: &[CaseBranch],
     join: u32,
 ) -> Vec<Label> {
@@ -96,7 +96,7 @@ fn labels_of<'m>(
 #[cycle(statements)]
 pub fn type_case<'m>(
     b: &mut Builder<'m, '_>,
-    exits: Exits<'m>,
+    exits: Exits,
     s: &CoreStmt,
     rest: Pending<'m>,
 ) -> Pending<'m> {
@@ -129,7 +129,7 @@ pub fn type_case<'m>(
 #[cycle(statements)]
 fn type_branch<'m>(
     b: &mut Builder<'m, '_>,
-    exits: Exits<'m>,
+    exits: Exits,
     branch: &TypeBranch,
     value: Operand,
     join: u32,

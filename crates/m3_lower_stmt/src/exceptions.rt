@@ -12,7 +12,7 @@ use m3_simple_stmts::test_exceptions;
 #[cycle(statements)]
 pub fn try_except<'m>(
     b: &mut Builder<'m, '_>,
-    exits: Exits<'m>,
+    exits: Exits,
     s: &CoreStmt,
     rest: Pending<'m>,
 ) -> Pending<'m> {
@@ -59,7 +59,7 @@ pub fn try_except<'m>(
 #[cycle(statements)]
 fn catch<'m>(
     b: &mut Builder<'m, '_>,
-    exits: Exits<'m>,
+    exits: Exits,
     handlers: &[Handler],
     otherwise: Option<u32>,
     join: u32,
@@ -77,7 +77,7 @@ fn catch<'m>(
 
 /// The block of a handler, whose variable gets the argument.
 #[cycle(statements)]
-fn handle<'m>(b: &mut Builder<'m, '_>, exits: Exits<'m>, handler: &Handler, join: u32) -> u32 {
+fn handle<'m>(b: &mut Builder<'m, '_>, exits: Exits, handler: &Handler, join: u32) -> u32 {
     let body = b.goto(join);
     let Some(variable) = handler.variable else {
         let code = statements(b, exits, handler.body, body);
@@ -111,7 +111,7 @@ fn handle<'m>(b: &mut Builder<'m, '_>, exits: Exits<'m>, handler: &Handler, join
 #[cycle(statements)]
 pub fn try_finally<'m>(
     b: &mut Builder<'m, '_>,
-    exits: Exits<'m>,
+    exits: Exits,
     s: &CoreStmt,
     rest: Pending<'m>,
 ) -> Pending<'m> {

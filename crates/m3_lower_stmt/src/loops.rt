@@ -11,7 +11,7 @@ use m3_simple_stmts::{Course, begin, first_test, limit, pace_of, turned};
 #[cycle(statements)]
 pub fn for_loop<'m>(
     b: &mut Builder<'m, '_>,
-    exits: Exits<'m>,
+    exits: Exits,
     s: &CoreStmt,
     rest: Pending<'m>,
 ) -> Pending<'m> {
@@ -61,7 +61,7 @@ pub fn for_loop<'m>(
 #[cycle(statements)]
 pub fn plain_loop<'m>(
     b: &mut Builder<'m, '_>,
-    exits: Exits<'m>,
+    exits: Exits,
     body: &[CoreStmt],
     rest: Pending<'m>,
 ) -> Pending<'m> {
@@ -80,7 +80,7 @@ pub fn plain_loop<'m>(
 #[cycle(statements)]
 pub fn while_loop<'m>(
     b: &mut Builder<'m, '_>,
-    exits: Exits<'m>,
+    exits: Exits,
     s: &CoreStmt,
     rest: Pending<'m>,
 ) -> Pending<'m> {
@@ -109,7 +109,7 @@ pub fn while_loop<'m>(
 #[cycle(statements)]
 pub fn repeat_loop<'m>(
     b: &mut Builder<'m, '_>,
-    exits: Exits<'m>,
+    exits: Exits,
     s: &CoreStmt,
     rest: Pending<'m>,
 ) -> Pending<'m> {

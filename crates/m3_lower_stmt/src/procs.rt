@@ -36,7 +36,7 @@ fn whole_code<'m>(b: &mut Builder<'m, '_>, proc: &ProcDef) -> Pending<'m> {
 }
 
 /// The first values of the global variables, before the body that runs first.
-fn first_globals<'m>(b: &mut Builder<'m, '_>, exits: Exits<'m>, code: Pending<'m>) -> Pending<'m> {
+fn first_globals<'m>(b: &mut Builder<'m, '_>, exits: Exits, code: Pending<'m>) -> Pending<'m> {
     match b.storage.core.order.first() {
         Some(first) if *first == b.number => init_globals(b, exits.around, code),
         _ => code,

@@ -12,7 +12,7 @@ use m3_simple_stmts::{assign, called, change, evaluate, raise, return_value};
 #[cycle(statements)]
 pub fn statements<'m>(
     b: &mut Builder<'m, '_>,
-    exits: Exits<'m>,
+    exits: Exits,
     row: &[CoreStmt],
     rest: Pending<'m>,
 ) -> Pending<'m> {
@@ -29,7 +29,7 @@ pub fn statements<'m>(
 #[cycle(statements)]
 fn statement<'m>(
     b: &mut Builder<'m, '_>,
-    exits: Exits<'m>,
+    exits: Exits,
     s: &CoreStmt,
     rest: Pending<'m>,
 ) -> Pending<'m> {

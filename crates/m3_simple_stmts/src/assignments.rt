@@ -17,7 +17,7 @@ use m3_variables::{ready, source};
 /// An assignment: the target's place, the value with its checks, and the write.
 pub fn assign<'m>(
     b: &mut Builder<'m, '_>,
-    exits: Exits<'m>,
+    exits: Exits,
     target: &Chain,
     value: &CoreExpr,
     checks_shape: bool,
@@ -33,7 +33,7 @@ pub fn assign<'m>(
 
 fn assigned<'m>(
     b: &mut Builder<'m, '_>,
-    exits: Exits<'m>,
+    exits: Exits,
     to: Place,
     kind: TypeId,
     value: &CoreExpr,
@@ -67,7 +67,7 @@ fn assigned<'m>(
 /// Puts a word into the temporary of a variable.
 pub fn word_into<'m>(
     b: &mut Builder<'m, '_>,
-    exits: Exits<'m>,
+    exits: Exits,
     value: &CoreExpr,
     to: u32,
     rest: Pending<'m>,
@@ -81,7 +81,7 @@ pub fn word_into<'m>(
 
 fn structure_to<'m>(
     b: &mut Builder<'m, '_>,
-    exits: Exits<'m>,
+    exits: Exits,
     to: Place,
     kind: TypeId,
     value: &CoreExpr,
@@ -104,7 +104,7 @@ fn structure_to<'m>(
 /// An open array is written whole, by an array of its shape.
 fn open_to<'m>(
     b: &mut Builder<'m, '_>,
-    exits: Exits<'m>,
+    exits: Exits,
     to: Place,
     kind: TypeId,
     value: &CoreExpr,
@@ -134,7 +134,7 @@ fn open_to<'m>(
 /// INC and DEC: the place, the amount, the sum with its checks, and the write.
 pub fn change<'m>(
     b: &mut Builder<'m, '_>,
-    exits: Exits<'m>,
+    exits: Exits,
     pos: Pos,
     is_decrement: bool,
     target: &Chain,
@@ -202,7 +202,7 @@ fn changed<'m>(
 /// EVAL: the value is made and let go.
 pub fn evaluate<'m>(
     b: &mut Builder<'m, '_>,
-    exits: Exits<'m>,
+    exits: Exits,
     value: &CoreExpr,
     rest: Pending<'m>,
 ) -> Pending<'m> {

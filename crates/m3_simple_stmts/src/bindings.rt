@@ -15,9 +15,9 @@ use m3_variables::{alias_in_temps, source};
 /// The exits of the scope in which each name of WITH is bound, and those inside all of them.
 pub fn scopes_of<'m>(
     b: &mut Builder<'m, '_>,
-    exits: Exits<'m>,
+    exits: Exits,
     bindings: &[WithBinding],
-) -> (Vec<Exits<'m>>, Exits<'m>) {
+) -> (Vec<Exits>, Exits) {
     let mut inside = exits;
     let mut scopes = Vec::new(b.alloc);
     for binding in bindings {
@@ -45,7 +45,7 @@ pub fn clear_bindings<'m>(
 /// Binds the names of WITH in order, each in its scope.
 pub fn bind_all<'m>(
     b: &mut Builder<'m, '_>,
-    scopes: &[Exits<'m>],
+    scopes: &[Exits],
     bindings: &[WithBinding],
     rest: Pending<'m>,
 ) -> Pending<'m> {
@@ -60,7 +60,7 @@ pub fn bind_all<'m>(
 
 fn bind<'m>(
     b: &mut Builder<'m, '_>,
-    exits: Exits<'m>,
+    exits: Exits,
     binding: &WithBinding,
     rest: Pending<'m>,
 ) -> Pending<'m> {
@@ -72,7 +72,7 @@ fn bind<'m>(
 
 fn bind_place<'m>(
     b: &mut Builder<'m, '_>,
-    exits: Exits<'m>,
+    exits: Exits,
     variable: u32,
     chain: &Chain,
     rest: Pending<'m>,
@@ -135,7 +135,7 @@ fn alias_to_slots<'m>(
 
 fn bind_value<'m>(
     b: &mut Builder<'m, '_>,
-    exits: Exits<'m>,
+    exits: Exits,
     variable: u32,
     value: &CoreExpr,
     rest: Pending<'m>,

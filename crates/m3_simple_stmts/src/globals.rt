@@ -43,7 +43,7 @@ fn stored<'m>(
 /// A call as a statement.
 pub fn called<'m>(
     b: &mut Builder<'m, '_>,
-    exits: Exits<'m>,
+    exits: Exits,
     call: &Chain,
     rest: Pending<'m>,
 ) -> Pending<'m> {

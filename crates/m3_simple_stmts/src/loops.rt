@@ -25,7 +25,7 @@ pub struct Course {
 /// Code for first, last and step in order.
 pub fn begin<'m>(
     b: &mut Builder<'m, '_>,
-    exits: Exits<'m>,
+    exits: Exits,
     course: Course,
     first: &CoreExpr,
     last: &CoreExpr,
@@ -45,7 +45,7 @@ pub fn begin<'m>(
 
 fn evaluated<'m>(
     b: &mut Builder<'m, '_>,
-    exits: Exits<'m>,
+    exits: Exits,
     e: &CoreExpr,
     to: u32,
     rest: Pending<'m>,

@@ -14,7 +14,7 @@ use m3_variables::source;
 /// RAISE: the argument, and then the exception travels.
 pub fn raise<'m>(
     b: &mut Builder<'m, '_>,
-    exits: Exits<'m>,
+    exits: Exits,
     exception: u32,
     argument: Option<&CoreExpr>,
 ) -> Pending<'m> {
@@ -67,7 +67,7 @@ fn with_argument<'m>(
 /// Code that puts a value of one word, a record or array too, where it is wanted.
 fn word_of<'m>(
     b: &mut Builder<'m, '_>,
-    exits: Exits<'m>,
+    exits: Exits,
     e: &CoreExpr,
     operand: Operand,
     rest: Pending<'m>,
@@ -109,7 +109,7 @@ fn is_dropped(returning: Returning) -> bool {
 }
 
 /// RETURN of a value that is of no use: it is evaluated all the same.
-fn return_dropped<'m>(b: &mut Builder<'m, '_>, exits: Exits<'m>, value: &CoreExpr) -> Pending<'m> {
+fn return_dropped<'m>(b: &mut Builder<'m, '_>, exits: Exits, value: &CoreExpr) -> Pending<'m> {
     let planned = plan_value(b, value);
     let code = way_out(b, exits.returning, None);
     emit_value(b, exits.around, value, planned, code)
@@ -118,7 +118,7 @@ fn return_dropped<'m>(b: &mut Builder<'m, '_>, exits: Exits<'m>, value: &CoreExp
 /// RETURN of a word, which waits in a temporary where something is left to be done.
 fn return_word<'m>(
     b: &mut Builder<'m, '_>,
-    exits: Exits<'m>,
+    exits: Exits,
     value: &CoreExpr,
     temp: u32,
 ) -> Pending<'m> {
@@ -134,7 +134,7 @@ fn return_word<'m>(
 /// RETURN: the value, and then the way out.
 pub fn return_value<'m>(
     b: &mut Builder<'m, '_>,
-    exits: Exits<'m>,
+    exits: Exits,
     value: Option<&CoreExpr>,
 ) -> Pending<'m> {
     let Some(value) = value else {
@@ -166,7 +166,7 @@ fn word_source(b: &mut Builder, value: &CoreExpr) -> Operand {
 /// Stores a result at the address that the caller gave.
 fn wide_result<'m>(
     b: &mut Builder<'m, '_>,
-    exits: Exits<'m>,
+    exits: Exits,
     slot: u32,
     kind: TypeId,
     value: &CoreExpr,

@@ -1,0 +1,103 @@
+use m3_ports::{MemSink, Shelf};
+use m3c::m3c;
+use std::alloc::{AllocError, Global};
+use std::io;
+
+/// The most bytes that a command may put.
+const ROOM: u64 = 65_536;
+
+/// What a command answered: its status, what it put on out and on err, and the bytes of its image.
+#[derive(Drop)]
+pub struct Answer {
+    pub status: u8,
+    pub out: MemSink,
+    pub err: MemSink,
+    pub image: Vec<u8>,
+}
+
+/// The numbers of the puts on out and on err that fail; 0 for none.
+#[derive(Clone, Copy)]
+pub struct FailingPuts {
+    pub out: u64,
+    pub err: u64,
+}
+
+/// No put fails.
+pub const NO_FAILURE: FailingPuts = FailingPuts { out: 0, err: 0 };
+
+/// Memory ran out.
+pub fn no_memory() -> io::Error {
+    io::Error::from(io::ErrorKind::OutOfMemory)
+}
+
+fn sink(alloc: Global, failing: u64) -> io::Result<MemSink> {
+    let Ok(mut sink) = MemSink::with_room(alloc, ROOM) else {
+        return Err(no_memory());
+    };
+    if sink.fail_at(failing).is_err() {
+        return Err(no_memory());
+    }
+    Ok(sink)
+}
+
+fn words_of(alloc: Global, line: &str) -> Result<Vec<String>, AllocError> {
+    let mut words = Vec::new(alloc);
+    for word in line.split(' ') {
+        if !word.is_empty() {
+            words.push(String::from_str(alloc, word)?)?;
+        }
+    }
+    Ok(words)
+}
+
+/// What a command answers whose words stand in a line.
+pub fn answer_of<F: Shelf>(
+    alloc: Global,
+    line: &str,
+    shelf: &mut F,
+    failing: FailingPuts,
+) -> io::Result<Answer> {
+    let mut out = sink(alloc, failing.out)?;
+    let mut err = sink(alloc, failing.err)?;
+    let mut image = Vec::new(alloc);
+    let words = words_of(alloc, line)?;
+    let status = m3c(alloc, words, shelf, &mut out, &mut err, &mut image);
+    Ok(Answer {
+        status,
+        out,
+        err,
+        image,
+    })
+}
+
+/// Cases that were tried, and those that came out otherwise.
+#[derive(Clone, Copy)]
+pub struct Tally {
+    cases: u64,
+    differing: u64,
+}
+
+impl Tally {
+    pub fn new() -> Tally {
+        Tally {
+            cases: 0,
+            differing: 0,
+        }
+    }
+
+    /// Counts a case, and shows it where it came out otherwise.
+    pub fn count(&mut self, rt: &impl Print, title: &str, is_right: bool) -> io::Result<()> {
+        self.cases = self.cases.saturating_add(1);
+        if is_right {
+            return Ok(());
+        }
+        self.differing = self.differing.saturating_add(1);
+        println!(rt; "{title}: otherwise")
+    }
+
+    /// Shows how many cases were tried, and how many came out otherwise.
+    pub fn sum_up(&self, rt: &impl Print, what: &str) -> io::Result<()> {
+        let (cases, differing) = (self.cases, self.differing);
+        println!(rt; "{what}: {cases} cases, {differing} come out otherwise")
+    }
+}
