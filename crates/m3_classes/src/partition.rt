@@ -211,11 +211,7 @@ impl Partition {
         let place = rest.first.saturating_add(count);
         self.swap(node, place);
         splitting.rest = Segment { count, ..rest };
-        let before = if begins {
-            None
-        } else {
-            splitting.pieces.pop()
-        };
+        let before = if begins { None } else { splitting.pieces.pop() };
         let others = match before {
             Some(piece) => piece.count,
             None => 0,

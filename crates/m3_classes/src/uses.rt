@@ -50,12 +50,7 @@ impl Uses {
     }
 }
 
-fn add_uses(
-    uses: &mut Vec<Use>,
-    user: u32,
-    parts: &[usize],
-    count: usize,
-) -> Result<(), NoMemory> {
+fn add_uses(uses: &mut Vec<Use>, user: u32, parts: &[usize], count: usize) -> Result<(), NoMemory> {
     for (label, part) in parts.iter().enumerate() {
         if *part < count {
             uses.push(Use {

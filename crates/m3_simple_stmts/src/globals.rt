@@ -7,11 +7,7 @@ use m3_shapes::store_default;
 use m3_storage::number_of;
 
 /// Gives all global variables their defaults, and interface variables their constants.
-pub fn init_globals<'m>(
-    b: &mut Builder<'m, '_>,
-    around: Around,
-    rest: Pending<'m>,
-) -> Pending<'m> {
+pub fn init_globals<'m>(b: &mut Builder<'m, '_>, around: Around, rest: Pending<'m>) -> Pending<'m> {
     let mut code = rest;
     let core = b.storage.core;
     for (variable, global) in core.globals.iter().enumerate().rev() {

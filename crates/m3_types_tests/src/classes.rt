@@ -27,7 +27,11 @@ fn classes_of_worked_examples(rt: HostRuntime) -> Result<(), Fail> {
     let bump = Bump::new(alloc);
     let types = graph(alloc, &bump)?;
     check_pairs(rt, alloc, &types)?;
-    assert!(rt; Classes::of(alloc, &types)?.number(TypeId(1_000_000)).is_none());
+    assert!(rt;
+        Classes::of(alloc, &types)?
+            .number(TypeId(1_000_000))
+            .is_none()
+    );
     Ok(())
 }
 
@@ -40,11 +44,7 @@ fn next(seed: &mut u64) -> u32 {
 }
 
 // Twelve types of few forms, each with parts among the others.
-fn some_types<'a>(
-    alloc: Global,
-    bump: &'a Bump,
-    seed: &mut u64,
-) -> Result<TypeGraph<'a>, Fail> {
+fn some_types<'a>(alloc: Global, bump: &'a Bump, seed: &mut u64) -> Result<TypeGraph<'a>, Fail> {
     let mut types = TypeGraph::new(alloc);
     for _ in 0..12u32 {
         types.reserve()?;
@@ -56,9 +56,10 @@ fn some_types<'a>(
             0 => TypeNode::Integer,
             1 | 2 => TypeNode::RefTo(None, TypeId(first)),
             3 => TypeNode::FixedArray(TypeId(first), TypeId(second)),
-            _ => TypeNode::Fields(
-                bump.try_alloc_slice_copy(&[field(b"a", first), field(b"b", second)])?,
-            ),
+            _ => TypeNode::Fields(bump.try_alloc_slice_copy(&[
+                field(b"a", first),
+                field(b"b", second),
+            ])?),
         };
         fill(&mut types, place, node);
     }
@@ -108,7 +109,10 @@ fn chains<'a>(alloc: Global, bump: &'a Bump, count: u32) -> Result<TypeGraph<'a>
             let at = chain.wrapping_mul(count).wrapping_add(step).wrapping_mul(2);
             let fields = bump.try_alloc_slice_copy(&[field(b"a", below)])?;
             put(&mut types, TypeNode::Fields(fields))?;
-            put(&mut types, TypeNode::RefTo(None, TypeId(at.wrapping_add(1))))?;
+            put(
+                &mut types,
+                TypeNode::RefTo(None, TypeId(at.wrapping_add(1))),
+            )?;
             below = at.wrapping_add(2);
         }
     }

@@ -70,12 +70,14 @@ fn images_are_one(alloc: Global) -> io::Result<bool> {
     let built = answer_of(alloc, "build a.img Main.m3", &mut shelf, NO_FAILURE)?;
     let run = answer_of(alloc, "run a.img", &mut shelf, NO_FAILURE)?;
     let exec = answer_of(alloc, "exec Main.m3", &mut shelf, NO_FAILURE)?;
-    Ok(built.status == 0
-        && run.status == 0
-        && exec.status == 0
-        && built.image.starts_with(b"M3IM")
-        && run.image.as_slice() == built.image.as_slice()
-        && exec.image.as_slice() == built.image.as_slice())
+    Ok(
+        built.status == 0
+            && run.status == 0
+            && exec.status == 0
+            && built.image.starts_with(b"M3IM")
+            && run.image.as_slice() == built.image.as_slice()
+            && exec.image.as_slice() == built.image.as_slice(),
+    )
 }
 
 /// An image without its last byte is short, and one with a byte more has a rest.
