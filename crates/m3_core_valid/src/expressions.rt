@@ -94,7 +94,8 @@ fn judge_leaf<'a>(judge: &mut Judge<'_, 'a>, value: &CoreExpr<'a>) {
                 Some(proc) => proc.level > 0,
                 None => false,
             };
-            judge.expect(is_inner && judge.number.is_some());
+            let has_activation = judge.number.is_some();
+            judge.expect(is_inner && has_activation);
         }
         _ => {}
     }
