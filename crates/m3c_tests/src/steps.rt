@@ -50,7 +50,8 @@ impl<'a> Step<'a> {
     fn take(&mut self, line: &'a str) {
         let (key, value) = line.split_once(" ").unwrap_or((line, ""));
         match key {
-            "" => {}
+            // A page of the documents ends each case so.
+            "" | "```" => {}
             "status" => self.wanted.status = value,
             "out" => self.wanted.out = Some(value),
             "anything" => self.wanted.out = None,
