@@ -3,11 +3,13 @@
 #![tactic(auto)]
 
 mod answers;
+mod dumps;
 mod examples;
 mod shapes;
 mod steps;
 mod tables;
 
+use dumps::try_dumps;
 use examples::try_examples;
 use shapes::try_shapes;
 use std::io;
@@ -21,6 +23,7 @@ fn run(rt: &(impl Print + Files + AllocGlobal)) -> io::Result<()> {
     try_table(rt, "refusals.txt")?;
     try_table(rt, "commands.txt")?;
     try_table(rt, "REFUSALS.md")?;
+    try_dumps(rt)?;
     try_shapes(rt)
 }
 

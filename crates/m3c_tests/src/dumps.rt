@@ -1,0 +1,70 @@
+use crate::answers::{NO_FAILURE, Tally, answer_of, no_memory};
+use m3_ports::{MemShelf, Shelf};
+use std::alloc::{AllocError, Global};
+use std::io;
+
+/// A sum over an array, whose reference is live over the ends of both loops.
+const SUM: &[u8] = b"MODULE Main; IMPORT IO;
+TYPE A = REF ARRAY [1000000..1000009] OF INTEGER;
+PROCEDURE Sum(): INTEGER =
+  VAR a := NEW(A); s: INTEGER := 0;
+  BEGIN
+    FOR i := 1000000 TO 1000009 DO a[i] := i - 999999 END;
+    FOR i := FIRST(a^) TO LAST(a^) DO INC(s, a[i]) END;
+    RETURN s
+  END Sum;
+BEGIN IO.PutInt(Sum()) END Main.";
+
+/// Tries what `dump` shows of the code that is built.
+pub fn try_dumps(rt: &(impl Print + AllocGlobal)) -> io::Result<()> {
+    let mut tally = Tally::new();
+    let dump = dumped(rt.alloc(), SUM)?;
+    let is_right = keeps_a_register(dump.as_str(), "proc 2 ");
+    tally.count(
+        rt,
+        "a reference in a register at the end of a turn",
+        is_right,
+    )?;
+    let is_right = !keeps_a_register(dump.as_str(), "proc 0 ");
+    tally.count(rt, "no turn where no loop is", is_right)?;
+    tally.sum_up(rt, "dumps")
+}
+
+/// What `dump` shows of the image of a program.
+fn dumped(alloc: Global, text: &[u8]) -> io::Result<String> {
+    let Ok(mut shelf) = MemShelf::new(alloc) else {
+        return Err(no_memory());
+    };
+    if shelf.store(alloc, "Main.m3", text).is_err() {
+        return Err(no_memory());
+    }
+    answer_of(alloc, "build a.img Main.m3", &mut shelf, NO_FAILURE)?;
+    let answer = answer_of(alloc, "dump a.img", &mut shelf, NO_FAILURE)?;
+    Ok(text_of(alloc, answer.out.bytes())?)
+}
+
+fn text_of(alloc: Global, bytes: &[u8]) -> Result<String, AllocError> {
+    let mut text = String::new(alloc);
+    for byte in bytes {
+        text.push(char::from(*byte))?;
+    }
+    Ok(text)
+}
+
+/// Whether the row of a POINT of a procedure names a register, by the lines of a dump from the
+/// procedure's own on.
+fn keeps_a_register(dump: &str, head: &str) -> bool {
+    let mut is_inside = false;
+    let mut is_behind_point = false;
+    for line in dump.lines() {
+        if line.starts_with("proc ") {
+            is_inside = line.starts_with(head);
+        }
+        let is_row = is_inside && is_behind_point && line.starts_with("point ");
+        if is_row && line.split_once(" r").is_some() {
+            return true;
+        }
+        is_behind_point = line.split(' ').nth(1) == Some("POINT");
+    }
+    false
+}
