@@ -1,4 +1,4 @@
-use m3_ports::{MemSink, Shelf};
+use m3_ports::{MemShelf, MemSink, Shelf};
 use m3c::m3c;
 use std::alloc::{AllocError, Global};
 use std::io;
@@ -68,6 +68,26 @@ pub fn answer_of<F: Shelf>(
         err,
         image,
     })
+}
+
+/// A shelf that holds one file.
+pub fn shelf_with(alloc: Global, name: &str, bytes: &[u8]) -> io::Result<MemShelf> {
+    let Ok(mut shelf) = MemShelf::new(alloc) else {
+        return Err(no_memory());
+    };
+    if shelf.store(alloc, name, bytes).is_err() {
+        return Err(no_memory());
+    }
+    Ok(shelf)
+}
+
+/// Bytes as a text of as many characters.
+pub fn text_of(alloc: Global, bytes: &[u8]) -> Result<String, AllocError> {
+    let mut text = String::new(alloc);
+    for byte in bytes {
+        text.push(char::from(*byte))?;
+    }
+    Ok(text)
 }
 
 /// Cases that were tried, and those that came out otherwise.

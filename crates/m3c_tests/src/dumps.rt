@@ -1,6 +1,5 @@
-use crate::answers::{NO_FAILURE, Tally, answer_of, no_memory};
-use m3_ports::{MemShelf, Shelf};
-use std::alloc::{AllocError, Global};
+use crate::answers::{NO_FAILURE, Tally, answer_of, shelf_with, text_of};
+use std::alloc::Global;
 use std::io;
 
 /// A sum over an array, whose reference is live over the ends of both loops.
@@ -32,23 +31,10 @@ pub fn try_dumps(rt: &(impl Print + AllocGlobal)) -> io::Result<()> {
 
 /// What `dump` shows of the image of a program.
 fn dumped(alloc: Global, text: &[u8]) -> io::Result<String> {
-    let Ok(mut shelf) = MemShelf::new(alloc) else {
-        return Err(no_memory());
-    };
-    if shelf.store(alloc, "Main.m3", text).is_err() {
-        return Err(no_memory());
-    }
+    let mut shelf = shelf_with(alloc, "Main.m3", text)?;
     answer_of(alloc, "build a.img Main.m3", &mut shelf, NO_FAILURE)?;
     let answer = answer_of(alloc, "dump a.img", &mut shelf, NO_FAILURE)?;
     Ok(text_of(alloc, answer.out.bytes())?)
-}
-
-fn text_of(alloc: Global, bytes: &[u8]) -> Result<String, AllocError> {
-    let mut text = String::new(alloc);
-    for byte in bytes {
-        text.push(char::from(*byte))?;
-    }
-    Ok(text)
 }
 
 /// Whether the row of a POINT of a procedure names a register, by the lines of a dump from the

@@ -1,5 +1,4 @@
-use crate::answers::{Answer, NO_FAILURE, Tally, answer_of, no_memory};
-use m3_ports::{MemShelf, Shelf};
+use crate::answers::{Answer, NO_FAILURE, Tally, answer_of, shelf_with};
 use std::alloc::Global;
 use std::io;
 
@@ -16,16 +15,6 @@ pub fn try_shapes(rt: &(impl Print + AllocGlobal)) -> io::Result<()> {
     try_lengths(rt, &mut tally)?;
     try_sums(rt, &mut tally)?;
     tally.sum_up(rt, "texts and images of odd forms")
-}
-
-fn shelf_with(alloc: Global, name: &str, bytes: &[u8]) -> io::Result<MemShelf> {
-    let Ok(mut shelf) = MemShelf::new(alloc) else {
-        return Err(no_memory());
-    };
-    if shelf.store(alloc, name, bytes).is_err() {
-        return Err(no_memory());
-    }
-    Ok(shelf)
 }
 
 /// What a command answers on a shelf of one file.

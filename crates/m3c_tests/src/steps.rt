@@ -1,4 +1,4 @@
-use crate::answers::{Answer, FailingPuts, NO_FAILURE, answer_of, no_memory};
+use crate::answers::{Answer, FailingPuts, NO_FAILURE, answer_of, no_memory, text_of};
 use m3_ports::{MemShelf, Shelf};
 use std::alloc::{AllocError, Global};
 use std::io;
@@ -145,15 +145,7 @@ fn holds(alloc: Global, shelf: &mut MemShelf, held: Option<(&str, &str)>) -> io:
 
 fn show(rt: &(impl Print + AllocGlobal), words: &str, answer: &Answer) -> io::Result<()> {
     let status = answer.status;
-    let out = shown(rt.alloc(), answer.out.bytes())?;
-    let err = shown(rt.alloc(), answer.err.bytes())?;
+    let out = text_of(rt.alloc(), answer.out.bytes())?;
+    let err = text_of(rt.alloc(), answer.err.bytes())?;
     println!(rt; "  {words}: status {status}, out {out}, err {err}")
-}
-
-fn shown(alloc: Global, bytes: &[u8]) -> Result<String, AllocError> {
-    let mut text = String::new(alloc);
-    for byte in bytes {
-        text.push(char::from(*byte))?;
-    }
-    Ok(text)
 }
