@@ -25,6 +25,13 @@ struct Scope<'m> {
     row: Option<&'m [Shown]>,
 }
 
+/// The slots of a value that is held there for a while, from the first to before the last.
+#[derive(Clone, Copy)]
+pub struct Buffer {
+    pub first: u32,
+    pub end: u32,
+}
+
 /// A procedure in the making. Blocks are sealed when their code is known; one that is reached from
 /// behind is reserved and set once. Where memory runs out the builder has failed, and what it
 /// makes from then on is given to nobody.
@@ -45,6 +52,8 @@ pub struct Builder<'m, 's> {
     /// What the chains that are planned and not put into code yet give, stage by stage.
     stages: Vec<Value>,
     scopes: Vec<Scope<'m>>,
+    /// The values that slots hold for a while, by their slots.
+    buffers: Vec<Buffer>,
     /// How many slots hold variables; those behind them hold values for a while.
     pub named_slots: u32,
     /// The temporaries in which an exception travels.
@@ -76,6 +85,7 @@ impl<'m, 's> Builder<'m, 's> {
             sizes: Vec::new(alloc),
             stages: Vec::new(alloc),
             scopes: Vec::new(alloc),
+            buffers: Vec::new(alloc),
             named_slots: storage.room(number).slots,
             raised: Raised {
                 exception: 0,
@@ -182,6 +192,15 @@ impl<'m, 's> Builder<'m, 's> {
         self.stages.pop().unwrap_or(Value::Nothing)
     }
 
+    /// The stage that was kept so many stages before the last.
+    pub fn stage_below(&self, depth: usize) -> Value {
+        let place = self.stages.len().checked_sub(depth.saturating_add(1));
+        match place.and_then(|place| self.stages.get(place)) {
+            Some(stage) => *stage,
+            None => Value::Nothing,
+        }
+    }
+
     /// The stage that was kept last.
     pub fn top_stage(&self) -> Value {
         match self.stages.last() {
@@ -204,7 +223,39 @@ impl<'m, 's> Builder<'m, 's> {
     pub fn buffer(&mut self, t: TypeId) -> Place {
         let first = self.slot_count();
         self.add_value(t);
+        self.hold(first);
         Place::plain(Location::Slots(first))
+    }
+
+    /// The slots from one on hold one value for a while.
+    pub fn hold(&mut self, first: u32) {
+        let buffer = Buffer {
+            first,
+            end: self.slot_count(),
+        };
+        if self.buffers.push(buffer).is_err() {
+            self.has_failed = true;
+        }
+    }
+
+    /// The slots of the value of which a slot holds a part for a while, found by halving; None where it
+    /// holds none.
+    pub fn buffer_of(&self, slot: u32) -> Option<Buffer> {
+        let mut low = 0usize;
+        let mut high = self.buffers.len();
+        for _ in 0..usize::BITS {
+            let middle = low.saturating_add(high.saturating_sub(low) / 2);
+            match self.buffers.get(middle) {
+                Some(buffer) if buffer.first <= slot => low = middle,
+                _ => high = middle,
+            }
+        }
+        let buffer = self.buffers.get(low).copied()?;
+        if buffer.first <= slot && slot < buffer.end {
+            Some(buffer)
+        } else {
+            None
+        }
     }
 
     /// New slots for a value of a type.

@@ -2,8 +2,7 @@ use crate::builder::Builder;
 use crate::pending::Pending;
 use crate::places::{Location, Place, address_kind, load_word, set_temp, store_word, take_address};
 use m3_mid::{Kind, MemoryWord, MidOp, Operand};
-use m3_storage::{Form, word_number};
-use m3_types::TypeId;
+use m3_storage::word_number;
 
 /// How many words are copied one by one; more are copied as a row.
 const ONE_BY_ONE: u64 = 4;
@@ -166,46 +165,15 @@ pub fn slots_of(place: Place) -> Option<u32> {
     }
 }
 
-/// Clears the words of a value that slots held for a while.
-pub fn cleared_value<'m>(
-    b: &mut Builder<'m, '_>,
-    place: Place,
-    kind: Option<TypeId>,
-    rest: Pending<'m>,
-) -> Pending<'m> {
-    if !b.is_buffer(place) {
-        return rest;
-    }
-    let words = match kind {
-        Some(kind) => word_number(b.storage.words(kind)),
-        None => 0,
+/// Clears the slots of the value of which a place has a part, where slots hold it for a while: nobody
+/// wants it any more.
+pub fn cleared_value<'m>(b: &mut Builder<'m, '_>, place: Place, rest: Pending<'m>) -> Pending<'m> {
+    let buffer = match slots_of(place) {
+        Some(slot) => b.buffer_of(slot),
+        None => None,
     };
-    match slots_of(place) {
-        Some(first) => clear(b, first, first.saturating_add(words), rest),
+    match buffer {
+        Some(buffer) => clear(b, buffer.first, buffer.end, rest),
         None => rest,
-    }
-}
-
-/// Clears a word in slots that held it for a while, once it was read.
-pub fn cleared_word<'m>(b: &mut Builder<'m, '_>, place: Place, rest: Pending<'m>) -> Pending<'m> {
-    if !b.is_buffer(place) {
-        return rest;
-    }
-    match slots_of(place) {
-        Some(slot) => clear(b, slot, slot.saturating_add(1), rest),
-        None => rest,
-    }
-}
-
-/// Clears a reference in slots that held it for a while, once it was read.
-pub fn cleared<'m>(
-    b: &mut Builder<'m, '_>,
-    place: Place,
-    kind: TypeId,
-    rest: Pending<'m>,
-) -> Pending<'m> {
-    match b.storage.form(kind) {
-        Form::Reference => cleared_word(b, place, rest),
-        _ => rest,
     }
 }

@@ -9,10 +9,9 @@ mod pending;
 mod places;
 mod values;
 
-pub use builder::{Around, Builder};
+pub use builder::{Around, Buffer, Builder};
 pub use copies::{
-    clear, cleared, cleared_value, cleared_word, copy_row, copy_words, load_words, set, slots_of,
-    store_words, zero_words,
+    clear, cleared_value, copy_row, copy_words, load_words, set, slots_of, store_words, zero_words,
 };
 pub use operations::{arith, check, choice, compare, not_nil, temp_in};
 pub use pending::Pending;

@@ -2,7 +2,7 @@ use crate::chains::emit_chain;
 use crate::exprs::emit_value;
 use crate::structures::{emit_structure, structure_into, value_into};
 use m3_base::Pos;
-use m3_builder::{Around, Builder, Pending, Value, form_of, not_nil};
+use m3_builder::{Around, Builder, Pending, Value, cleared_value, form_of, not_nil};
 use m3_core::{Actual as CoreActual, Chain};
 use m3_mid::Callee;
 use m3_plans::{
@@ -104,6 +104,7 @@ fn emit_actuals<'m>(
                 .planned
                 .get(*place as usize)
             {
+                code = cleared_value(b, *from, code);
                 code = copy_into_cell(b, around, kind_of_actual(actual), *from, *cell, code);
             }
         }

@@ -4,7 +4,7 @@ use crate::new_cells::new_into;
 use crate::rows::{builtin_into, operations_into, prefixed_into, set_into};
 use crate::structures::emit_structure;
 use m3_base::Pos;
-use m3_builder::{Around, Builder, Pending, Value, cleared_word, load_word, set};
+use m3_builder::{Around, Builder, Pending, Value, cleared_value, load_word, set};
 use m3_core::{Chain, Conversion, CoreExpr, Step};
 use m3_mid::{MidOp, Operand};
 use m3_operators::{checked, is_short, not_nested, tested, zero_temps};
@@ -192,7 +192,7 @@ fn chain_into<'m>(
     }
     let code = match value {
         Value::At(place) => {
-            let code = cleared_word(b, place, rest);
+            let code = cleared_value(b, place, rest);
             load_word(b, to, place, 0, code)
         }
         _ => set(to, value.word(), rest),

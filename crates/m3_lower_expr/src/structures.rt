@@ -80,7 +80,7 @@ pub fn structure_into<'m>(
         CoreExpr::RecordOf { kind, fields, .. } => fields_into(b, around, *kind, fields, to, rest),
         _ => {
             let from = plan_structure(b, e);
-            let code = cleared_value(b, from, kind_of(e), rest);
+            let code = cleared_value(b, from, rest);
             let words = b.storage.words(kind);
             let code = copy_words(b, to, from, words, code);
             emit_structure(b, around, e, from, code)
@@ -185,7 +185,8 @@ fn row_into<'m>(
     rest: Pending<'m>,
 ) -> Pending<'m> {
     let from = plan_structure(b, e);
-    let code = copy_words(b, to.without_sizes(), from.without_sizes(), words, rest);
+    let code = cleared_value(b, from, rest);
+    let code = copy_words(b, to.without_sizes(), from.without_sizes(), words, code);
     let kind = match kind_of(e) {
         Some(kind) => kind,
         None => element,

@@ -1,5 +1,5 @@
 use crate::statements::statements;
-use m3_builder::{Around, Builder, Pending, store_word};
+use m3_builder::{Around, Builder, Pending, clear, store_word};
 use m3_core::{CoreStmt, Handler};
 use m3_exits::{
     EXITED, Exits, NORMALLY, RAISED, RETURNED, Returning, clear_inside, clear_variables, dispatch,
@@ -37,7 +37,7 @@ pub fn try_except<'m>(
     };
     let caught = catch(b, exits, handlers, last, join);
     let caught = clear_inside(b, body, caught);
-    let raised = b.seal(caught);
+    let raised = b.reserve();
     let around = Around {
         raised,
         ..exits.around
@@ -51,8 +51,23 @@ pub fn try_except<'m>(
         },
         None => exits.showing(around),
     };
+    let first = b.slot_count();
     let code = b.goto(join);
-    statements(b, inside, body, code)
+    let code = statements(b, inside, body, code);
+    land(b, raised, first, caught);
+    code
+}
+
+/// Makes the block where an exception arrives that leaves statements: what the slots that were taken for
+/// these hold is wanted by nobody any more.
+fn land<'m>(b: &mut Builder<'m, '_>, raised: u32, first: u32, code: Pending<'m>) {
+    let end = b.slot_count();
+    let code = if first < end {
+        clear(b, first, end, code)
+    } else {
+        code
+    };
+    b.set(raised, code);
 }
 
 /// Goes to the first handler of the exception, else to the ELSE or on outside.
@@ -131,8 +146,8 @@ pub fn try_finally<'m>(
     let normal = left_as(b, way, NORMALLY, finish);
     let code = left_as(b, way, RAISED, finish);
     let code = move_raised(b.raised, kept, code);
-    let code = clear_inside(b, body, code);
-    let raised = b.seal(code);
+    let caught = clear_inside(b, body, code);
+    let raised = b.reserve();
     let code = left_as(b, way, EXITED, finish);
     let code = clear_inside(b, body, code);
     let exit = b.seal(code);
@@ -151,5 +166,8 @@ pub fn try_finally<'m>(
         },
         outcome: exits.outcome,
     };
-    statements(b, inside, body, normal)
+    let first = b.slot_count();
+    let code = statements(b, inside, body, normal);
+    land(b, raised, first, caught);
+    code
 }

@@ -200,8 +200,8 @@ fn compare_places<'m>(
 ) -> Pending<'m> {
     let is_negated = negation(comparison);
     let (x, y) = (left.place(), right.place());
-    let code = cleared_value(b, x, kinds.0, rest);
-    let code = cleared_value(b, y, kinds.1, code);
+    let code = cleared_value(b, x, rest);
+    let code = cleared_value(b, y, code);
     let dims = x.dims.max(y.dims);
     if dims == 0 {
         let words = match kinds.0 {

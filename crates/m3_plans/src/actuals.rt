@@ -1,5 +1,7 @@
 use crate::chains::{plan_chain, plan_structure, plan_value};
-use m3_builder::{Builder, Pending, Place, Value, address_kind, kind_of, slots_of, take_address};
+use m3_builder::{
+    Builder, Pending, Place, Value, address_kind, cleared_value, kind_of, slots_of, take_address,
+};
 use m3_core::{Actual as CoreActual, CoreExpr};
 use m3_mid::{Actual, Kind, Operand};
 use m3_shapes::fitted;
@@ -43,6 +45,20 @@ pub struct Passed {
 }
 
 impl Passed {
+    /// Code that clears the values that slots hold for the call, right behind it.
+    pub fn clear_values<'m>(&self, b: &mut Builder<'m, '_>, rest: Pending<'m>) -> Pending<'m> {
+        let mut code = rest;
+        for planned in &self.planned {
+            if let PlannedActual::Copied { at: place, .. }
+            | PlannedActual::Reference { place, .. }
+            | PlannedActual::NewVariable { place, .. } = planned
+            {
+                code = cleared_value(b, *place, code);
+            }
+        }
+        code
+    }
+
     /// Code that takes the addresses of places by reference, right before the call.
     pub fn put_addresses<'m>(&self, rest: Pending<'m>) -> Pending<'m> {
         let mut code = rest;

@@ -92,7 +92,7 @@ pub fn store_value<'m>(
                 Some(kind) => b.storage.words(kind),
                 None => 0,
             };
-            let code = cleared_value(b, from, kind, rest);
+            let code = cleared_value(b, from, rest);
             copy_words(b, to, from, words, code)
         }
     }

@@ -123,6 +123,7 @@ pub fn call_with<'m>(
         Some(raised) => unless_raised(b, around, raised, code),
         None => code,
     };
+    let code = passed.clear_values(b, code);
     let actuals = row_of_call(b, passed, buffer);
     let shown = b.shown(around);
     let code = code.after(MidOp::Call {

@@ -42,6 +42,7 @@ pub fn plan_open<'m>(b: &mut Builder<'m, '_>, element: TypeId, elements: &[CoreE
     for _ in 0..values {
         b.add_value(inner);
     }
+    b.hold(first);
     Place {
         at: Location::Slots(first),
         base: Operand::Number(0),

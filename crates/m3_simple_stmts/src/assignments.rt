@@ -91,7 +91,7 @@ fn structure_to<'m>(
 ) -> Pending<'m> {
     let from = plan_structure(b, value);
     let from_kind = kind_of(value);
-    let code = cleared_value(b, from, from_kind, rest);
+    let code = cleared_value(b, from, rest);
     let code = copy_words(b, to, from.without_sizes(), words, code);
     let code = if checks_shape {
         check_shape(b, value.pos(), kind, from_kind, from, code)
@@ -208,7 +208,7 @@ pub fn evaluate<'m>(
 ) -> Pending<'m> {
     let planned = plan_value(b, value);
     let code = match planned {
-        Value::At(place) => cleared_value(b, place, kind_of(value), rest),
+        Value::At(place) => cleared_value(b, place, rest),
         _ => rest,
     };
     emit_value(b, exits.around, value, planned, code)

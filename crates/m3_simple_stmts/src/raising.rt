@@ -76,7 +76,7 @@ fn word_of<'m>(
         (Form::Structure(1), Operand::Temp(to)) => {
             let planned = plan_value(b, e);
             let place = planned.place();
-            let code = cleared_value(b, place, kind_of(e), rest);
+            let code = cleared_value(b, place, rest);
             let code = load_word(b, to, place, 0, code);
             emit_value(b, exits.around, e, planned, code)
         }

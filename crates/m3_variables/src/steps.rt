@@ -2,8 +2,8 @@ use crate::aliases::load_sizes;
 use crate::sources::move_words;
 use m3_base::Pos;
 use m3_builder::{
-    Builder, Location, Pending, Place, Value, cleared, copy_words, kind_of, load_word, load_words,
-    not_nil, set_temp, store_word, store_words,
+    Builder, Location, Pending, Place, Value, cleared_value, copy_words, kind_of, load_word,
+    load_words, not_nil, set_temp, store_word, store_words,
 };
 use m3_core::{Base, Chain, Step};
 use m3_mid::{Kind, Operand};
@@ -157,16 +157,18 @@ pub fn emit_read<'m>(
     b: &mut Builder<'m, '_>,
     from: Place,
     after: Value,
-    kind: TypeId,
     rest: Pending<'m>,
 ) -> Pending<'m> {
     match (after, from.at) {
         (_, Location::Temps(_)) | (Value::At(_), _) => rest,
         (Value::Word(Operand::Temp(to)), _) => {
-            let rest = cleared(b, from, kind, rest);
+            let rest = cleared_value(b, from, rest);
             load_word(b, to, from, 0, rest)
         }
-        (Value::Words { first, count }, _) => load_words(b, first, count, from, rest),
+        (Value::Words { first, count }, _) => {
+            let rest = cleared_value(b, from, rest);
+            load_words(b, first, count, from, rest)
+        }
         _ => rest,
     }
 }

@@ -20,6 +20,7 @@ fn run(rt: &(impl Print + Files + AllocGlobal)) -> io::Result<()> {
     try_examples(rt)?;
     try_table(rt, "programs.txt")?;
     try_table(rt, "threads.txt")?;
+    try_table(rt, "heap.txt")?;
     try_table(rt, "refusals.txt")?;
     try_table(rt, "commands.txt")?;
     try_table(rt, "REFUSALS.md")?;
