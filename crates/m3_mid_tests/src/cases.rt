@@ -1,5 +1,4 @@
-use crate::compiled::{Given, code_of, run_sources};
-use bumpalo::Bump;
+use crate::compiled::{Given, Wanted, given};
 use m3_base::{NoMemory, Source};
 use std::alloc::Global;
 
@@ -10,14 +9,22 @@ pub struct Tally {
     pub differing: u64,
 }
 
-/// What is to be tried of a program.
+/// A file of a program.
+#[derive(Drop)]
+struct File<'t> {
+    name: &'t str,
+    text: String,
+}
+
+/// A program and what is wanted of it.
 #[derive(Drop)]
 struct Case<'t> {
-    /// What is wanted: a word that says what of, and the answer behind a bar.
+    /// How its run has to end, or the name of the procedure whose middle code is wanted.
     header: &'t str,
-    source: String,
-    /// The lines that are wanted.
-    lines: String,
+    files: Vec<File<'t>>,
+    input: String,
+    /// The output or the text that is wanted.
+    wanted: String,
 }
 
 impl Tally {
@@ -36,220 +43,165 @@ impl Tally {
     }
 }
 
-/// What a program gives.
-pub fn run_text(alloc: Global, text: &[u8]) -> Result<Given, NoMemory> {
-    if text.len() > 1_048_576 {
-        return Err(NoMemory);
-    }
-    let arena = Bump::new(alloc);
-    let sources = [Source {
-        name: b"Main.m3",
-        text,
-    }];
-    run_sources(alloc, &arena, &sources, &[])
+/// Adds a line.
+pub fn add(text: &mut String, line: &str) -> Result<(), NoMemory> {
+    text.push_str(line)?;
+    text.push('\n')?;
+    Ok(())
 }
 
-/// The middle code of a procedure of a program, or the order in which it tests for faults.
-fn lowered(alloc: Global, text: &[u8], name: &[u8], is_order: bool) -> Result<String, NoMemory> {
-    if text.len() > 1_048_576 {
-        return Err(NoMemory);
-    }
-    let arena = Bump::new(alloc);
+/// What is made of a program of one file.
+pub fn given_of_text(alloc: Global, text: &str, wanted: Wanted<'_>) -> Result<Given, NoMemory> {
     let sources = [Source {
         name: b"Main.m3",
-        text,
+        text: text.as_bytes(),
     }];
-    code_of(alloc, &arena, &sources, name, is_order)
+    given(alloc, &sources, wanted)
 }
 
-/// A text in which `\n` stands for the end of a line.
-fn with_ends(alloc: Global, text: &str) -> Result<Vec<u8>, NoMemory> {
-    let mut bytes = Vec::new(alloc);
-    let mut is_behind = false;
-    for byte in text.as_bytes() {
-        if is_behind && *byte == b'n' {
-            bytes.push(b'\n')?;
-        } else if *byte != b'\\' {
-            bytes.push(*byte)?;
+fn sources_of<'f>(alloc: Global, files: &'f [File<'_>]) -> Result<Vec<Source<'f>>, NoMemory> {
+    let mut sources = Vec::new(alloc);
+    for file in files {
+        sources.push(Source {
+            name: file.name.as_bytes(),
+            text: file.text.as_bytes(),
+        })?;
+    }
+    Ok(sources)
+}
+
+/// What came out where it isn't what is wanted.
+fn differing(alloc: Global, case: &Case<'_>) -> Result<Option<String>, NoMemory> {
+    let sources = sources_of(alloc, case.files.as_slice())?;
+    match case.header.split_once(' ') {
+        Some(("text", name)) => {
+            let given = given(alloc, sources.as_slice(), Wanted::Code(name.as_bytes()))?;
+            Ok(other_text(case.wanted.as_str(), given.line))
         }
-        is_behind = *byte == b'\\';
+        _ => {
+            let input = case.input.as_bytes();
+            let given = given(alloc, sources.as_slice(), Wanted::Run(input))?;
+            other_run(case.header, case.wanted.as_str(), given)
+        }
     }
-    Ok(bytes)
 }
 
-/// Whether a program gives what is wanted; what it gave where not.
-fn try_run(
-    alloc: Global,
-    wanted: &str,
-    output: &str,
-    source: &str,
-) -> Result<Option<String>, NoMemory> {
-    let given = run_text(alloc, source.as_bytes())?;
-    let bytes = with_ends(alloc, output)?;
-    if given.line.as_str() == wanted && given.output.as_slice() == bytes.as_slice() {
-        return Ok(None);
-    }
-    let mut told = given.line;
-    told.push_str(" | ")?;
-    for byte in &given.output {
-        told.push(char::from(*byte))?;
-    }
-    Ok(Some(told))
-}
-
-fn differs(wanted: &str, given: String) -> Option<String> {
+fn other_text(wanted: &str, given: String) -> Option<String> {
     if given.as_str() == wanted { None } else { Some(given) }
 }
 
-impl Case<'_> {
-    /// What came out where it isn't what is wanted.
-    fn try_out(&self, alloc: Global) -> Result<Option<String>, NoMemory> {
-        let source = self.source.as_str();
-        let (wanted, answer) = match self.header.split_once(" | ") {
-            Some(parts) => parts,
-            None => (self.header, ""),
-        };
-        match wanted.split_once(' ') {
-            Some(("text", name)) => {
-                let given = lowered(alloc, source.as_bytes(), name.as_bytes(), false)?;
-                Ok(differs(self.lines.as_str(), given))
-            }
-            _ => try_run(alloc, wanted, answer, source),
-        }
+fn other_run(header: &str, wanted: &str, given: Given) -> Result<Option<String>, NoMemory> {
+    let Given { output, mut line } = given;
+    if line.as_str() == header && output.as_slice() == wanted.as_bytes() {
+        return Ok(None);
     }
+    line.push('\n')?;
+    for byte in &output {
+        line.push(char::from(*byte))?;
+    }
+    Ok(Some(line))
 }
 
-/// The cases of a table. A line that begins with `= ` says what is wanted of the program behind it; lines
-/// that begin with `> ` are what is wanted of a text.
+/// A table of cases. A line says by its first two characters what it is: `= ` the header of a case, `+ ` the
+/// name of a file whose text begins (Main.m3 where there is none), `< ` a line of the input, `> ` a line of
+/// the output or of the text that is wanted, `>>` the output's last line, which has no end. Any other line is
+/// one of the text of a file.
 #[derive(Drop)]
 pub struct Table<'t> {
+    alloc: Global,
     cases: Vec<Case<'t>>,
 }
 
 impl<'t> Table<'t> {
     pub fn of(alloc: Global, text: &'t str) -> Result<Table<'t>, NoMemory> {
         let mut table = Table {
+            alloc,
             cases: Vec::new(alloc),
         };
         for line in text.lines() {
-            table.add_line(alloc, line)?;
+            table.add_line(line)?;
         }
         Ok(table)
     }
 
-    fn add_line(&mut self, alloc: Global, line: &'t str) -> Result<(), NoMemory> {
+    fn add_case(&mut self, header: &'t str) -> Result<(), NoMemory> {
+        self.cases.push(Case {
+            header,
+            files: Vec::new(self.alloc),
+            input: String::new(self.alloc),
+            wanted: String::new(self.alloc),
+        })?;
+        Ok(())
+    }
+
+    fn add_line(&mut self, line: &'t str) -> Result<(), NoMemory> {
         if let Some(header) = line.strip_prefix("= ") {
-            self.cases.push(Case {
-                header,
-                source: String::new(alloc),
-                lines: String::new(alloc),
-            })?;
-            return Ok(());
+            return self.add_case(header);
         }
-        let Some(case) = self.cases.last_mut() else {
-            return Ok(());
-        };
-        match line.strip_prefix("> ") {
-            Some(wanted) => add(&mut case.lines, wanted),
-            None => add(&mut case.source, line),
+        match self.cases.last_mut() {
+            Some(case) => add_to_case(self.alloc, case, line),
+            None => Ok(()),
         }
     }
 
     /// Tries all, and tells what came out otherwise.
-    pub fn try_all(&self, alloc: Global, report: &mut String) -> Result<Tally, NoMemory> {
-        let mut tally = Tally::new();
-        for case in &self.cases {
-            let given = case.try_out(alloc)?;
-            tally.count(given.is_none());
-            if let Some(given) = given {
-                add(report, case.header)?;
-                add(report, given.as_str())?;
-            }
-        }
-        Ok(tally)
+    pub fn try_all(&self, report: &mut String) -> Result<Tally, NoMemory> {
+        try_cases(self.alloc, self.cases.as_slice(), report)
     }
 }
 
-/// Adds a line.
-fn add(text: &mut String, line: &str) -> Result<(), NoMemory> {
-    text.push_str(line)?;
-    text.push('\n')?;
+fn add_to_case<'t>(alloc: Global, case: &mut Case<'t>, line: &'t str) -> Result<(), NoMemory> {
+    if let Some(name) = line.strip_prefix("+ ") {
+        return add_file(alloc, &mut case.files, name);
+    }
+    if let Some(input) = line.strip_prefix("< ") {
+        return add(&mut case.input, input);
+    }
+    if let Some(wanted) = line.strip_prefix("> ") {
+        return add(&mut case.wanted, wanted);
+    }
+    if let Some(wanted) = line.strip_prefix(">>") {
+        case.wanted.push_str(wanted)?;
+        return Ok(());
+    }
+    add_text(alloc, &mut case.files, line)
+}
+
+fn add_file<'t>(
+    alloc: Global,
+    files: &mut Vec<File<'t>>,
+    name: &'t str,
+) -> Result<(), NoMemory> {
+    files.push(File {
+        name,
+        text: String::new(alloc),
+    })?;
     Ok(())
 }
 
-/// The frame with two expressions in place of its two signs `@`.
-fn filled(alloc: Global, frame: &str, first: &str, second: &str) -> Result<String, NoMemory> {
-    let mut text = String::new(alloc);
-    for (place, piece) in frame.split('@').enumerate() {
-        match place {
-            0 => (),
-            1 => text.push_str(first)?,
-            _ => text.push_str(second)?,
-        }
-        text.push_str(piece)?;
+/// Adds a line of text to the file that was named last.
+fn add_text(alloc: Global, files: &mut Vec<File<'_>>, line: &str) -> Result<(), NoMemory> {
+    if files.is_empty() {
+        add_file(alloc, files, "Main.m3")?;
     }
-    Ok(text)
+    match files.last_mut() {
+        Some(file) => add(&mut file.text, line),
+        None => Ok(()),
+    }
 }
 
-/// Tries each expression of a table before each other one. A line has the fault of its expression, which
-/// comes on line 20 of the frame, before that of the other one.
-pub fn try_pairs(
+fn try_cases(
     alloc: Global,
-    frame: &str,
-    table: &str,
+    cases: &[Case<'_>],
     report: &mut String,
 ) -> Result<Tally, NoMemory> {
     let mut tally = Tally::new();
-    for first in table.lines() {
-        for second in table.lines() {
-            let is_right = try_pair(alloc, frame, first, second, report)?;
-            tally.count(is_right);
-        }
-    }
-    Ok(tally)
-}
-
-fn try_pair(
-    alloc: Global,
-    frame: &str,
-    first: &str,
-    second: &str,
-    report: &mut String,
-) -> Result<bool, NoMemory> {
-    let (Some((kind, left)), Some((_, right))) = (first.split_once(' '), second.split_once(' '))
-    else {
-        return Ok(false);
-    };
-    let text = filled(alloc, frame, left, right)?;
-    let given = run_text(alloc, text.as_bytes())?;
-    let wanted = format!(in alloc; "fault {kind} Main.m3:20 ")?;
-    let is_right = given.line.as_str().starts_with(wanted.as_str());
-    if !is_right {
-        add(report, left)?;
-        add(report, right)?;
-        add(report, given.line.as_str())?;
-    }
-    Ok(is_right)
-}
-
-/// Tries the statements of a table in the place of the sign `@` of a frame, whose procedure P has to test
-/// what stands before the bar, in this order.
-pub fn try_orders(
-    alloc: Global,
-    frame: &str,
-    table: &str,
-    report: &mut String,
-) -> Result<Tally, NoMemory> {
-    let mut tally = Tally::new();
-    for line in table.lines() {
-        if let Some((wanted, statement)) = line.split_once(" | ") {
-            let text = filled(alloc, frame, statement, "")?;
-            let given = lowered(alloc, text.as_bytes(), b"P", true)?;
-            tally.count(given.as_str() == wanted);
-            if given.as_str() != wanted {
-                add(report, statement)?;
-                add(report, given.as_str())?;
-            }
+    for case in cases {
+        let other = differing(alloc, case)?;
+        tally.count(other.is_none());
+        if let Some(other) = other {
+            add(report, case.header)?;
+            add(report, other.as_str())?;
         }
     }
     Ok(tally)

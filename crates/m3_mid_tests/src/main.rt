@@ -3,77 +3,59 @@
 //! `text PROCEDURE FILES` puts a procedure as middle code.
 #![tactic(auto)]
 
-ghost use Rattle.std.specs.Prelude.{◌<◌, All, length, IfOk, OnOk};
-
 mod cases;
 mod compiled;
+mod framed;
 mod orders;
+mod running;
 
-use bumpalo::Bump;
-use cases::{Table, Tally, try_orders, try_pairs};
-use compiled::{code_of, run_sources};
-use m3_base::Source;
+use cases::{Table, Tally};
+use compiled::{Given, Wanted, given};
+use framed::{try_orders, try_pairs};
+use m3_base::{NoMemory, Source};
 use std::rt::{Env, Files};
 use std::{env, fs, io};
 
-fn out_of_memory() -> io::Error {
-    io::Error::from(io::ErrorKind::OutOfMemory)
-}
-
-fn read<'a, R: Files + AllocGlobal>(
-    rt: &R,
-    arena: &'a Bump,
-    name: &str,
-) -> io::Result<Source<'a>> {
-    let text = fs::read(rt, name)?;
-    let name = &*arena.try_alloc_slice_copy(name.as_bytes())?;
-    let text = &*arena.try_alloc_slice_copy(text.as_slice())?;
-    Ok(Source { name, text })
-}
-
-fn add_source<'a, R: Files + AllocGlobal>(
-    rt: &R,
-    arena: &'a Bump,
-    name: &str,
-    sources: &mut Vec<Source<'a>>,
-) -> io::Result<()>
-    ensures { OnOk result (All (λ source. length source.text.now < 4294967295) sources.old.items → All (λ source. length source.text.now < 4294967295) sources.new.items) }
-{
-    let source = read(rt, arena, name)?;
-    if source.text.len() <= 1_048_576 {
-        sources.push(source)?;
+fn or_out_of_memory<T>(made: Result<T, NoMemory>) -> io::Result<T> {
+    match made {
+        Ok(made) => Ok(made),
+        Err(_) => Err(io::Error::from(io::ErrorKind::OutOfMemory)),
     }
-    Ok(())
 }
 
-fn read_all<'a, R: Files + AllocGlobal>(
-    rt: &R,
-    arena: &'a Bump,
-    names: &[String],
-) -> io::Result<Vec<Source<'a>>>
-    ensures { IfOk result (λ sources. All (λ source. length source.text.now < 4294967295) sources.items) }
-{
-    let mut sources = Vec::new(rt.alloc());
+fn read_all<R: Files + AllocGlobal>(rt: &R, names: &[String]) -> io::Result<Vec<Vec<u8>>> {
+    let mut texts = Vec::new(rt.alloc());
     for name in names {
-        add_source(rt, arena, name.as_str(), &mut sources)?;
+        texts.push(fs::read(rt, name.as_str())?)?;
     }
-    Ok(sources)
+    Ok(texts)
+}
+
+/// What is made of the program of some files.
+fn given_of_files<R: Files + AllocGlobal>(
+    rt: &R,
+    names: &[String],
+    wanted: Wanted<'_>,
+) -> io::Result<Given> {
+    let texts = read_all(rt, names)?;
+    let mut sources = Vec::new(rt.alloc());
+    for (name, text) in names.iter().zip(texts.iter()) {
+        sources.push(Source {
+            name: name.as_bytes(),
+            text: text.as_slice(),
+        })?;
+    }
+    or_out_of_memory(given(rt.alloc(), sources.as_slice(), wanted))
 }
 
 fn run_files<R: Print + Eprint + Files + AllocGlobal>(
     rt: &R,
     names: &[String],
 ) -> io::Result<()> {
-    let arena = Bump::new(rt.alloc());
-    let sources = read_all(rt, &arena, names)?;
-    match run_sources(rt.alloc(), &arena, sources.as_slice(), &[]) {
-        Ok(given) => {
-            let mut out = io::writer(rt);
-            io::Write::write_all(&mut out, given.output.as_slice())?;
-            eprintln!(rt; "{}", given.line)
-        }
-        Err(_) => Err(out_of_memory()),
-    }
+    let given = given_of_files(rt, names, Wanted::Run(&[]))?;
+    let mut out = io::writer(rt);
+    io::Write::write_all(&mut out, given.output.as_slice())?;
+    eprintln!(rt; "{}", given.line)
 }
 
 fn put_text<R: Print + Files + AllocGlobal>(
@@ -81,12 +63,8 @@ fn put_text<R: Print + Files + AllocGlobal>(
     name: &str,
     names: &[String],
 ) -> io::Result<()> {
-    let arena = Bump::new(rt.alloc());
-    let sources = read_all(rt, &arena, names)?;
-    match code_of(rt.alloc(), &arena, sources.as_slice(), name.as_bytes(), false) {
-        Ok(text) => print!(rt; "{text}"),
-        Err(_) => Err(out_of_memory()),
-    }
+    let given = given_of_files(rt, names, Wanted::Code(name.as_bytes()))?;
+    print!(rt; "{}", given.line)
 }
 
 fn report<R: Print>(rt: &R, name: &str, tally: Tally, told: &str) -> io::Result<()> {
@@ -99,14 +77,9 @@ fn report<R: Print>(rt: &R, name: &str, tally: Tally, told: &str) -> io::Result<
 fn try_table<R: Print + Files + AllocGlobal>(rt: &R, name: &str) -> io::Result<()> {
     let text = fs::read_to_string(rt, name)?;
     let mut told = String::new(rt.alloc());
-    let tally = match Table::of(rt.alloc(), text.as_str()) {
-        Ok(table) => table.try_all(rt.alloc(), &mut told),
-        Err(no_memory) => Err(no_memory),
-    };
-    match tally {
-        Ok(tally) => report(rt, name, tally, told.as_str()),
-        Err(_) => Err(out_of_memory()),
-    }
+    let table = or_out_of_memory(Table::of(rt.alloc(), text.as_str()))?;
+    let tally = or_out_of_memory(table.try_all(&mut told))?;
+    report(rt, name, tally, told.as_str())
 }
 
 /// Tries the lines of a table in a frame: those of orders, or pairs of them.
@@ -120,14 +93,13 @@ fn try_framed<R: Print + Files + AllocGlobal>(rt: &R, name: &str, frame: &str) -
     } else {
         try_pairs(rt.alloc(), frame, table, &mut told)
     };
-    match tally {
-        Ok(tally) => report(rt, name, tally, told.as_str()),
-        Err(_) => Err(out_of_memory()),
-    }
+    let tally = or_out_of_memory(tally)?;
+    report(rt, name, tally, told.as_str())
 }
 
 fn try_all<R: Print + Files + AllocGlobal>(rt: &R) -> io::Result<()> {
     try_table(rt, "outcomes")?;
+    try_table(rt, "examples")?;
     try_table(rt, "texts")?;
     try_framed(rt, "orders", "orders-frame")?;
     try_framed(rt, "pairs", "pairs-frame")
@@ -142,7 +114,6 @@ fn carry_out<R: Print + Eprint + Files + AllocGlobal>(
         [_, mode, name, names @ ..] if mode.as_str() == "text" => {
             put_text(rt, name.as_str(), names)
         }
-        [_, mode, name] if mode.as_str() == "table" => try_table(rt, name.as_str()),
         _ => try_all(rt),
     }
 }
