@@ -87,7 +87,11 @@ fn differing(alloc: Global, case: &Case<'_>) -> Result<Option<String>, NoMemory>
 }
 
 fn other_text(wanted: &str, given: String) -> Option<String> {
-    if given.as_str() == wanted { None } else { Some(given) }
+    if given.as_str() == wanted {
+        None
+    } else {
+        Some(given)
+    }
 }
 
 fn other_run(header: &str, wanted: &str, given: Given) -> Result<Option<String>, NoMemory> {
@@ -167,11 +171,7 @@ fn add_to_case<'t>(alloc: Global, case: &mut Case<'t>, line: &'t str) -> Result<
     add_text(alloc, &mut case.files, line)
 }
 
-fn add_file<'t>(
-    alloc: Global,
-    files: &mut Vec<File<'t>>,
-    name: &'t str,
-) -> Result<(), NoMemory> {
+fn add_file<'t>(alloc: Global, files: &mut Vec<File<'t>>, name: &'t str) -> Result<(), NoMemory> {
     files.push(File {
         name,
         text: String::new(alloc),
@@ -190,11 +190,7 @@ fn add_text(alloc: Global, files: &mut Vec<File<'_>>, line: &str) -> Result<(), 
     }
 }
 
-fn try_cases(
-    alloc: Global,
-    cases: &[Case<'_>],
-    report: &mut String,
-) -> Result<Tally, NoMemory> {
+fn try_cases(alloc: Global, cases: &[Case<'_>], report: &mut String) -> Result<Tally, NoMemory> {
     let mut tally = Tally::new();
     for case in cases {
         let other = differing(alloc, case)?;

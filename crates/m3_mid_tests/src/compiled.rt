@@ -1,9 +1,9 @@
 ghost use Rattle.std.specs.Prelude.{◌≡◌, ◌<◌, true, All, length};
 
-use bumpalo::Bump;
-use bumpalo::collections::into_bump_slice;
 use crate::orders::tested;
 use crate::running::run_lowered;
+use bumpalo::Bump;
+use bumpalo::collections::into_bump_slice;
 use m3_base::{NoMemory, Refusal, Refused, Source, place_number};
 use m3_checker::check;
 use m3_core::Core;
@@ -162,11 +162,7 @@ fn refused(alloc: Global, broken: Refusal) -> Result<Given, NoMemory> {
 }
 
 /// What is made of the program of some sources.
-pub fn given(
-    alloc: Global,
-    sources: &[Source<'_>],
-    wanted: Wanted<'_>,
-) -> Result<Given, NoMemory> {
+pub fn given(alloc: Global, sources: &[Source<'_>], wanted: Wanted<'_>) -> Result<Given, NoMemory> {
     let owner = Bump::new(alloc);
     let arena = &owner;
     let copies = copies(alloc, arena, sources)?;

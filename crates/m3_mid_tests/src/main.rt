@@ -48,10 +48,7 @@ fn given_of_files<R: Files + AllocGlobal>(
     or_out_of_memory(given(rt.alloc(), sources.as_slice(), wanted))
 }
 
-fn run_files<R: Print + Eprint + Files + AllocGlobal>(
-    rt: &R,
-    names: &[String],
-) -> io::Result<()> {
+fn run_files<R: Print + Eprint + Files + AllocGlobal>(rt: &R, names: &[String]) -> io::Result<()> {
     let given = given_of_files(rt, names, Wanted::Run(&[]))?;
     let mut out = io::writer(rt);
     io::Write::write_all(&mut out, given.output.as_slice())?;
@@ -105,10 +102,7 @@ fn try_all<R: Print + Files + AllocGlobal>(rt: &R) -> io::Result<()> {
     try_framed(rt, "pairs", "pairs-frame")
 }
 
-fn carry_out<R: Print + Eprint + Files + AllocGlobal>(
-    rt: &R,
-    words: &[String],
-) -> io::Result<()> {
+fn carry_out<R: Print + Eprint + Files + AllocGlobal>(rt: &R, words: &[String]) -> io::Result<()> {
     match words {
         [_, mode, names @ ..] if mode.as_str() == "run" => run_files(rt, names),
         [_, mode, name, names @ ..] if mode.as_str() == "text" => {

@@ -24,7 +24,11 @@ fn formals_of(alloc: Global, storage: &Storage<'_>) -> Result<Vec<u32>, NoMemory
 
 fn cell_type(part: &TypePart) -> CellType<'_> {
     CellType {
-        parent: if part.parent == u32::MAX { None } else { Some(part.parent) },
+        parent: if part.parent == u32::MAX {
+            None
+        } else {
+            Some(part.parent)
+        },
         words: u64::from(part.words),
         dims: part.dims,
         methods: part.methods.as_slice(),
