@@ -34,17 +34,10 @@ impl<'a> Machine<'a> {
                 service,
                 operands,
                 to,
+                raised,
                 pos,
                 ..
-            } => {
-                self.may_go(service, operands)?;
-                self.pass_point()?;
-                let result = self.serve(service, operands, pos)?;
-                match to {
-                    Some(to) => self.set(to, result),
-                    None => Ok(()),
-                }
-            }
+            } => self.pass_service(service, operands, to, raised, pos),
             _ => self.pass_point(),
         }
     }

@@ -9,13 +9,31 @@ const NOTHING: Word = Word {
 };
 
 impl<'a> Machine<'a> {
-    /// Carries out a service, and gives its result, or 0.
-    pub(crate) fn serve(
+    /// Passes the point of a service and carries it out. One that can be ended by an alert lets a lone thread
+    /// go on only so.
+    pub(crate) fn pass_service(
         &mut self,
         service: Service,
         operands: &[Operand],
+        to: Option<u32>,
+        raised: Option<u32>,
         pos: Pos,
-    ) -> Result<Word, Stop> {
+    ) -> Result<(), Stop> {
+        self.may_go(service, operands)?;
+        self.pass_point()?;
+        if let Some(raised) = raised {
+            self.be_alerted(service, operands, pos)?;
+            return self.set_number(raised, 1);
+        }
+        let result = self.serve(service, operands, pos)?;
+        match to {
+            Some(to) => self.set(to, result),
+            None => Ok(()),
+        }
+    }
+
+    /// Carries out a service, and gives its result, or 0.
+    fn serve(&mut self, service: Service, operands: &[Operand], pos: Pos) -> Result<Word, Stop> {
         match service {
             Service::Put
             | Service::PutNumber
@@ -40,11 +58,12 @@ impl<'a> Machine<'a> {
                 self.is_alerted = false;
                 Ok(Word::number(u64::from(was)))
             }
-            Service::Fork
-            | Service::Join
-            | Service::Wait
-            | Service::AlertWait
-            | Service::AlertJoin => Err(Stop::Threads),
+            Service::Wait => {
+                self.hold(service, operands, pos)?;
+                Err(Stop::Deadlock)
+            }
+            Service::Fork => Err(Stop::Threads),
+            Service::Join | Service::AlertWait | Service::AlertJoin => Err(Stop::Deadlock),
         }
     }
 
@@ -141,17 +160,35 @@ impl<'a> Machine<'a> {
         Ok(part)
     }
 
-    /// Whether the thread may go: a mutex that it holds already lets it wait for ever, and no point is
-    /// passed then.
-    pub(crate) fn may_go(&mut self, service: Service, operands: &[Operand]) -> Result<(), Stop> {
-        if service == Service::Acquire {
-            let cell = self.operand_at(operands, 0)?;
-            if let Some(mutex) = self.memory.mutex(cell)
-                && mutex.is_held
-            {
-                return Err(Stop::Deadlock);
-            }
+    /// Whether the thread may go. Where not, it waits for itself, and no point is passed.
+    fn may_go(&mut self, service: Service, operands: &[Operand]) -> Result<(), Stop> {
+        let waits = match service {
+            Service::Acquire => self.is_held(operands)?,
+            Service::Join => true,
+            Service::AlertJoin => !self.is_alerted,
+            _ => false,
+        };
+        if waits { Err(Stop::Deadlock) } else { Ok(()) }
+    }
+
+    /// Whether the mutex that is the first operand is held.
+    fn is_held(&mut self, operands: &[Operand]) -> Result<bool, Stop> {
+        let cell = self.operand_at(operands, 0)?;
+        match self.memory.mutex(cell) {
+            Some(mutex) => Ok(mutex.is_held),
+            None => Err(Stop::Stuck("no mutex")),
         }
+    }
+
+    /// Ends AlertWait or AlertJoin by the alert of the thread itself. The mutex stays held.
+    fn be_alerted(&mut self, service: Service, operands: &[Operand], pos: Pos) -> Result<(), Stop> {
+        if service == Service::AlertWait && !self.is_held(operands)? {
+            return Err(Stop::Fault(FaultKind::NotHeld, pos));
+        }
+        if !self.is_alerted {
+            return Err(Stop::Deadlock);
+        }
+        self.is_alerted = false;
         Ok(())
     }
 
