@@ -1,4 +1,4 @@
-use crate::compiled::{Given, Wanted, given};
+use crate::compiled::{Given, Wanted, given_from};
 use m3_base::{NoMemory, Source};
 use std::alloc::Global;
 
@@ -56,7 +56,7 @@ pub fn given_of_text(alloc: Global, text: &str, wanted: Wanted<'_>) -> Result<Gi
         name: b"Main.m3",
         text: text.as_bytes(),
     }];
-    given(alloc, &sources, wanted)
+    given_from(alloc, &sources, wanted)
 }
 
 fn sources_of<'f>(alloc: Global, files: &'f [File<'_>]) -> Result<Vec<Source<'f>>, NoMemory> {
@@ -75,12 +75,12 @@ fn differing(alloc: Global, case: &Case<'_>) -> Result<Option<String>, NoMemory>
     let sources = sources_of(alloc, case.files.as_slice())?;
     match case.header.split_once(' ') {
         Some(("text", name)) => {
-            let given = given(alloc, sources.as_slice(), Wanted::Code(name.as_bytes()))?;
+            let given = given_from(alloc, sources.as_slice(), Wanted::Code(name.as_bytes()))?;
             Ok(other_text(case.wanted.as_str(), given.line))
         }
         _ => {
             let input = case.input.as_bytes();
-            let given = given(alloc, sources.as_slice(), Wanted::Run(input))?;
+            let given = given_from(alloc, sources.as_slice(), Wanted::Run(input))?;
             other_run(case.header, case.wanted.as_str(), given)
         }
     }

@@ -162,7 +162,7 @@ fn refused(alloc: Global, broken: Refusal) -> Result<Given, NoMemory> {
 }
 
 /// What is made of the program of some sources.
-pub fn given(alloc: Global, sources: &[Source<'_>], wanted: Wanted<'_>) -> Result<Given, NoMemory> {
+pub fn given_from(alloc: Global, sources: &[Source<'_>], wanted: Wanted<'_>) -> Result<Given, NoMemory> {
     let owner = Bump::new(alloc);
     let arena = &owner;
     let copies = copies(alloc, arena, sources)?;

@@ -10,7 +10,7 @@ mod orders;
 mod running;
 
 use cases::{Table, Tally};
-use compiled::{Given, Wanted, given};
+use compiled::{Given, Wanted, given_from};
 use framed::{try_orders, try_pairs};
 use m3_base::{NoMemory, Source};
 use std::rt::{Env, Files};
@@ -45,7 +45,7 @@ fn given_of_files<R: Files + AllocGlobal>(
             text: text.as_slice(),
         })?;
     }
-    or_out_of_memory(given(rt.alloc(), sources.as_slice(), wanted))
+    or_out_of_memory(given_from(rt.alloc(), sources.as_slice(), wanted))
 }
 
 fn run_files<R: Print + Eprint + Files + AllocGlobal>(rt: &R, names: &[String]) -> io::Result<()> {
