@@ -1,0 +1,13 @@
+//! A program that carries out middle code as it is defined: one thread, and a memory of numbered parts.
+//! Tests compare what it gives with what a program has to give; nothing else stands on it.
+#![tactic(auto)]
+
+mod arithmetic;
+mod calls;
+mod machine;
+mod memory;
+mod points;
+mod services;
+mod stepping;
+
+pub use machine::{CellType, Ending, Program, Stop, run};
