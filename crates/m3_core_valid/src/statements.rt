@@ -3,7 +3,7 @@ use crate::chains::{Given, judge_chain, judge_place};
 use crate::expressions::judge_expression;
 use crate::judge::Judge;
 use m3_base::NoMemory;
-use m3_core::{Bound, CoreExpr, CoreStmt, WithBinding};
+use m3_core::{Arm, Bound, CaseBranch, CoreExpr, CoreStmt, Handler, TypeBranch, WithBinding};
 use m3_types::TypeId;
 
 /// Judges each statement of a row.
@@ -146,11 +146,11 @@ fn judge_choice<'a>(judge: &mut Judge<'_, 'a>, statement: &CoreStmt<'a>) -> Resu
             otherwise,
             ..
         } => {
-            for arm in *arms {
-                judge_expression(judge, arm.condition)?;
-                judge_statements(judge, arm.body)?;
+            judge_arms(judge, arms)?;
+            match otherwise {
+                Some(row) => judge_statements(judge, row),
+                None => Ok(()),
             }
-            judge_otherwise(judge, *otherwise)
         }
         CoreStmt::Case {
             value,
@@ -159,10 +159,11 @@ fn judge_choice<'a>(judge: &mut Judge<'_, 'a>, statement: &CoreStmt<'a>) -> Resu
             ..
         } => {
             judge_expression(judge, value)?;
-            for branch in *branches {
-                judge_statements(judge, branch.body)?;
+            judge_branches(judge, branches)?;
+            match otherwise {
+                Some(row) => judge_statements(judge, row),
+                None => Ok(()),
             }
-            judge_otherwise(judge, *otherwise)
         }
         CoreStmt::TypeCase {
             value,
@@ -171,26 +172,44 @@ fn judge_choice<'a>(judge: &mut Judge<'_, 'a>, statement: &CoreStmt<'a>) -> Resu
             ..
         } => {
             judge_expression(judge, value)?;
-            for branch in *branches {
-                expect_types(judge, branch.types);
-                expect_optional_own(judge, branch.variable);
-                judge_statements(judge, branch.body)?;
+            judge_types(judge, branches)?;
+            match otherwise {
+                Some(row) => judge_statements(judge, row),
+                None => Ok(()),
             }
-            judge_otherwise(judge, *otherwise)
         }
         _ => Ok(()),
     }
 }
 
 #[cycle(statements)]
-fn judge_otherwise<'a>(
-    judge: &mut Judge<'_, 'a>,
-    otherwise: Option<&[CoreStmt<'a>]>,
-) -> Result<(), NoMemory> {
-    match otherwise {
-        Some(row) => judge_statements(judge, row),
-        None => Ok(()),
+fn judge_arms<'a>(judge: &mut Judge<'_, 'a>, arms: &[Arm<'a>]) -> Result<(), NoMemory> {
+    for arm in arms {
+        judge_expression(judge, arm.condition)?;
+        judge_statements(judge, arm.body)?;
     }
+    Ok(())
+}
+
+#[cycle(statements)]
+fn judge_branches<'a>(
+    judge: &mut Judge<'_, 'a>,
+    branches: &[CaseBranch<'a>],
+) -> Result<(), NoMemory> {
+    for branch in branches {
+        judge_statements(judge, branch.body)?;
+    }
+    Ok(())
+}
+
+#[cycle(statements)]
+fn judge_types<'a>(judge: &mut Judge<'_, 'a>, branches: &[TypeBranch<'a>]) -> Result<(), NoMemory> {
+    for branch in branches {
+        expect_types(judge, branch.types);
+        expect_optional_own(judge, branch.variable);
+        judge_statements(judge, branch.body)?;
+    }
+    Ok(())
 }
 
 /// Judges the loops.
@@ -255,12 +274,21 @@ fn judge_handled<'a>(judge: &mut Judge<'_, 'a>, statement: &CoreStmt<'a>) -> Res
         return Ok(());
     };
     judge_statements(judge, body)?;
-    for handler in *handlers {
+    judge_handlers(judge, handlers)?;
+    match otherwise {
+        Some(row) => judge_statements(judge, row),
+        None => Ok(()),
+    }
+}
+
+#[cycle(statements)]
+fn judge_handlers<'a>(judge: &mut Judge<'_, 'a>, handlers: &[Handler<'a>]) -> Result<(), NoMemory> {
+    for handler in handlers {
         expect_exceptions(judge, handler.exceptions);
         expect_optional_own(judge, handler.variable);
         judge_statements(judge, handler.body)?;
     }
-    judge_otherwise(judge, *otherwise)
+    Ok(())
 }
 
 /// Judges the bindings of WITH.
