@@ -74,12 +74,12 @@ fn lower_all<'a>(
     alloc: Global,
     arena: &'a Bump,
     storage: &'a Storage<'a>,
-) -> Result<Vec<Proc<'a>>, NoMemory> {
-    let mut procs = Vec::new(alloc);
+) -> Result<&'a [Proc<'a>], NoMemory> {
+    let mut procs = Vec::new(arena);
     for number in 0..storage.core.procs.len() {
         procs.push(lower_proc(alloc, arena, storage, place_number(number)?)?)?;
     }
-    Ok(procs)
+    Ok(into_bump_slice(procs))
 }
 
 /// The number of the procedure with a name, or how many procedures there are.
@@ -112,7 +112,7 @@ fn given_of<'a>(
     match wanted {
         Wanted::Run(input) => {
             let procs = lower_all(alloc, arena, storage)?;
-            run_lowered(alloc, storage, procs.as_slice(), input)
+            run_lowered(alloc, arena, storage, procs, input)
         }
         Wanted::Code(name) => {
             let code = code_of(alloc, arena, storage, name)?;
@@ -162,7 +162,11 @@ fn refused(alloc: Global, broken: Refusal) -> Result<Given, NoMemory> {
 }
 
 /// What is made of the program of some sources.
-pub fn given_from(alloc: Global, sources: &[Source<'_>], wanted: Wanted<'_>) -> Result<Given, NoMemory> {
+pub fn given_from(
+    alloc: Global,
+    sources: &[Source<'_>],
+    wanted: Wanted<'_>,
+) -> Result<Given, NoMemory> {
     let owner = Bump::new(alloc);
     let arena = &owner;
     let copies = copies(alloc, arena, sources)?;

@@ -1,4 +1,6 @@
 use crate::compiled::{Given, told};
+use bumpalo::Bump;
+use bumpalo::collections::into_bump_slice;
 use m3_base::{NoMemory, fault_name, place_number};
 use m3_core::Core;
 use m3_image_parts::{Constants, type_parts};
@@ -22,8 +24,9 @@ fn formals_of(alloc: Global, storage: &Storage<'_>) -> Result<Vec<u32>, NoMemory
     Ok(formals)
 }
 
-fn cell_type(part: &TypePart) -> CellType<'_> {
-    CellType {
+/// A type of cells, with a copy of its methods in the arena.
+fn cell_type<'a>(arena: &'a Bump, part: &TypePart) -> Result<CellType<'a>, NoMemory> {
+    Ok(CellType {
         parent: if part.parent == u32::MAX {
             None
         } else {
@@ -31,16 +34,16 @@ fn cell_type(part: &TypePart) -> CellType<'_> {
         },
         words: u64::from(part.words),
         dims: part.dims,
-        methods: part.methods.as_slice(),
-    }
+        methods: &*arena.try_alloc_slice_copy(part.methods.as_slice())?,
+    })
 }
 
-fn cell_types<'p>(alloc: Global, parts: &'p [TypePart]) -> Result<Vec<CellType<'p>>, NoMemory> {
-    let mut types = Vec::new(alloc);
+fn cell_types<'a>(arena: &'a Bump, parts: &[TypePart]) -> Result<&'a [CellType<'a>], NoMemory> {
+    let mut types = Vec::new(arena);
     for part in parts {
-        types.push(cell_type(part))?;
+        types.push(cell_type(arena, part)?)?;
     }
-    Ok(types)
+    Ok(into_bump_slice(types))
 }
 
 /// The first procedure that isn't well formed, as its text; none where all are.
@@ -126,10 +129,11 @@ fn put_stop(alloc: Global, line: &mut String, core: &Core<'_>, stop: Stop) -> Re
 }
 
 /// Runs a program whose procedures were lowered, unless one of them isn't well formed: then that one is told.
-pub fn run_lowered(
+pub fn run_lowered<'a>(
     alloc: Global,
-    storage: &Storage<'_>,
-    procs: &[Proc<'_>],
+    arena: &'a Bump,
+    storage: &'a Storage<'a>,
+    procs: &'a [Proc<'a>],
     input: &[u8],
 ) -> Result<Given, NoMemory> {
     let core = storage.core;
@@ -145,28 +149,40 @@ pub fn run_lowered(
     };
     match broken(alloc, procs, &around)? {
         Some(text) => Ok(told(alloc, text)),
-        None => run_valid(alloc, storage, procs, parts.as_slice(), input),
+        None => run_valid(alloc, arena, storage, procs, parts.as_slice(), input),
     }
 }
 
-fn run_valid(
+/// A program that can be carried out, all of it in the arena.
+fn program_of<'a>(
     alloc: Global,
-    storage: &Storage<'_>,
-    procs: &[Proc<'_>],
+    arena: &'a Bump,
+    storage: &'a Storage<'a>,
+    procs: &'a [Proc<'a>],
     parts: &[TypePart],
-    input: &[u8],
-) -> Result<Given, NoMemory> {
+) -> Result<Program<'a>, NoMemory> {
     let constants = Constants::of(alloc, storage)?;
-    let types = cell_types(alloc, parts)?;
-    let program = Program {
+    Ok(Program {
         procs,
         order: storage.core.order,
         global_words: storage.global_words,
-        types: types.as_slice(),
-        constants: constants.words.as_slice(),
-        texts: constants.texts.as_slice(),
-        values: constants.values.as_slice(),
-    };
+        types: cell_types(arena, parts)?,
+        constants: &*arena.try_alloc_slice_copy(constants.words.as_slice())?,
+        texts: &*arena.try_alloc_slice_copy(constants.texts.as_slice())?,
+        values: &*arena.try_alloc_slice_copy(constants.values.as_slice())?,
+    })
+}
+
+fn run_valid<'a>(
+    alloc: Global,
+    arena: &'a Bump,
+    storage: &'a Storage<'a>,
+    procs: &'a [Proc<'a>],
+    parts: &[TypePart],
+    input: &[u8],
+) -> Result<Given, NoMemory> {
+    let program = program_of(alloc, arena, storage, procs, parts)?;
+    let input = &*arena.try_alloc_slice_copy(input)?;
     let Ending {
         stop,
         output,
