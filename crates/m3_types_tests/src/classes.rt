@@ -26,7 +26,7 @@ fn classes_of_worked_examples(rt: HostRuntime) -> Result<(), Fail> {
     let alloc = rt.alloc();
     let bump = Bump::new(alloc);
     let types = graph(alloc, &bump)?;
-    check_pairs(rt, alloc, &types)?;
+    check_pairs(&rt, alloc, &types)?;
     assert!(rt;
         Classes::of(alloc, &types)?
             .number(TypeId(1_000_000))
@@ -73,7 +73,7 @@ fn classes_of_random_graphs(rt: HostRuntime) -> Result<(), Fail> {
     for _ in 0..400u32 {
         let bump = Bump::new(alloc);
         let types = some_types(alloc, &bump, &mut seed)?;
-        check_pairs(rt, alloc, &types)?;
+        check_pairs(&rt, alloc, &types)?;
     }
     Ok(())
 }
@@ -95,8 +95,8 @@ fn check_families(rt: &impl Abort, alloc: Global, count: u32, differ: bool) -> R
 #[test]
 fn classes_of_large_families(rt: HostRuntime) -> Result<(), Fail> {
     let alloc = rt.alloc();
-    check_families(rt, alloc, 20000, false)?;
-    check_families(rt, alloc, 20000, true)
+    check_families(&rt, alloc, 20000, false)?;
+    check_families(&rt, alloc, 20000, true)
 }
 
 // A chain of count references to records of one field, down to INTEGER, and a second one like it.
