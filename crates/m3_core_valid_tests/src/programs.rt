@@ -2,7 +2,8 @@
 use bumpalo::Bump;
 use m3_base::Pos;
 use m3_core::{
-    Base, Chain, Core, CoreExpr, CoreStmt, ExcDef, ProcDef, Role, Step, Value, VarDef, VarKind,
+    Base, Chain, Core, CoreExpr, CoreStmt, ExcDef, ProcDef, Role, Step, Value, ValueId, VarDef,
+    VarKind,
 };
 use m3_sizes::SizedTypes;
 use m3_types::{Field, Formal, Method, Mode, Raises, TypeGraph, TypeId, TypeNode};
@@ -44,20 +45,28 @@ fn field<'a>(name: &'a [u8]) -> Field<'a> {
     }
 }
 
-fn types_of<'a>(alloc: Global, bump: &'a Bump) -> Result<SizedTypes<'a>, Fail> {
-    let fields = bump.try_alloc_slice_copy(&[field(b"a"), field(b"b")])?;
-    let part = bump.try_alloc_slice_copy(&[field(b"f")])?;
-    let formals = bump.try_alloc_slice_copy(&[Formal {
-        name: b"x",
+fn formal<'a>(name: &'a [u8]) -> Formal<'a> {
+    Formal {
+        name,
         mode: Mode::Value,
         kind: INTEGER,
         default: None,
-    }])?;
-    let methods = bump.try_alloc_slice_copy(&[Method {
-        name: b"m",
+    }
+}
+
+fn method<'a>(name: &'a [u8]) -> Method<'a> {
+    Method {
+        name,
         signature: FUNCTION,
         default: None,
-    }])?;
+    }
+}
+
+fn types_of<'a>(alloc: Global, bump: &'a Bump) -> Result<SizedTypes<'a>, Fail> {
+    let fields = bump.try_alloc_slice_copy(&[field(b"a"), field(b"b")])?;
+    let part = bump.try_alloc_slice_copy(&[field(b"f")])?;
+    let formals = bump.try_alloc_slice_copy(&[formal(b"x")])?;
+    let methods = bump.try_alloc_slice_copy(&[method(b"m")])?;
     let mut graph = TypeGraph::new(alloc);
     for node in [
         TypeNode::Integer,
@@ -89,7 +98,7 @@ pub fn variable<'a>(kind: VarKind, role: Role) -> VarDef<'a> {
 
 /// The procedure F(x: INTEGER): INTEGER with the locals r: REF of the record, o: the object, q: REF of the
 /// array, f: FUNCTION and an alias of an INTEGER, at places 1 to 5.
-fn function<'a>(bump: &'a Bump, body: &'a [CoreStmt<'a>]) -> Result<ProcDef<'a>, Fail> {
+pub fn function<'a>(bump: &'a Bump, body: &'a [CoreStmt<'a>]) -> Result<ProcDef<'a>, Fail> {
     let local = |kind: TypeId| variable(VarKind::Variable(kind), Role::Local);
     Ok(ProcDef {
         name: b"F",
@@ -116,7 +125,7 @@ fn function<'a>(bump: &'a Bump, body: &'a [CoreStmt<'a>]) -> Result<ProcDef<'a>,
 }
 
 /// The body of the module.
-fn module<'a>() -> ProcDef<'a> {
+pub fn module<'a>() -> ProcDef<'a> {
     ProcDef {
         name: b"Main",
         unit: 0,
@@ -135,6 +144,14 @@ fn module<'a>() -> ProcDef<'a> {
     }
 }
 
+fn exception<'a>(argument: Option<TypeId>) -> ExcDef<'a> {
+    ExcDef {
+        unit: b"Main",
+        name: b"E",
+        argument,
+    }
+}
+
 /// A program whose procedure 0 has this body, and whose module body is procedure 1. It has an INTEGER as its
 /// global variable, an exception without an argument and one with an INTEGER, a text, and the constants 7
 /// and a record of two of these.
@@ -143,23 +160,39 @@ pub fn program<'a>(
     bump: &'a Bump,
     body: &'a [CoreStmt<'a>],
 ) -> Result<Core<'a>, Fail> {
-    let global = variable(VarKind::Variable(INTEGER), Role::Global);
-    let exception = |argument| ExcDef {
-        unit: b"Main",
-        name: b"E",
-        argument,
+    let parts = &*bump.try_alloc_slice_copy(&[ValueId(0), ValueId(0)])?;
+    let rows = Rows {
+        procs: &*bump.try_alloc_slice_copy(&[function(bump, body)?, module()])?,
+        order: &[1],
+        values: &*bump.try_alloc_slice_copy(&[Value::Number(7), Value::Record(parts)])?,
+        alerted: 0,
     };
-    let parts = &*bump.try_alloc_slice_copy(&[m3_core::ValueId(0), m3_core::ValueId(0)])?;
+    program_of(alloc, bump, rows)
+}
+
+/// What programs differ in: their procedures, the order of the bodies, the constants, and the place of the
+/// exception of alerts.
+#[derive(Clone, Copy)]
+pub struct Rows<'a> {
+    pub procs: &'a [ProcDef<'a>],
+    pub order: &'a [u32],
+    pub values: &'a [Value<'a>],
+    pub alerted: u32,
+}
+
+/// The program of these rows.
+pub fn program_of<'a>(alloc: Global, bump: &'a Bump, rows: Rows<'a>) -> Result<Core<'a>, Fail> {
+    let global = variable(VarKind::Variable(INTEGER), Role::Global);
     Ok(Core {
         types: types_of(alloc, bump)?,
-        procs: &*bump.try_alloc_slice_copy(&[function(bump, body)?, module()])?,
+        procs: rows.procs,
         globals: &*bump.try_alloc_slice_copy(&[global])?,
         exceptions: &*bump.try_alloc_slice_copy(&[exception(None), exception(Some(INTEGER))])?,
         texts: &[b"text"],
-        order: &[1],
-        values: &*bump.try_alloc_slice_copy(&[Value::Number(7), Value::Record(parts)])?,
+        order: rows.order,
+        values: rows.values,
         files: &[b"Main.m3"],
-        alerted: 0,
+        alerted: rows.alerted,
     })
 }
 

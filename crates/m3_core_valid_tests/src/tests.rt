@@ -1,12 +1,11 @@
 use crate::programs::{
-    FUNCTION, INTEGER, NONE, OBJECT, OPEN, OPEN_REFERENCE, PLAIN, POS, RECORD, REFERENCE, chain,
-    local, number, program,
+    FUNCTION, INTEGER, NONE, OBJECT, OPEN, OPEN_REFERENCE, PLAIN, POS, RECORD, REFERENCE, Rows,
+    chain, function, local, module, number, program, program_of,
 };
 use bumpalo::Bump;
 use bumpalo::collections::into_bump_slice;
 use m3_core::{
-    Actual, Base, BuiltinCall, Core, CoreExpr, CoreStmt, FieldValue, ProcDef, Routine, Step, Value,
-    ValueId,
+    Actual, Base, BuiltinCall, CoreExpr, CoreStmt, FieldValue, ProcDef, Routine, Step, ValueId,
 };
 use m3_core_valid::is_well_formed;
 use m3_types::TypeId;
@@ -290,6 +289,27 @@ fn calls(rt: HostRuntime) -> Result<(), Fail> {
     )
 }
 
+/// A call of a routine: a value where it has a type, else a statement.
+fn call_routine<'a>(
+    bump: &'a Bump,
+    routine: Routine,
+    actuals: &'a [CoreExpr<'a>],
+    order: &'a [u32],
+    kind: Option<TypeId>,
+) -> Result<CoreStmt<'a>, Fail> {
+    let call = &*bump.try_alloc(BuiltinCall {
+        pos: POS,
+        routine,
+        actuals,
+        order,
+        kind,
+    })?;
+    match kind {
+        Some(_) => eval(bump, CoreExpr::Builtin(call)),
+        None => Ok(CoreStmt::Builtin { pos: POS, call }),
+    }
+}
+
 #[test]
 fn routines(rt: HostRuntime) -> Result<(), Fail> {
     let bump = &Bump::new(rt.alloc());
@@ -300,54 +320,71 @@ fn routines(rt: HostRuntime) -> Result<(), Fail> {
         }
         Ok(into_bump_slice(row))
     };
-    let call = |routine: Routine, actuals, order, kind| -> Result<CoreStmt<'_>, Fail> {
-        let call = &*bump.try_alloc(BuiltinCall {
-            pos: POS,
-            routine,
-            actuals,
-            order,
-            kind,
-        })?;
-        match kind {
-            Some(_) => eval(bump, CoreExpr::Builtin(call)),
-            None => Ok(CoreStmt::Builtin { pos: POS, call }),
-        }
-    };
     let two = row(2)?;
     let one = row(1)?;
     let number = Some(INTEGER);
-    good(&rt, bump, "MAX", call(Routine::Max, two, &[1, 0], number)?)?;
+    good(
+        &rt,
+        bump,
+        "MAX",
+        call_routine(bump, Routine::Max, two, &[1, 0], number)?,
+    )?;
     bad(
         &rt,
         bump,
         "one of two",
-        call(Routine::Max, one, &[0], number)?,
+        call_routine(bump, Routine::Max, one, &[0], number)?,
     )?;
     bad(
         &rt,
         bump,
         "an order without 1",
-        call(Routine::Max, two, &[0, 0], number)?,
+        call_routine(bump, Routine::Max, two, &[0, 0], number)?,
     )?;
     bad(
         &rt,
         bump,
         "a short order",
-        call(Routine::Max, two, &[0], number)?,
+        call_routine(bump, Routine::Max, two, &[0], number)?,
     )?;
     bad(
         &rt,
         bump,
         "MAX as a statement",
-        call(Routine::Max, two, &[0, 1], None)?,
+        call_routine(bump, Routine::Max, two, &[0, 1], None)?,
     )?;
-    good(&rt, bump, "PutInt", call(Routine::PutInt, one, &[0], None)?)?;
+    good(
+        &rt,
+        bump,
+        "PutInt",
+        call_routine(bump, Routine::PutInt, one, &[0], None)?,
+    )?;
     bad(
         &rt,
         bump,
         "PutInt as a value",
-        call(Routine::PutInt, one, &[0], number)?,
+        call_routine(bump, Routine::PutInt, one, &[0], number)?,
     )
+}
+
+/// A record of numbers in these fields.
+fn record<'a>(bump: &'a Bump, places: [u32; 2], kind: TypeId) -> Result<CoreExpr<'a>, Fail> {
+    let value = number(bump)?;
+    let fields = bump.try_alloc_slice_copy(&[
+        FieldValue {
+            field: places[0],
+            value,
+        },
+        FieldValue {
+            field: places[1],
+            value,
+        },
+    ])?;
+    Ok(CoreExpr::RecordOf {
+        pos: POS,
+        kind,
+        fields,
+    })
 }
 
 fn new<'a>(made: TypeId, sizes: &'a [CoreExpr<'a>]) -> CoreExpr<'a> {
@@ -396,26 +433,23 @@ fn values(rt: HostRuntime) -> Result<(), Fail> {
         eval(bump, inner)?,
     )?;
     let value = number(bump)?;
-    let record = |places: [u32; 2], kind: TypeId| -> Result<CoreExpr<'_>, Fail> {
-        let field = |field: u32| FieldValue { field, value };
-        Ok(CoreExpr::RecordOf {
-            pos: POS,
-            kind,
-            fields: &*bump.try_alloc_slice_copy(&[field(places[0]), field(places[1])])?,
-        })
-    };
-    good(&rt, bump, "a record", eval(bump, record([1, 0], RECORD)?)?)?;
+    good(
+        &rt,
+        bump,
+        "a record",
+        eval(bump, record(bump, [1, 0], RECORD)?)?,
+    )?;
     bad(
         &rt,
         bump,
         "a field twice",
-        eval(bump, record([0, 0], RECORD)?)?,
+        eval(bump, record(bump, [0, 0], RECORD)?)?,
     )?;
     bad(
         &rt,
         bump,
         "fields of no record",
-        eval(bump, record([0, 1], OPEN)?)?,
+        eval(bump, record(bump, [0, 1], OPEN)?)?,
     )?;
     let sizes = &*bump.try_alloc_slice_copy(&[*value])?;
     good(
@@ -483,83 +517,91 @@ fn statements(rt: HostRuntime) -> Result<(), Fail> {
     bad(&rt, bump, "an assignment to a value", assign(no_place))
 }
 
-/// The program of this body is well formed, or it isn't.
-fn expect_program(
+/// The program of these rows is well formed, or it isn't.
+fn expect_program<'a>(
     rt: &(impl Abort + AllocGlobal),
+    bump: &'a Bump,
     what: &str,
-    core: &Core<'_>,
+    rows: Rows<'a>,
     is_good: bool,
 ) -> Result<(), Fail> {
-    let got = is_well_formed(rt.alloc(), core)?;
+    let core = program_of(rt.alloc(), bump, rows)?;
+    let got = is_well_formed(rt.alloc(), &core)?;
     assert!(rt; got == is_good, "{what}");
     Ok(())
+}
+
+/// The rows of a program of one procedure and no module body.
+fn alone<'a>(bump: &'a Bump, proc: ProcDef<'a>) -> Result<Rows<'a>, Fail> {
+    Ok(Rows {
+        procs: bump.try_alloc_slice_copy(&[proc])?,
+        order: &[],
+        values: &[],
+        alerted: 0,
+    })
 }
 
 #[test]
 fn programs(rt: HostRuntime) -> Result<(), Fail> {
     let bump = &Bump::new(rt.alloc());
-    let alloc = rt.alloc();
-    let mut core = program(alloc, bump, &[])?;
-    expect_program(&rt, "a program", &core, true)?;
-    core.alerted = 2;
-    expect_program(&rt, "no such exception", &core, false)?;
-    core.alerted = 0;
-    core.order = &[0];
-    expect_program(&rt, "a procedure as a module", &core, false)?;
-    core.order = &[2];
-    expect_program(&rt, "no such body", &core, false)?;
-    core.order = &[1];
-    let ahead = &*bump.try_alloc_slice_copy(&[ValueId(1)])?;
-    core.values = &*bump.try_alloc_slice_copy(&[Value::Number(7), Value::Record(ahead)])?;
-    expect_program(&rt, "a constant of itself", &core, false)?;
-    core.values = &[];
-    expect_program(&rt, "no constants", &core, true)?;
-    let Some(first) = core.procs.first().copied() else {
-        return Err(Fail::new("no procedure"));
+    let rows = Rows {
+        procs: bump.try_alloc_slice_copy(&[function(bump, &[])?, module()])?,
+        order: &[1],
+        values: &[],
+        alerted: 0,
     };
-    for (what, proc, is_good) in [
-        ("the same procedure", first, true),
-        (
-            "a type without formals",
-            ProcDef {
-                kind: PLAIN,
-                ..first
-            },
-            false,
-        ),
-        (
-            "a level without a procedure around",
-            ProcDef { level: 1, ..first },
-            false,
-        ),
-        (
-            "a procedure around it at the same level",
-            ProcDef {
-                outer: Some(0),
-                ..first
-            },
-            false,
-        ),
-        (
-            "exceptions that aren't there",
-            ProcDef {
-                raises: Some(&[2]),
-                ..first
-            },
-            false,
-        ),
-        (
-            "without its formal",
-            ProcDef {
-                formals: &[],
-                ..first
-            },
-            false,
-        ),
-    ] {
-        core.procs = &*bump.try_alloc_slice_copy(&[proc])?;
-        core.order = &[];
-        expect_program(&rt, what, &core, is_good)?;
-    }
-    Ok(())
+    expect_program(&rt, bump, "a program", rows, true)?;
+    let lost = Rows { alerted: 2, ..rows };
+    expect_program(&rt, bump, "no such exception", lost, false)?;
+    let wrong = Rows {
+        order: &[0],
+        ..rows
+    };
+    expect_program(&rt, bump, "a procedure as a module", wrong, false)?;
+    let past = Rows {
+        order: &[2],
+        ..rows
+    };
+    expect_program(&rt, bump, "no such body", past, false)
+}
+
+#[test]
+fn procedures(rt: HostRuntime) -> Result<(), Fail> {
+    let bump = &Bump::new(rt.alloc());
+    let proc = function(bump, &[])?;
+    expect_program(&rt, bump, "a procedure", alone(bump, proc)?, true)?;
+    let other = ProcDef {
+        kind: PLAIN,
+        ..proc
+    };
+    expect_program(
+        &rt,
+        bump,
+        "a type without formals",
+        alone(bump, other)?,
+        false,
+    )?;
+    let inner = ProcDef { level: 1, ..proc };
+    expect_program(&rt, bump, "nothing around it", alone(bump, inner)?, false)?;
+    let inside = ProcDef {
+        outer: Some(0),
+        ..proc
+    };
+    expect_program(
+        &rt,
+        bump,
+        "inside one of its level",
+        alone(bump, inside)?,
+        false,
+    )?;
+    let raising = ProcDef {
+        raises: Some(&[2]),
+        ..proc
+    };
+    expect_program(&rt, bump, "no such exception", alone(bump, raising)?, false)?;
+    let bare = ProcDef {
+        formals: &[],
+        ..proc
+    };
+    expect_program(&rt, bump, "without its formal", alone(bump, bare)?, false)
 }
