@@ -106,10 +106,10 @@ fn other_run(header: &str, wanted: &str, given: Given) -> Result<Option<String>,
     Ok(Some(line))
 }
 
-/// A table of cases. A line says by its first two characters what it is: `= ` the header of a case, `+ ` the
-/// name of a file whose text begins (Main.m3 where there is none), `< ` a line of the input, `> ` a line of
-/// the output or of the text that is wanted, `>>` the output's last line, which has no end. Any other line is
-/// one of the text of a file.
+/// A table of cases. A line says by its first two characters what it is: `= ` the header of a
+/// case, `+ ` the name of a file whose text begins (Main.m3 where there is none), `< ` a line of
+/// the input, `> ` a line of the output or of the text that is wanted, `>>` the output's last
+/// line, which has no end. Any other line is one of the text of a file.
 #[derive(Drop)]
 pub struct Table<'t> {
     alloc: Global,

@@ -24,8 +24,8 @@ pub enum Wanted<'w> {
     Order(&'w [u8]),
 }
 
-/// What was made of a program: the output of a run, and a line that says how it ended; or no output, and the
-/// text that was wanted.
+/// What was made of a program: the output of a run, and a line that says how it ended; or no
+/// output, and the text that was wanted.
 #[derive(Drop)]
 pub struct Given {
     pub output: Vec<u8>,
@@ -125,7 +125,8 @@ fn given_of<'a>(
     }
 }
 
-/// What is made of a program of which it is known where it keeps its things; that stands in the arena.
+/// What is made of a program of which it is known where it keeps its things; that stands in the
+/// arena.
 fn given_in<'a>(
     alloc: Global,
     arena: &'a Bump,

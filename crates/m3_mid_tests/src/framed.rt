@@ -17,8 +17,8 @@ fn filled(alloc: Global, frame: &str, first: &str, second: &str) -> Result<Strin
     Ok(text)
 }
 
-/// Tries each expression of a table before each other one. A line has the fault of its expression and the line
-/// of the frame at which it comes, before that of the other one.
+/// Tries each expression of a table before each other one. A line has the fault of its expression
+/// and the line of the frame at which it comes, before that of the other one.
 pub fn try_pairs(
     alloc: Global,
     frame: &str,
@@ -64,8 +64,8 @@ fn try_pair(
     Ok(is_right)
 }
 
-/// Tries the statements of a table in the place of the sign `@` of a frame, whose procedure P has to test
-/// what stands before the bar, in this order.
+/// Tries the statements of a table in the place of the sign `@` of a frame, whose procedure P has
+/// to test what stands before the bar, in this order.
 pub fn try_orders(
     alloc: Global,
     frame: &str,

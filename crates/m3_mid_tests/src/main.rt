@@ -1,6 +1,6 @@
-//! Tries what is lowered. Each procedure of each program has to be well formed, and what a program gives as
-//! middle code has to be what is wanted. Without words all tables are tried; `run FILES` runs a program, and
-//! `text PROCEDURE FILES` puts a procedure as middle code.
+//! Tries what is lowered. Each procedure of each program has to be well formed, and what a program
+//! gives as middle code has to be what is wanted. Without words all tables are tried; `run FILES`
+//! runs a program, and `text PROCEDURE FILES` puts a procedure as middle code.
 #![tactic(auto)]
 
 mod cases;

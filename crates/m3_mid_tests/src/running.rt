@@ -128,7 +128,8 @@ fn put_stop(alloc: Global, line: &mut String, core: &Core<'_>, stop: Stop) -> Re
     }
 }
 
-/// Runs a program whose procedures were lowered, unless one of them isn't well formed: then that one is told.
+/// Runs a program whose procedures were lowered, unless one of them isn't well formed: then that
+/// one is told.
 pub fn run_lowered<'a>(
     alloc: Global,
     arena: &'a Bump,
