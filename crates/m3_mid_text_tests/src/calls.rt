@@ -14,8 +14,8 @@ const HERE: Pos = Pos {
 };
 
 /// Addresses and questions.
-fn questions(arena: &Bump) -> Result<&[MidOp<'_>], AllocError> {
-    let row = arena.try_alloc_slice_copy(&[
+fn questions<'a>(arena: &'a Bump) -> Result<&'a [MidOp<'a>], AllocError> {
+    let row: [MidOp<'a>; 9] = [
         MidOp::SlotAddress { to: 0, slot: 2 },
         MidOp::FrameAddress { to: 0 },
         MidOp::GlobalAddress { to: 0, word: 9 },
@@ -41,8 +41,8 @@ fn questions(arena: &Bump) -> Result<&[MidOp<'_>], AllocError> {
             left: 1,
             right: 2,
         },
-    ])?;
-    Ok(row)
+    ];
+    Ok(&*arena.try_alloc_slice_copy(&row)?)
 }
 
 /// The variables that are shown.

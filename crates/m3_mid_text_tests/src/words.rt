@@ -15,8 +15,8 @@ const HERE: Pos = Pos {
 };
 
 /// Sums, relations and checks.
-fn sums(arena: &Bump) -> Result<&[MidOp<'_>], AllocError> {
-    let row = arena.try_alloc_slice_copy(&[
+fn sums<'a>(arena: &'a Bump) -> Result<&'a [MidOp<'a>], AllocError> {
+    let row: [MidOp<'a>; 6] = [
         MidOp::Number { to: 0, value: -5 },
         MidOp::Move { to: 1, from: 0 },
         MidOp::Arith {
@@ -45,13 +45,13 @@ fn sums(arena: &Bump) -> Result<&[MidOp<'_>], AllocError> {
             fault: FaultKind::Nil,
             pos: HERE,
         },
-    ])?;
-    Ok(row)
+    ];
+    Ok(&*arena.try_alloc_slice_copy(&row)?)
 }
 
 /// Words of memory.
-fn loads(arena: &Bump) -> Result<&[MidOp<'_>], AllocError> {
-    let row = arena.try_alloc_slice_copy(&[
+fn loads<'a>(arena: &'a Bump) -> Result<&'a [MidOp<'a>], AllocError> {
+    let row: [MidOp<'a>; 8] = [
         MidOp::Load {
             to: 0,
             from: MemoryWord::Slot(2),
@@ -94,8 +94,8 @@ fn loads(arena: &Bump) -> Result<&[MidOp<'_>], AllocError> {
             words: 2,
             offset: 1,
         },
-    ])?;
-    Ok(row)
+    ];
+    Ok(&*arena.try_alloc_slice_copy(&row)?)
 }
 
 fn blocks(arena: &Bump) -> Result<&[Block<'_>], AllocError> {
