@@ -2,9 +2,9 @@ use crate::memory::Word;
 use m3_base::FaultKind;
 use m3_mid::{CheckedOperator, Relation, WordOperator};
 
-/// What an operator makes of two words; none where it isn't defined. A pointer and a number have a sum
-/// and a difference, and two pointers into one part of memory have a distance. That two pointers differ is
-/// told by a number, which stands for the bits in which they do.
+/// What an operator makes of two words; none where it isn't defined. A pointer and a number have a
+/// sum and a difference, and two pointers into one part of memory have a distance. That two
+/// pointers differ is told by a number, which stands for the bits in which they do.
 pub(crate) fn combined(operator: WordOperator, left: Word, right: Word) -> Option<Word> {
     match operator {
         WordOperator::Add => sum(left, right),

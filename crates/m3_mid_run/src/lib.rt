@@ -1,5 +1,5 @@
-//! A program that carries out middle code as it is defined: one thread, and a memory of numbered parts.
-//! Tests compare what it gives with what a program has to give; nothing else stands on it.
+//! A program that carries out middle code as it is defined: one thread, and a memory of numbered
+//! parts. Tests compare what it gives with what a program has to give; nothing else stands on it.
 #![tactic(auto)]
 
 mod arithmetic;

@@ -3,8 +3,9 @@ use m3_base::{FaultKind, Pos};
 use m3_mid::{Operand, Proc};
 use std::alloc::{AllocError, AllocFailed, Global};
 
-/// A type of cells as an image has it: a cell of a fixed size has so many words with its header, and an
-/// open one so many an element. Each method is 0, or 3 more than the number of its procedure.
+/// A type of cells as an image has it: a cell of a fixed size has so many words with its header,
+/// and an open one so many an element. Each method is 0, or 3 more than the number of its
+/// procedure.
 #[derive(Clone, Copy)]
 pub struct CellType<'a> {
     pub parent: Option<u32>,
@@ -21,7 +22,8 @@ pub struct Program<'a> {
     pub order: &'a [u32],
     pub global_words: u32,
     pub types: &'a [CellType<'a>],
-    /// The words of all constants, in which the address of a text is 2^50 more than its first word.
+    /// The words of all constants, in which the address of a text is 2^50 more than its first
+    /// word.
     pub constants: &'a [u64],
     /// The first word of each text, and of each other constant.
     pub texts: &'a [u32],

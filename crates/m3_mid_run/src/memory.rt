@@ -1,7 +1,7 @@
 use std::alloc::{AllocError, Global};
 
-/// A word: the number of a part of memory and a distance from its start, modulo 2^64. Part 0 is none,
-/// so a number is a distance from it.
+/// A word: the number of a part of memory and a distance from its start, modulo 2^64. Part 0 is
+/// none, so a number is a distance from it.
 #[derive(Clone, Copy, Debug, PartialEq, Eq)]
 pub(crate) struct Word {
     pub part: u32,

@@ -3,9 +3,9 @@ use crate::memory::{Memory, STALE, Word};
 use m3_mid::{Kind, Slot};
 
 impl<'a> Machine<'a> {
-    /// Passes a point, at which a collection may move each cell. What is no number of Kind Number and no
-    /// tidy pointer of Kind Tidy isn't known to a collector: nothing may use it from here on. What a slot
-    /// for tidy pointers holds is one.
+    /// Passes a point, at which a collection may move each cell. What is no number of Kind Number
+    /// and no tidy pointer of Kind Tidy isn't known to a collector: nothing may use it from here
+    /// on. What a slot for tidy pointers holds is one.
     pub(crate) fn pass_point(&mut self) -> Result<(), Stop> {
         self.points = self.points.saturating_add(1);
         let proc = self.proc()?;

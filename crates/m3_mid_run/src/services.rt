@@ -9,8 +9,8 @@ const NOTHING: Word = Word {
 };
 
 impl<'a> Machine<'a> {
-    /// Passes the point of a service and carries it out. One that can be ended by an alert lets a lone thread
-    /// go on only so.
+    /// Passes the point of a service and carries it out. One that can be ended by an alert lets a
+    /// lone thread go on only so.
     pub(crate) fn pass_service(
         &mut self,
         service: Service,

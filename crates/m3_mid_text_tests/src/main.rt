@@ -4,11 +4,13 @@
 mod calls;
 mod words;
 
+use bumpalo::Bump;
 use calls::print_calls;
 use std::io;
 use words::print_words;
 
 fn main(rt: HostRuntime) -> io::Result<()> {
-    print_words(&rt)?;
-    print_calls(&rt)
+    let arena = Bump::new(rt.alloc());
+    print_words(&rt, &arena)?;
+    print_calls(&rt, &arena)
 }

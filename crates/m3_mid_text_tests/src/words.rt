@@ -1,9 +1,11 @@
+use bumpalo::Bump;
 use m3_base::{FaultKind, Pos};
 use m3_mid::{
     AccessMark, Block, CheckedOperator, End, ForMark, Kind, MemoryWord, MidOp, Operand, Proc,
     Relation, Slot, WordOperator,
 };
 use m3_mid_text::Text;
+use std::alloc::AllocError;
 use std::io;
 
 const HERE: Pos = Pos {
@@ -12,9 +14,9 @@ const HERE: Pos = Pos {
     col: 3,
 };
 
-/// Operations on words of temporaries and of memory.
-pub fn print_words(rt: &impl Print) -> io::Result<()> {
-    let sums = [
+/// Sums, relations and checks.
+fn sums<'a>(arena: &'a Bump) -> Result<&'a [MidOp<'a>], AllocError> {
+    let row: [MidOp<'a>; 6] = [
         MidOp::Number { to: 0, value: -5 },
         MidOp::Move { to: 1, from: 0 },
         MidOp::Arith {
@@ -44,7 +46,12 @@ pub fn print_words(rt: &impl Print) -> io::Result<()> {
             pos: HERE,
         },
     ];
-    let loads = [
+    Ok(&*arena.try_alloc_slice_copy(&row)?)
+}
+
+/// Words of memory.
+fn loads<'a>(arena: &'a Bump) -> Result<&'a [MidOp<'a>], AllocError> {
+    let row: [MidOp<'a>; 8] = [
         MidOp::Load {
             to: 0,
             from: MemoryWord::Slot(2),
@@ -88,9 +95,13 @@ pub fn print_words(rt: &impl Print) -> io::Result<()> {
             offset: 1,
         },
     ];
-    let blocks = [
+    Ok(&*arena.try_alloc_slice_copy(&row)?)
+}
+
+fn blocks(arena: &Bump) -> Result<&[Block<'_>], AllocError> {
+    let row = arena.try_alloc_slice_copy(&[
         Block {
-            ops: &sums,
+            ops: sums(arena)?,
             end: End::If {
                 relation: Relation::Less,
                 left: Operand::Temp(0),
@@ -100,7 +111,7 @@ pub fn print_words(rt: &impl Print) -> io::Result<()> {
             },
         },
         Block {
-            ops: &loads,
+            ops: loads(arena)?,
             end: End::Goto(0),
         },
         Block {
@@ -110,20 +121,28 @@ pub fn print_words(rt: &impl Print) -> io::Result<()> {
                 pos: HERE,
             },
         },
-    ];
-    let accesses = [AccessMark {
+    ])?;
+    Ok(row)
+}
+
+fn loops(arena: &Bump) -> Result<&[ForMark<'_>], AllocError> {
+    let accesses = &*arena.try_alloc_slice_copy(&[AccessMark {
         block: 1,
         op: 7,
         array: 2,
         words: 2,
-    }];
-    let loops = [ForMark {
+    }])?;
+    let row = arena.try_alloc_slice_copy(&[ForMark {
         before: 0,
         turn: 1,
         index: 0,
-        accesses: &accesses,
-    }];
-    let slots = [
+        accesses,
+    }])?;
+    Ok(row)
+}
+
+fn slots(arena: &Bump) -> Result<&[Slot], AllocError> {
+    let row = arena.try_alloc_slice_copy(&[
         Slot {
             kind: Kind::Address,
             is_shared: false,
@@ -136,14 +155,19 @@ pub fn print_words(rt: &impl Print) -> io::Result<()> {
             kind: Kind::Number,
             is_shared: true,
         },
-    ];
+    ])?;
+    Ok(row)
+}
+
+/// Operations on words of temporaries and of memory.
+pub fn print_words(rt: &impl Print, arena: &Bump) -> io::Result<()> {
     let p = Proc {
         temps: &[Kind::Number, Kind::Number, Kind::Tidy, Kind::Address],
-        slots: &slots,
+        slots: slots(arena)?,
         formals: 2,
-        blocks: &blocks,
+        blocks: blocks(arena)?,
         start: 0,
-        loops: &loops,
+        loops: loops(arena)?,
     };
     print!(rt; "{}", Text(&p))
 }

@@ -1,5 +1,5 @@
-//! Whether a procedure of middle code is well formed: each name in it stands for something, and each
-//! operation takes and gives words of the kinds that it is defined for.
+//! Whether a procedure of middle code is well formed: each name in it stands for something, and
+//! each operation takes and gives words of the kinds that it is defined for.
 #![tactic(auto)]
 
 mod calls;
