@@ -2,6 +2,4 @@
 #![tactic(auto)]
 
 #[cfg(test)]
-mod classes;
-#[cfg(test)]
 mod tests;
