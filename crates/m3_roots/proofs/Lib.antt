@@ -1,1 +1,12 @@
+pub mod ApartLemmas
+pub mod FitLemmas
+pub mod FrameLemmas
+pub mod MarkLemmas
 pub mod Named
+pub mod OnceLemmas
+pub mod PartLemmas
+pub mod RowActLemmas
+pub mod TogetherLemmas
+pub mod VisitLemmas
+pub mod WithinLemmas
+pub mod WordLemmas

@@ -1,0 +1,10 @@
+pub mod BarActs
+pub mod Collected
+pub mod Marking
+pub mod RoomSizes
+pub mod RowActs
+pub mod RowLists
+pub mod RowMeaning
+pub mod TakingApart
+pub mod ThreadWords
+pub mod Visiting

@@ -4,7 +4,7 @@ ghost use Rattle.m3_heap.specs.Shapes.{Shape};
 ghost use Rattle.m3_sections.specs.Shapes.{shape_of};
 ghost use Rattle.m3_decoded.specs.Ready.{image_of};
 
-use crate::bases::{put_together, take_apart};
+use crate::apart::{put_together, take_apart};
 use crate::lists::lists_fit;
 use crate::room::Room;
 use crate::tidy::{visit_frames, visit_globals};
