@@ -1,11 +1,15 @@
 pub mod ApartLemmas
 pub mod FitLemmas
 pub mod FrameLemmas
+pub mod GatherLemmas
+pub mod ListLemmas
 pub mod MarkLemmas
 pub mod Named
 pub mod OnceLemmas
 pub mod PartLemmas
 pub mod RowActLemmas
+pub mod StepLemmas
+pub mod ThreadLemmas
 pub mod TogetherLemmas
 pub mod VisitLemmas
 pub mod WithinLemmas

@@ -37,7 +37,7 @@ pub has_right : (xs ys : List ℕ) (n : ℕ) → has ys n ≡ true → has (xs +
 has_right xs ys n h = has_append xs ys n ∙ or_second (has xs n) (has ys n) h
 
 -- sums over the same words are the same
-map_same : (places old new : List ℕ) → SameAt places old new → map (word_at new) places ≡ map (word_at old) places
+pub map_same : (places old new : List ℕ) → SameAt places old new → map (word_at new) places ≡ map (word_at old) places
 map_same [] old new same = refl
 map_same (q ∷ qs) old new same =
     let here = same q (has_first q qs) in

@@ -2,9 +2,7 @@
 -- what stops one.
 use Rattle.std.specs.Prelude.{ℕ, ◌≡◌, ◌↔◌, ◌+◌, Bool, true, false, if◌then◌else◌, List, [], ◌∷◌, ◌++◌, map, length, Option, Some, None, Contains, slice_index_or}
 use Rattle.std.specs.List.{slice_get}
-use Rattle.m3_base.specs.Words.{add_words, sub_words}
 use Rattle.m3_tables.specs.Numbers.{has}
-use Rattle.m3_tables.specs.Rows.{Bases}
 use Rattle.m3_heap.specs.Shapes.{Shape}
 use Rattle.m3_heap.specs.Moves.{Move, AreOneToOne, is_kept, forwarded, moved_cells}
 use Rattle.m3_heap.specs.Reach.{IsReachable, IsBadPointer, HasBadPointer}
@@ -14,9 +12,10 @@ use Rattle.m3_threads.specs.All.{Everyone, base_of, words_of}
 use Rattle.m3_sections.specs.Parts.{Program}
 use Rattle.m3_sections.specs.Shapes.{shape_of}
 use Rattle.m3_frames.specs.declared.frame.Frame.{Frame}
-use Rattle.m3_roots.specs.ThreadWords.{word_at, Derived, place_of, way_at, bases_at}
+use Rattle.m3_roots.specs.ThreadWords.{word_at, Derived, way_at}
 use Rattle.m3_roots.specs.RowMeaning.{AreFramesAt, tidy_places, derived_words}
 use Rattle.m3_roots.specs.RowLists.{ListsFit}
+use Rattle.m3_roots.specs.Moving.{MovesWords}
 
 -- what the threads, the globals and the heap are before and after a collection
 pub record Parts : Type 0 where
@@ -63,15 +62,6 @@ abbrev pub roots_of : Program → Parts → List (List Frame) → List ℕ
 roots_of p s walks = s.heap.tenured ++ (all_tidy_words p s.all s.all.threads walks ++ tidy_globals p s.globals)
 
 -- ---- what becomes of words
-
--- The words of a thread: tidy ones follow their cells, each derived word grows by as much as its bases grow, modulo
--- 2 ^ 64, and every other word stays. A cell that is kept unasked stays where it is.
-pub record MovesWords (p : Program) (moves : List Move) (frames : List Frame) (old new : List ℕ) : Type 0 where
-  pub count : length new ≡ length old
-  pub tidy : (place : ℕ) → has (tidy_places p frames) place ≡ true → word_at new place ≡ forwarded moves (word_at old place)
-  pub derived : (d : Derived) (way : Bases) → Contains (derived_words p frames) d → way_at old d ≡ Some way
-      → word_at new (place_of d) ≡ add_words (word_at old (place_of d)) (sub_words (bases_at new d.first way) (bases_at old d.first way))
-  pub others : (place : ℕ) → has (tidy_places p frames) place ≡ false → has (map place_of (derived_words p frames)) place ≡ false → word_at new place ≡ word_at old place
 
 -- a thread with other registers
 abbrev pub with_registers : List ℕ → Thread → Thread

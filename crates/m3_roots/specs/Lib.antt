@@ -1,6 +1,8 @@
 pub mod BarActs
 pub mod Collected
+pub mod Gathering
 pub mod Marking
+pub mod Moving
 pub mod RoomSizes
 pub mod RowActs
 pub mod RowLists

@@ -4,10 +4,9 @@ ghost use Rattle.m3_heap.specs.Shapes.{Shape};
 ghost use Rattle.m3_sections.specs.Shapes.{shape_of};
 ghost use Rattle.m3_decoded.specs.Ready.{image_of};
 
-use crate::apart::{put_together, take_apart};
-use crate::lists::lists_fit;
+use crate::gathering::{gather, mend};
 use crate::room::Room;
-use crate::tidy::{visit_frames, visit_globals};
+use crate::tidy::visit_globals;
 use crate::walk::list_frames;
 use m3_decoded::Decoded;
 use m3_heap::{Steps, Store};
@@ -58,12 +57,16 @@ fn visit_thread<S: Store, L: Ledger>(
     let Some(mut regs) = frames_of(image, threads, thread, room) else {
         return false;
     };
-    if !lists_fit(image, &room.frames, &mut room.marks) {
-        return false;
-    }
     let stack = threads.stack_mut(thread);
-    let fits = take_apart(image, &room.frames, &mut regs.r, stack, steps)
-        && visit_frames(image, &room.frames, &mut regs.r, stack, store, steps);
+    let fits = gather(
+        image,
+        &room.frames,
+        &mut room.marks,
+        &mut regs.r,
+        stack,
+        store,
+        steps,
+    );
     set_regs(threads, thread, regs);
     fits
 }
@@ -107,7 +110,7 @@ fn mend_thread<L: Ledger>(
         return false;
     };
     let stack = threads.stack_mut(thread);
-    let fits = put_together(image, &room.frames, &mut regs.r, stack, steps);
+    let fits = mend(image, &room.frames, &mut regs.r, stack, steps);
     set_regs(threads, thread, regs);
     fits
 }

@@ -4,6 +4,7 @@
 mod apart;
 mod bases;
 mod collecting;
+mod gathering;
 mod listing;
 mod lists;
 mod marks;

@@ -57,14 +57,31 @@ fn mark_arguments(image: &Decoded<'_>, marks: &mut [Mark], frames: &[Frame]) -> 
     list_numbers(marks, newest.first, row.argument_places())
 }
 
+/// Marks what the rows of all frames list, and the arguments of the newest.
+fn mark_all(image: &Decoded<'_>, marks: &mut [Mark], frames: &[Frame]) -> bool
+    ensures { HaveRows (image_of image.now).program frames.now
+        → MarksAll marks.old marks.new (acts_of (image_of image.now).program frames.now) result }
+{
+    mark_arguments(image, marks, frames) && mark_frames(image, marks, frames)
+}
+
+/// The later one of an end and that of a frame.
+fn later_end(end: usize, frame: &Frame) -> usize
+    ensures later { end ≤ result }
+    ensures frame { (n : ℕ) → n < 2 ^ 64 → frame.now.first + frame.now.words ≤ n → frame.now.first + frame.now.words ≤ result }
+    ensures within { (n : ℕ) → n < 2 ^ 64 → frame.now.first + frame.now.words ≤ n → end ≤ n → result ≤ n }
+{
+    end.max(frame.first.saturating_add(frame.words))
+}
+
 /// Where the words of all frames end.
 fn end_of(frames: &[Frame]) -> usize
-    ensures { (n : ℕ) → n < 2 ^ 63 → AllByRecursion (λ (f : AFrame). f.first + f.words ≤ n) frames.now
+    ensures { (n : ℕ) → n < 2 ^ 64 → AllByRecursion (λ (f : AFrame). f.first + f.words ≤ n) frames.now
         → (result ≤ n) × AllByRecursion (λ (f : AFrame). f.first + f.words ≤ result) frames.now }
 {
     let mut end = 0;
     for frame in frames {
-        end = end.max(frame.first.saturating_add(frame.words));
+        end = later_end(end, frame);
     }
     end
 }
@@ -77,6 +94,10 @@ pub fn lists_fit(image: &Decoded<'_>, frames: &[Frame], marks: &mut [Mark]) -> b
     ensures unfit { (base fp pc : ℕ) (stack : List ℕ) → AreFramesAt (image_of image.now).program base stack fp pc frames.now → length stack + 16 ≤ length marks.old
         → result ≡ false → ListsFit (image_of image.now).program frames.now → ⊥ }
 {
-    clear(marks, end_of(frames).saturating_add(16));
-    mark_arguments(image, marks, frames) && mark_frames(image, marks, frames)
+    image.image().keeps_its_form();
+    image.image().keeps_together();
+    let count = marks.len();
+    let end = end_of(frames).saturating_add(16).min(count);
+    clear(marks, end);
+    mark_all(image, marks, frames)
 }

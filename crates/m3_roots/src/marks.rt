@@ -1,5 +1,5 @@
 //! Marks of what is known of the words of a thread: which of them the rows list, and which they may not.
-ghost use Rattle.std.specs.Prelude.{◌≡◌, ◌<◌, ◌∷◌, [], ℕ, length, Some};
+ghost use Rattle.std.specs.Prelude.{◌≡◌, ◌<◌, ◌≤◌, ◌∷◌, [], ℕ, length, Some};
 ghost use Rattle.std.specs.List.{slice_get};
 ghost use Rattle.m3_roots.specs.ThreadWords.{place_from};
 ghost use Rattle.m3_roots.specs.Marking.{Lists, Derives, Bars, Uses, MarksAll, mark_of, unmarked};
@@ -23,10 +23,11 @@ pub(crate) const BLANK: Mark = Mark {
 
 /// Clears the marks before an end.
 pub(crate) fn clear(marks: &mut [Mark], end: usize)
-    ensures cleared { (q : ℕ) → q < end → q < length marks.new → slice_get marks.new q ≡ Some (mark_of unmarked q) }
+    requires { end ≤ length marks.old }
+    ensures cleared { (q : ℕ) → q < end → slice_get marks.new q ≡ Some (mark_of unmarked q) }
     ensures length { length marks.new ≡ length marks.old }
 {
-    for place in 0..end.min(marks.len()) {
+    for place in 0..end {
         marks[place] = BLANK;
     }
 }

@@ -4,4 +4,4 @@ use Rattle.m3_roots.specs.Marking.{mark_of, unmarked}
 use Rattle.m3_roots.proofs.marks.clear.Given as goal
 
 abbrev pub invariant-loop-place : goal.invariant-loop-place
-invariant-loop-place l = (q : ℕ) → q < l.place → q < length l.marks → slice_get l.marks q ≡ Some (mark_of unmarked q)
+invariant-loop-place l = (q : ℕ) → q < l.place → slice_get l.marks q ≡ Some (mark_of unmarked q)
