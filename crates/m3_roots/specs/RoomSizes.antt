@@ -6,8 +6,3 @@ use Rattle.m3_roots.specs.declared.room.Room.{Room}
 pub record IsRoomFor (stack : ℕ) (room : Room) : Type 0 where
   pub frames : stack < vec_capacity room.frames
   pub marks : stack + 16 ≤ length room.marks.items
-
--- there is as much room as there was
-pub record KeepsRoom (old new : Room) : Type 0 where
-  pub frames : vec_capacity old.frames ≤ vec_capacity new.frames
-  pub marks : length new.marks.items ≡ length old.marks.items

@@ -18,7 +18,7 @@ returns-then-bar_all c = λ there.
     let bars = subst (λ (ds : List Derived). MarksAll c.args.marks.now c.bar_all.new.marks (bar_acts f.first ds) true) (derived_of p f c.in-Some.row is) c.if-bar_all.ensures in
     let ys : List Act = map Lists (tidy_in p f) ++ map Derives (derived_places p f) in
     let lists = subst (λ (ds : List Derived). MarksAll c.bar_all.new.marks c.list_row.new.marks (map Lists (tidy_in p f) ++ map Derives (map place_of ds)) c.list_row.result) (derived_of p f c.in-Some.row is)
-      (rw c.in-Some-2.ensures.told at c.list_row.ensures) in
+      (rw c.in-Some-tidy_places.ensures.told at c.list_row.ensures) in
     marks_then c.args.marks.now c.bar_all.new.marks c.list_row.new.marks (bar_acts f.first (derived_in p f)) ys c.list_row.result bars lists)
 
 pub returns-else-bar_all : goal.returns-else-bar_all
