@@ -1,0 +1,5 @@
+pub mod Collected
+pub mod Moving
+pub mod RowLists
+pub mod RowMeaning
+pub mod ThreadWords
