@@ -159,7 +159,8 @@ fn go_near<S: Store>(
     let next = match i.op {
         Op::Point => Some(at.next()),
         Op::New => make_near(image, *i, r, at, &mut memory.outside),
-        _ => call(image, *i, r, at, memory, stack),
+        Op::Call | Op::Callr | Op::Callm => call(image, *i, r, at, memory, stack),
+        _ => None,
     };
     fuel.pass(next)
 }
@@ -182,19 +183,15 @@ fn go_on<S: Store>(
     ensures fitting { (shapes : List Shape) → S.fits memory.old.outside.heap.store shapes → S.fits memory.new.outside.heap.store shapes }
     ensures left { fuel.new.left ≡ fuel.old.left }
 {
-    match i.op {
-        Op::Call | Op::Callr | Op::Callm | Op::Ret | Op::Meth | Op::Subt | Op::New | Op::Point =>
-            match go_near(image, i, r, *at, memory, stack, fuel) {
-                Some(next) => {
-                    *at = next;
-                    None
-                }
-                None => Some(Halt::Other),
-            },
-        _ => match go_plainly(i, r, at, memory) {
-            Step::Went => None,
-            Step::Other => Some(Halt::Other),
-            Step::Trapped(n) => Some(Halt::Trapped(n)),
+    match go_plainly(i, r, at, memory) {
+        Step::Went => None,
+        Step::Trapped(n) => Some(Halt::Trapped(n)),
+        Step::Other => match go_near(image, i, r, *at, memory, stack, fuel) {
+            Some(next) => {
+                *at = next;
+                None
+            }
+            None => Some(Halt::Other),
         },
     }
 }
