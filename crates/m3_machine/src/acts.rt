@@ -1,4 +1,6 @@
+ghost use Rattle.std.specs.Prelude.{◌≡◌, ◌≤◌, OnOk, OnErr};
 ghost use Rattle.m3_isa.specs.Instructions.{IsInstruction};
+ghost use Rattle.m3_ports.specs.Counts.{Rose};
 
 use crate::machine::Machine;
 use crate::progress::Progress;
@@ -90,7 +92,11 @@ impl<'a, S: Store> Machine<'a, S> {
     }
 
     /// Carries out the running thread's instruction, whatever it is but plain.
-    pub(crate) fn act<O: Sink>(&mut self, out: &mut O) -> Result<Progress, SinkFailed> {
+    pub(crate) fn act<O: Sink>(&mut self, out: &mut O) -> Result<Progress, SinkFailed>
+        ensures rises { O.faults out.old ≤ O.faults out.new }
+        ensures kept { OnOk result (O.faults out.new ≡ O.faults out.old) }
+        ensures failed { OnErr result (Rose (O.faults out.old) (O.faults out.new)) }
+    {
         let Some(i) = self.image.fetch(self.pc()) else {
             return Ok(Progress::trap(1));
         };

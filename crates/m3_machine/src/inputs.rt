@@ -1,3 +1,6 @@
+ghost use Rattle.std.specs.Prelude.{◌≡◌, ◌≤◌, OnOk, OnErr};
+ghost use Rattle.m3_ports.specs.Counts.{Rose};
+
 use crate::machine::Machine;
 use crate::progress::Progress;
 use itoa::Buffer;
@@ -11,7 +14,11 @@ impl<'a, S: Store> Machine<'a, S> {
         &mut self,
         i: Instr,
         out: &mut O,
-    ) -> Result<Progress, SinkFailed> {
+    ) -> Result<Progress, SinkFailed>
+        ensures rises { O.faults out.old ≤ O.faults out.new }
+        ensures kept { OnOk result (O.faults out.new ≡ O.faults out.old) }
+        ensures failed { OnErr result (Rose (O.faults out.old) (O.faults out.new)) }
+    {
         let mut buffer = Buffer::new();
         out.put(buffer.format(self.word(i.a).cast_signed()).as_bytes())?;
         Ok(self.go_on())
@@ -22,7 +29,11 @@ impl<'a, S: Store> Machine<'a, S> {
         &mut self,
         i: Instr,
         out: &mut O,
-    ) -> Result<Progress, SinkFailed> {
+    ) -> Result<Progress, SinkFailed>
+        ensures rises { O.faults out.old ≤ O.faults out.new }
+        ensures kept { OnOk result (O.faults out.new ≡ O.faults out.old) }
+        ensures failed { OnErr result (Rose (O.faults out.old) (O.faults out.new)) }
+    {
         out.put(&[(self.word(i.a) % 256) as u8])?;
         Ok(self.go_on())
     }

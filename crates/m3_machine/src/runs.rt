@@ -1,3 +1,6 @@
+ghost use Rattle.std.specs.Prelude.{◌≡◌, ◌≤◌, OnOk, OnErr};
+ghost use Rattle.m3_ports.specs.Counts.{Rose};
+
 use crate::machine::Machine;
 use crate::near::{Place, Stack};
 use crate::plain::Halt;
@@ -100,13 +103,17 @@ impl<'a, S: Store> Machine<'a, S> {
 
     /// Goes on to a point instruction at which the machine has to choose or to act, to the thread's end or to the
     /// run's.
-    fn turn<O: Sink>(&mut self, pace: &mut Pace, out: &mut O) -> Result<Progress, SinkFailed> {
+    fn turn<O: Sink>(&mut self, pace: &mut Pace, out: &mut O) -> Result<Progress, SinkFailed>
+        ensures rises { O.faults out.old ≤ O.faults out.new }
+        ensures kept { OnOk result (O.faults out.new ≡ O.faults out.old) }
+        ensures failed { OnErr result (Rose (O.faults out.old) (O.faults out.new)) }
+    {
         let mut fuel = u128::from(pace.points)
             .wrapping_mul(u128::from(pace.limit))
             .wrapping_add(u128::from(pace.limit));
         let mut progress = self.act(out)?;
         pace.left = pace.left.saturating_sub(1);
-        while fuel > 0 {
+        'acts: while fuel > 0 {
             if progress != Progress::Goes {
                 return Ok(progress);
             }
@@ -129,17 +136,21 @@ impl<'a, S: Store> Machine<'a, S> {
         Ok(Progress::trap(8))
     }
 
-    /// Runs on, with a schedule and so many points at most. SinkFailed comes only where a put failed; an outcome
-    /// says that the sink took all output.
+    /// Runs on, with a schedule and so many points at most. SinkFailed comes only where a put failed, and the sink's
+    /// count of faults rose; an outcome says that the sink took all output.
     pub fn run<O: Sink>(
         &mut self,
         schedule: &[Entry],
         points: u64,
         out: &mut O,
-    ) -> Result<Outcome, SinkFailed> {
+    ) -> Result<Outcome, SinkFailed>
+        ensures rises { O.faults out.old ≤ O.faults out.new }
+        ensures kept { OnOk result (O.faults out.new ≡ O.faults out.old) }
+        ensures failed { OnErr result (Rose (O.faults out.old) (O.faults out.new)) }
+    {
         let mut entries = schedule;
         let mut left = points;
-        while left > 0 {
+        'turns: while left > 0 {
             if let Some(outcome) = self.pass_point(first_entry(entries)) {
                 return Ok(outcome);
             }

@@ -1,4 +1,5 @@
-ghost use Rattle.std.specs.Prelude.{◌≤◌};
+ghost use Rattle.std.specs.Prelude.{◌≡◌, ◌≤◌, OnOk, OnErr};
+ghost use Rattle.m3_ports.specs.Counts.{Rose};
 
 use crate::machine::Machine;
 use crate::progress::Progress;
@@ -176,8 +177,12 @@ impl<'a, S: Store> Machine<'a, S> {
     }
 
     /// Puts the bytes of a text's words.
-    fn put_part<O: Sink>(&self, part: Part, out: &mut O) -> Result<(), SinkFailed> {
-        for k in 0..part.count.div_ceil(8) {
+    fn put_part<O: Sink>(&self, part: Part, out: &mut O) -> Result<(), SinkFailed>
+        ensures rises { O.faults out.old ≤ O.faults out.new }
+        ensures kept { OnOk result (O.faults out.new ≡ O.faults out.old) }
+        ensures failed { OnErr result (Rose (O.faults out.old) (O.faults out.new)) }
+    {
+        'pieces: for k in 0..part.count.div_ceil(8) {
             let word = match self.memory.load(part.text.wrapping_add(2 + k)) {
                 Some(word) => word,
                 None => 0,
@@ -194,7 +199,11 @@ impl<'a, S: Store> Machine<'a, S> {
         &mut self,
         i: Instr,
         out: &mut O,
-    ) -> Result<Progress, SinkFailed> {
+    ) -> Result<Progress, SinkFailed>
+        ensures rises { O.faults out.old ≤ O.faults out.new }
+        ensures kept { OnOk result (O.faults out.new ≡ O.faults out.old) }
+        ensures failed { OnErr result (Rose (O.faults out.old) (O.faults out.new)) }
+    {
         let text = self.word(i.a);
         let Some(count) = self.memory.load(text.wrapping_add(1)) else {
             return Ok(Progress::trap(2));
