@@ -1,7 +1,8 @@
 -- What a machine keeps where its words change.
-use Rattle.std.specs.Prelude.{ℕ, ◌≡◌, ◌+◌, ◌≤◌}
-use Rattle.std.proofs.Common.{ap, arith}
-use Rattle.m3_threads.specs.All.{Everyone}
+use Rattle.std.specs.Prelude.{ℕ, ◌≡◌, ◌+◌, ◌≤◌, Some}
+use Rattle.std.proofs.Common.{ap, ◌∙◌, arith}
+use Rattle.m3_threads.specs.declared.status.Thread.{Thread}
+use Rattle.m3_threads.specs.All.{Everyone, thread_named}
 use Rattle.m3_machine.specs.Kept.{KeepsStacks}
 
 counts : Everyone → ℕ
@@ -18,3 +19,7 @@ same-forks all new k = ap (λ (a : Everyone). a.forks) k.rest
 
 pub same-waits : (all new : Everyone) → KeepsStacks all new → new.waits ≡ all.waits
 same-waits all new k = ap (λ (a : Everyone). a.waits) k.rest
+
+-- a thread is found where the threads stay
+pub still_found : (all new : Everyone) (n : ℕ) (t : Thread) → KeepsStacks all new → thread_named all n ≡ Some t → thread_named new n ≡ Some t
+still_found all new n t k h = ap (λ a. thread_named a n) k.rest ∙ h

@@ -2,3 +2,5 @@ pub mod Placing
 pub mod StackPuts
 pub mod PlainSteps
 pub mod Keeping
+pub mod Acting
+pub mod OnThreadsLemmas

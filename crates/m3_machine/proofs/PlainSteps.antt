@@ -1,7 +1,6 @@
 -- One plain instruction over the machine's memory is one of its states.
 use Rattle.std.specs.Prelude.{ℕ, ◌≡◌, ◌+◌, ◌==◌, Bool, true, false, List, [], ◌∷◌, length, find, Option, None, Some, slice_get}
 use Rattle.std.proofs.Common.{refl, sym, ap, subst, ◌∙◌, arith, cond}
-use Rattle.std.proofs.lemmas.Bool.Decides.{nat_tests}
 use Rattle.m3_base.specs.declared.outcomes.Outcome.TheVariants.{Trap}
 use Rattle.m3_isa.specs.Memory.{Memory}
 use Rattle.m3_isa.specs.Effects.{Effect, Goes as Goes_to, Traps, NotPlain, effect, CarriesOut, KeepsOnTrap}
@@ -28,12 +27,6 @@ with-regs-in : Regs → Option Thread → Option Thread
 with-regs-in regs None = None
 with-regs-in regs (Some t) = Some (regs_set regs t)
 
-some-same : (x t : Thread) → ◌≡◌ {A = Option Thread} (Some x) (Some t) → x ≡ t
-some-same x t e = cc
-
-eqb-same : (m n : ℕ) → (m == n) ≡ true → m ≡ n
-eqb-same m n e = grind (arith, nat_tests)
-
 found-at : (regs : Regs) (n : ℕ) (x t : Thread) (xs : List Thread) (b : Bool) → (x.number == n) ≡ b → (find (is_named n) xs ≡ Some t → find (is_named n) (updated (regs_set regs) n xs) ≡ Some (regs_set regs t)) → cond b (Some x) (find (is_named n) xs) ≡ Some t → find (is_named n) (cond b (regs_set regs x ∷ xs) (x ∷ updated (regs_set regs) n xs)) ≡ Some (regs_set regs t)
 unfolding with-regs-in
 found-at regs n x t xs true e go h = ap (λ b. cond b (Some (regs_set regs x)) (find (is_named n) xs)) e ∙ ap (λ o. with-regs-in regs o) h
@@ -51,26 +44,17 @@ twice : (old new : Regs) (n : ℕ) (ts : List Thread) → updated (regs_set new)
 twice old new n [] = refl
 twice old new n (x ∷ xs) = twice-at old new n x xs (x.number == n) refl (twice old new n xs)
 
-number-at : (n : ℕ) (x t : Thread) (xs : List Thread) (b : Bool) → (x.number == n) ≡ b → (find (is_named n) xs ≡ Some t → t.number ≡ n) → cond b (Some x) (find (is_named n) xs) ≡ Some t → t.number ≡ n
-number-at n x t xs true e go h = ap (λ (y : Thread). y.number) (sym (some-same x t h)) ∙ eqb-same x.number n e
-number-at n x t xs false e go h = go h
-
-number-of : (n : ℕ) (ts : List Thread) (t : Thread) → find (is_named n) ts ≡ Some t → t.number ≡ n
-number-of n [] t h = cc
-number-of n (x ∷ xs) t h = number-at n x t xs (x.number == n) refl (number-of n xs t) h
-
 -- ---- the threads beside other registers
 
 with_regs_in : Everyone → ℕ → Regs → Everyone
 with_regs_in all n regs = record all { threads = updated (regs_set regs) n all.threads }
 
-others-threads : (all new_all : Everyone) (old new : Regs) (n m : ℕ) → m ≡ n → KeepsStacks all new_all → KeepsStacks (record all { threads = updated (regs_set new) m (updated (regs_set old) n all.threads) }) (record new_all { threads = updated (regs_set new) n new_all.threads })
+others-threads : (all new_all : Everyone) (old new : Regs) (n : ℕ) → KeepsStacks all new_all → KeepsStacks (record all { threads = updated (regs_set new) n (updated (regs_set old) n all.threads) }) (record new_all { threads = updated (regs_set new) n new_all.threads })
 unfolding with_regs_in
-others-threads all new_all old new n m e k = record {
+others-threads all new_all old new n k = record {
   same_depths = k.same_depths;
   rest = ap (λ (a : Everyone). with_regs_in a n new) k.rest
-      ∙ ap (λ ts. record all { threads = ts; stacks = new_all.stacks }) (sym (twice old new n all.threads))
-      ∙ ap (λ i. record all { threads = updated (regs_set new) i (updated (regs_set old) n all.threads); stacks = new_all.stacks }) (sym e);
+      ∙ ap (λ ts. record all { threads = ts; stacks = new_all.stacks }) (sym (twice old new n all.threads));
 }
 
 trap-number : (n m : ℕ) → Trapped_at n ≡ Trapped_at m → n ≡ m
@@ -88,21 +72,21 @@ plus-one n k = omega arith
 pub goes-on : (p : Program) (base : State) (t : Thread) (i : Instr) (old new : Regs) (all new_all : Everyone) (g g' c c' : List ℕ) (heap heap' : Heap) (e : Effect)
     → p.constants ≡ c → thread_named all base.running ≡ Some t → KeepsMemory all new_all g g' c c' heap heap'
     → CarriesOut e Went old (held all (outside_of g c heap.cells)) new (held new_all (outside_of g' c' heap'.cells))
-    → Plainly p (regs_set old t) i (seen base old all g heap) e (Goes (seen (executed base) new new_all g' heap'))
+    → Plainly p (regs_set old t) i (executed (seen base old all g heap)) e (Goes (seen (executed base) new new_all g' heap'))
 goes-on p base t i old new all new_all g g' c c' heap heap' (Goes_to regs memory) at-c found k done =
     let n = base.running in
     let u = seen base old all g heap in
     let v = seen (executed base) new new_all g' heap' in
-    let becomes : Becomes p (with_regs (executed u) t.number new) memory v = record {
+    let becomes : Becomes p (with_regs (executed u) new) memory v = record {
       others = record {
-        all = others-threads all new_all old new n t.number (number-of n all.threads t found) k.stacks;
+        all = others-threads all new_all old new n k.stacks;
         globals = k.outside.count;
         heap = k.outside.rest;
         rest = refl;
       };
       words = λ at. ap (λ cs. held new_all (outside_of g' cs heap'.cells) at) (at-c ∙ sym k.outside.same_constants) ∙ done.2 at;
     } in
-    goes regs memory v (subst (λ r. Becomes p (with_regs (executed u) t.number r) memory v) done.1 becomes)
+    goes regs memory v (subst (λ r. Becomes p (with_regs (executed u) r) memory v) done.1 becomes)
 goes-on p base t i old new all new_all g g' c c' heap heap' (Traps n) at-c found k done = cc
 goes-on p base t i old new all new_all g g' c c' heap heap' NotPlain at-c found k done = cc
 
@@ -111,14 +95,14 @@ traps-at : (p : Program) (base : State) (t : Thread) (i : Instr) (old new : Regs
     → p.constants ≡ c → KeepsMemory all new_all g g' c c' heap heap'
     → CarriesOut e (Trapped_at n) old (held all (outside_of g c heap.cells)) new (held new_all (outside_of g' c' heap'.cells))
     → KeepsOnTrap i (Trapped_at n) old (held all (outside_of g c heap.cells)) (held new_all (outside_of g' c' heap'.cells))
-    → Plainly p (regs_set old t) i (seen base old all g heap) e (Ends (seen (executed base) new new_all g' heap') (Trap n))
+    → Plainly p (regs_set old t) i (executed (seen base old all g heap)) e (Ends (seen (executed base) new new_all g' heap') (Trap n))
 unfolding with_regs_in
 traps-at p base t i old new all new_all g g' c c' heap heap' (Goes_to regs memory) n at-c k done kept = cc
 traps-at p base t i old new all new_all g g' c c' heap heap' (Traps m) n at-c k done kept =
     let u = seen base old all g heap in
     let v = seen (executed base) new new_all g' heap' in
     let same-number : n ≡ m = trap-number n m done.0 in
-    let off : Breaks_off p (regs_set old t) i u v = record {
+    let off : Breaks_off p (regs_set old t) i (executed u) v = record {
       others = record {
         all = record {
           same_depths = k.stacks.same_depths;
@@ -132,7 +116,7 @@ traps-at p base t i old new all new_all g g' c c' heap heap' (Traps m) n at-c k 
       words = λ at free. ap (λ cs. held new_all (outside_of g' cs heap'.cells) at) (at-c ∙ sym k.outside.same_constants) ∙ kept at free
           ∙ ap (λ cs. held all (outside_of g cs heap.cells) at) (sym at-c);
     } in
-    subst (λ j. Plainly p (regs_set old t) i u (Traps j) (Ends v (Trap n))) same-number (trap n v off)
+    subst (λ j. Plainly p (regs_set old t) i (executed u) (Traps j) (Ends v (Trap n))) same-number (trap n v off)
 traps-at p base t i old new all new_all g g' c c' heap heap' NotPlain n at-c k done kept = cc
 
 -- it isn't plain
@@ -144,12 +128,10 @@ not-plain NotPlain old new m m' done = (refl, done.1, done.2)
 -- ---- after so many
 
 pub counted-none : (base : State) → counted base 0 ≡ base
-counted-none base =
-    ap (λ k. record base { instructions = k; turn = base.turn + 0 }) (plus-none base.instructions) ∙ ap (λ k. record base { turn = k }) (plus-none base.turn)
+counted-none base = ap (λ k. record base { instructions = k }) (plus-none base.instructions)
 
 counted-more : (base : State) (k : ℕ) → executed (counted base k) ≡ counted base (k + 1)
-counted-more base k =
-    ap (λ j. record base { instructions = j; turn = base.turn + k + 1 }) (plus-one base.instructions k) ∙ ap (λ j. record base { instructions = base.instructions + (k + 1); turn = j }) (plus-one base.turn k)
+counted-more base k = ap (λ j. record base { instructions = j }) (plus-one base.instructions k)
 
 stands-at : (q : Program) (code : List Instr) (c : List ℕ) (base : State) (t : Thread) (i : Instr) (old : Regs) (all : Everyone) (g : List ℕ) (heap : Heap) → thread_named all base.running ≡ Some t → slice_get code old.pc ≡ Some i → Stands_at (with_code q code c) (seen base old all g heap) (regs_set old t) i
 stands-at q code c base t i old all g heap found next = record { found = found-again old base.running all.threads t found; next = next }

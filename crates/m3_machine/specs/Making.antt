@@ -1,49 +1,61 @@
 -- New cells. A cell that doesn't fit has one collection first.
-use Rattle.std.specs.Prelude.{ℕ, ◌≡◌, ◌<◌, ◌≤◌, ◌+◌, ◌-◌, ◌^◌, min, Option, None, Some}
+use Rattle.std.specs.Prelude.{ℕ, ◌≡◌, ◌<◌, ◌≤◌, ◌==◌, if◌then◌else◌, List, length, max, Option, None, Some, Result, Ok, Err}
+use Rattle.std.specs.Int.{cast_unsigned, w32}
+use Rattle.m3_base.specs.declared.outcomes.Outcome.{Outcome}
 use Rattle.m3_base.specs.declared.outcomes.Outcome.TheVariants.{HeapFull, Trap}
-use Rattle.m3_heap.specs.Cells.{Cell, AddsCell}
+use Rattle.m3_isa.specs.Effects.{answered}
+use Rattle.m3_isa.specs.declared.instructions.Instr.{Instr}
+use Rattle.m3_heap.specs.Cells.{Cell, AddsCell, new_cell}
 use Rattle.m3_heap.specs.Heap.{KeepsCounts}
-use Rattle.m3_machine.specs.State.{State, executed}
-use Rattle.m3_machine.specs.Progress.{Progress, Ends}
+use Rattle.m3_threads.specs.declared.status.Thread.{Thread}
+use Rattle.m3_sections.specs.Parts.{Program, CellType}
+use Rattle.m3_machine.specs.State.{State, running_thread, with_regs}
+use Rattle.m3_machine.specs.Progress.{Progress, Goes, Ends}
+use Rattle.m3_machine.specs.Collecting.{Collects, Spoils}
 
--- what a collection makes of a state: another state, or trap 9
-abbrev pub Collects : Type 1
-Collects = State → Option State → Type 0
-
--- a cell with these words came to the heap
+-- a cell with these words came to the heap, and nothing else is changed
 pub record Adds (cell : Cell) (old new : State) : Type 0 where
   pub cells : AddsCell old.heap.cells cell new.heap.cells
   pub counts : KeepsCounts old.heap new.heap
   pub asked : new.heap.asked ≡ old.heap.asked
   pub rest : new ≡ record old { heap = new.heap }
 
--- a request that was refused is remembered
-abbrev pub refused : ℕ → State → State
-refused words s = record s { heap = record s.heap { asked = words } }
+-- a request of so many words was refused since they exceed the free ones, and it is remembered
+pub record Refuses (words : ℕ) (old new : State) : Type 0 where
+  pub full : old.heap.free < words
+  pub cells : new.heap.cells ≡ old.heap.cells
+  pub counts : KeepsCounts old.heap new.heap
+  pub asked : new.heap.asked ≡ words
+  pub rest : new ≡ record old { heap = new.heap }
 
--- a collection was made
-abbrev pub counted_collection : State → State
-counted_collection s = record s { collections = s.collections + 1 }
+-- a request is met exactly where the words are free
+abbrev pub Allocates : ℕ → ℕ → State → Option ℕ → State → Type 0
+Allocates kind words s None u = Refuses words s u
+Allocates kind words s (Some start) u = (words ≤ s.heap.free) × Adds (new_cell start kind words) s u
 
--- whether there was room at once, after a collection, or not even then; or the collection met trap 9
-pub data Found : Type 0 where
-  Room : State → Found
-  Full : State → Found
-  Stuck : State → Found
+-- after one collection a cell was made; or there was no room even then; or the collection met trap 9
+pub data Makes_late (p : Program) (kind words : ℕ) (s : State) : Result ℕ Outcome → State → Type 0 where
+  made : (t u : State) (start : ℕ) → Collects p s t → Allocates kind words t (Some start) u → Makes_late p kind words s (Ok start) u
+  full : (t u : State) → Collects p s t → Refuses words t u → Makes_late p kind words s (Err HeapFull) u
+  stuck : (u : State) → Spoils s u → Makes_late p kind words s (Err (Trap 9)) u
 
-pub data Finds (collects : State → Option State → Type 0) (words : ℕ) (s : State) : Found → Type 0 where
-  at_once : words ≤ s.heap.free → Finds collects words s (Room s)
-  after_one : (t : State) → s.heap.free < words → collects (refused words s) (Some t) → words ≤ t.heap.free → Finds collects words s (Room (counted_collection t))
-  never : (t : State) → s.heap.free < words → collects (refused words s) (Some t) → t.heap.free < words → Finds collects words s (Full (refused words (counted_collection t)))
-  trapped : s.heap.free < words → collects (refused words s) None → Finds collects words s (Stuck (refused words s))
+-- a cell was made at once; or its request was refused, and what follows is after one collection
+pub data Makes (p : Program) (kind words : ℕ) (s : State) : Result ℕ Outcome → State → Type 0 where
+  at_once : (start : ℕ) (u : State) → Allocates kind words s (Some start) u → Makes p kind words s (Ok start) u
+  late : (r u : State) (answer : Result ℕ Outcome) → Refuses words s r → Makes_late p kind words r answer u → Makes p kind words s answer u
 
--- the words that are asked for: no more than a word can say
-abbrev pub asked_for : ℕ → ℕ
-asked_for words = min words (2 ^ 64 - 1)
+-- ---- NEW
 
--- a cell of a kind with these words behind its header, whose bytes and registers are read where there is
--- room, is made and the instruction goes on; or the run ends
-pub data Makes (collects : State → Option State → Type 0) (words : ℕ) (s : State) (makes : State → State → ℕ → Progress → Type 0) : Progress → Type 0 where
-  made : (t u : State) (start : ℕ) (progress : Progress) → Finds collects (asked_for words) s (Room t) → makes t u start progress → Makes collects words s makes progress
-  full : (t : State) → Finds collects (asked_for words) s (Full t) → Makes collects words s makes (Ends (executed t) HeapFull)
-  stuck : (t : State) → Finds collects (asked_for words) s (Stuck t) → Makes collects words s makes (Ends (executed t) (Trap 9))
+-- the words of a cell of a fixed type, its header among them
+abbrev pub fixed_words : Option CellType → Result ℕ Outcome
+fixed_words None = Err (Trap 4)
+fixed_words (Some t) = if t.kind == 0 then Ok (max t.words 1) else Err (Trap 4)
+
+-- the thread goes on with a new cell in register a, as it stands once the cell is made; or the run ends
+abbrev pub GivesCell : Instr → Result ℕ Outcome → State → Progress → Type 0
+GivesCell i (Ok start) u progress = (t : Thread) → running_thread u ≡ Some t → progress ≡ Goes (with_regs u (answered t.regs i.a start))
+GivesCell i (Err outcome) u progress = progress ≡ Ends u outcome
+
+pub data Makes_fixed (p : Program) (i : Instr) (kind : ℕ) (s : State) (words : Result ℕ Outcome) : Progress → Type 0 where
+  not_fixed : (outcome : Outcome) → words ≡ Err outcome → Makes_fixed p i kind s words (Ends s outcome)
+  makes : (n : ℕ) (made : Result ℕ Outcome) (u : State) (progress : Progress) → words ≡ Ok n → Makes p kind n s made u → GivesCell i made u progress → Makes_fixed p i kind s words progress

@@ -8,7 +8,7 @@ use Rattle.m3_heap.specs.Heap.{Heap}
 use Rattle.m3_threads.specs.declared.status.Thread.{Thread}
 use Rattle.m3_threads.specs.All.{Everyone, updated, thread_named}
 use Rattle.m3_sections.specs.Parts.{Program}
-use Rattle.m3_machine.specs.State.{State, memory_of, can_set, regs_set, Becomes}
+use Rattle.m3_machine.specs.State.{State, memory_of, can_set, regs_set, executed, Becomes}
 use Rattle.m3_machine.specs.Progress.{Goes, Ends}
 use Rattle.m3_machine.specs.Steps.{Plainly}
 use Rattle.m3_machine.specs.declared.plain.Halt.{Halt}
@@ -20,7 +20,7 @@ seen base regs all globals heap = record base { all = record all { threads = upd
 
 -- so many instructions more were executed
 abbrev pub counted : State → ℕ → State
-counted base k = record base { instructions = base.instructions + k; turn = base.turn + k }
+counted base k = record base { instructions = base.instructions + k }
 
 -- a program of this code and these constants
 abbrev pub with_code : Program → List Instr → List ℕ → Program
@@ -38,7 +38,7 @@ pub record Stands_at (p : Program) (s : State) (t : Thread) (i : Instr) : Type 0
 -- so many plain instructions lead from a state to another
 pub data Plain_run (p : Program) : ℕ → State → State → Type 0 where
   none : (s : State) → Plain_run p 0 s s
-  more : (k : ℕ) (s u v : State) (t : Thread) (i : Instr) → Plain_run p k s u → Stands_at p u t i → Plainly p t i u (does p u t i) (Goes v) → Plain_run p (k + 1) s v
+  more : (k : ℕ) (s u v : State) (t : Thread) (i : Instr) → Plain_run p k s u → Stands_at p u t i → Plainly p t i (executed u) (does p u t i) (Goes v) → Plain_run p (k + 1) s v
 
 -- they ended since as many were executed as may be, since no instruction stands there, since the next
 -- isn't plain, which leaves each address what it held, or since one trapped
@@ -46,4 +46,4 @@ pub data Ran (p : Program) (most : ℕ) : Halt → ℕ → State → State → T
   used : (s u : State) → Plain_run p most s u → Ran p most Used most s u
   left : (k : ℕ) (s u : State) (t : Thread) → Plain_run p k s u → thread_named u.all u.running ≡ Some t → slice_get p.code t.regs.pc ≡ None → Ran p most Left k s u
   other : (k : ℕ) (s m u : State) (t : Thread) (i : Instr) → Plain_run p k s m → Stands_at p m t i → does p m t i ≡ NotPlain → Becomes p m (memory_of p m) u → Ran p most Other k s u
-  trapped : (k n : ℕ) (s m u : State) (t : Thread) (i : Instr) → Plain_run p k s m → Stands_at p m t i → Plainly p t i m (does p m t i) (Ends u (Trap n)) → Ran p most (Trapped n) (k + 1) s u
+  trapped : (k n : ℕ) (s m u : State) (t : Thread) (i : Instr) → Plain_run p k s m → Stands_at p m t i → Plainly p t i (executed m) (does p m t i) (Ends u (Trap n)) → Ran p most (Trapped n) (k + 1) s u

@@ -1,37 +1,40 @@
--- What becomes of one instruction.
-use Rattle.std.specs.Prelude.{ℕ, Option, None, Some}
+-- What becomes of a state by one instruction.
+use Rattle.std.specs.Prelude.{ℕ, ◌≡◌, ◌+◌}
 use Rattle.m3_base.specs.declared.outcomes.Outcome.{Outcome}
 use Rattle.m3_base.specs.declared.outcomes.Outcome.TheVariants.{Trap}
+use Rattle.m3_isa.specs.Memory.{Memory}
 use Rattle.m3_isa.specs.declared.registers.Regs.{Regs}
-use Rattle.m3_isa.specs.Effects.{next, answered}
-use Rattle.m3_threads.specs.declared.status.Thread.{Thread}
-use Rattle.m3_machine.specs.State.{State, with_regs, executed}
+use Rattle.m3_sections.specs.Parts.{Program}
+use Rattle.m3_machine.specs.declared.progress.Progress.{Progress as Answer}
+use Rattle.m3_machine.specs.declared.progress.Progress.TheVariants as answer
+use Rattle.m3_machine.specs.Act as act
+use Rattle.m3_machine.specs.Act.{Act}
+use Rattle.m3_machine.specs.State.{State, Becomes, with_regs}
 
--- the thread goes on in its turn, or it rests since it fell asleep or ended, or the run ends
+-- the thread goes on in its turn; or it rests since it fell asleep or ended; or the run ends
 pub data Progress : Type 0 where
   Goes : State → Progress
   Rests : State → Progress
   Ends : State → Outcome → Progress
 
--- the instruction was executed, and it trapped
 abbrev pub traps : ℕ → State → Progress
-traps n s = Ends (executed s) (Trap n)
+traps n s = Ends s (Trap n)
 
-abbrev pub ends : Outcome → State → Progress
-ends outcome s = Ends (executed s) outcome
+-- an answer with the state that was left
+abbrev pub became : Answer → State → Progress
+became answer.Goes s = Goes s
+became answer.Rests s = Rests s
+became (answer.Ends outcome) s = Ends s outcome
 
--- the thread goes on with other registers
-abbrev pub goes_with : Regs → Thread → State → Progress
-goes_with regs t s = Goes (with_regs (executed s) t.number regs)
+-- it goes on over another memory
+abbrev pub GoesOver : Program → State → Memory → Progress → Type 0
+GoesOver p s memory (Goes u) = Becomes p s memory u
+GoesOver p s memory _ = ⊥
 
--- it goes on to the next instruction, with a word in a register
-abbrev pub gives : ℕ → ℕ → Thread → State → Progress
-gives a word t s = goes_with (answered t.regs a word) t s
-
-abbrev pub goes_on : Thread → State → Progress
-goes_on t s = goes_with (next t.regs) t s
-
--- a word is loaded, or the instruction traps
-abbrev pub loading : State → Option ℕ → (ℕ → Progress) → Progress
-loading s None go = traps 2 s
-loading s (Some word) go = go word
+-- what an act of the running thread makes of a state
+abbrev pub Follows : Program → Act → State → Progress → Type 0
+Follows p (act.Goes regs) s progress = progress ≡ Goes (with_regs s regs)
+Follows p (act.Writes regs memory) s progress = GoesOver p (with_regs s regs) memory progress
+Follows p (act.Puts bytes regs) s progress = progress ≡ Goes (with_regs s regs)
+Follows p (act.Takes regs) s progress = progress ≡ Goes (with_regs (record s { taken = s.taken + 1 }) regs)
+Follows p (act.Stops outcome) s progress = progress ≡ Ends s outcome

@@ -1,10 +1,10 @@
 -- The state of a machine between two instructions, and what each address holds in it.
-use Rattle.std.specs.Prelude.{ℕ, ◌≡◌, ◌+◌, ◌*◌, ◌^◌, Bool, List, [], length, replicate, slice_set}
+use Rattle.std.specs.Prelude.{ℕ, ◌≡◌, ◌+◌, ◌-◌, ◌*◌, ◌^◌, min, Bool, List, [], length, replicate, slice_set, Option}
 use Rattle.m3_isa.specs.Memory.{Memory}
 use Rattle.m3_isa.specs.declared.registers.Regs.{Regs}
 use Rattle.m3_heap.specs.Heap.{Heap, HasOtherWords as KeepsHeap}
 use Rattle.m3_threads.specs.declared.status.Thread.{Thread}
-use Rattle.m3_threads.specs.All.{Everyone, updated}
+use Rattle.m3_threads.specs.All.{Everyone, updated, thread_named}
 use Rattle.m3_threads.specs.Actions.{at_start}
 use Rattle.m3_threads.specs.Spaces.{held, replaceable}
 use Rattle.m3_sections.specs.Parts.{Program}
@@ -12,19 +12,17 @@ use Rattle.m3_machine.specs.Addresses.{outside_of, settable_of}
 use Rattle.m3_machine.specs.Kept.{KeepsStacks}
 
 -- the threads with their stacks and the counts of forks and waits; the words of the globals; the heap; the
--- thread that went last; how many bytes of the input were taken, and which bytes were put; how many points
--- were passed, instructions executed and collections made; and how many instructions the turn has executed
+-- thread that went last; how many bytes of the input were taken; and how many points were passed, instructions
+-- executed and collections made
 pub record State : Type 0 where
   pub all : Everyone
   pub globals : List ℕ
   pub heap : Heap
   pub running : ℕ
   pub taken : ℕ
-  pub output : List ℕ
   pub points : ℕ
   pub instructions : ℕ
   pub collections : ℕ
-  pub turn : ℕ
 
 -- ---- addresses
 
@@ -58,19 +56,28 @@ pub record Becomes (p : Program) (old : State) (memory : Memory) (new : State) :
 
 -- ---- the thread that runs
 
+abbrev pub running_thread : State → Option Thread
+running_thread s = thread_named s.all s.running
+
 abbrev pub with_all : State → Everyone → State
 with_all s all = record s { all = all }
 
 abbrev pub regs_set : Regs → Thread → Thread
 regs_set regs t = record t { regs = regs }
 
--- the thread of a number has these registers
-abbrev pub with_regs : State → ℕ → Regs → State
-with_regs s n regs = with_all s (record s.all { threads = updated (regs_set regs) n s.all.threads })
+-- the running thread has these registers
+abbrev pub with_regs : State → Regs → State
+with_regs s regs = with_all s (record s.all { threads = updated (regs_set regs) s.running s.all.threads })
+
+-- ---- counts
+
+-- a count of so many bits that was raised once: it stands still at its type's end
+abbrev pub raised : ℕ → ℕ → ℕ
+raised bits n = min (n + 1) (2 ^ bits - 1)
 
 -- one instruction was executed
 abbrev pub executed : State → State
-executed s = record s { instructions = s.instructions + 1; turn = s.turn + 1 }
+executed s = record s { instructions = s.instructions + 1 }
 
 -- ---- the start
 
@@ -86,9 +93,7 @@ start p heap threads stack = record {
   heap = heap;
   running = 0;
   taken = 0;
-  output = [];
   points = 0;
   instructions = 0;
   collections = 0;
-  turn = 0;
 }

@@ -1,104 +1,84 @@
 -- One instruction of the thread that runs, whatever it is.
-use Rattle.std.specs.Prelude.{ℕ, ◌≡◌, ◌%◌, false, List, [], ◌∷◌, Option}
+use Rattle.std.specs.Prelude.{ℕ, ◌≡◌, false, List, [], length, Ok, slice_get}
 use Rattle.std.specs.Int.{cast_unsigned, w32}
-use Rattle.std.specs.Fmt.{signed_decimal}
 use Rattle.m3_base.specs.declared.outcomes.Outcome.TheVariants.{Done, Trap}
+use Rattle.m3_base.specs.Words.{add_words}
 use Rattle.m3_isa.specs.Memory.{Memory}
 use Rattle.m3_isa.specs.Effects as isa
-use Rattle.m3_isa.specs.Effects.{Effect, reg, signed, effect, may_write}
+use Rattle.m3_isa.specs.Effects.{Effect, reg, effect, may_write, next}
 use Rattle.m3_isa.specs.declared.instructions.Op.{Op}
 use Rattle.m3_isa.specs.declared.instructions.Op.TheVariants as op
 use Rattle.m3_isa.specs.declared.instructions.Instr.{Instr}
-use Rattle.m3_threads.specs.declared.answers.Done.{Done as Answer}
-use Rattle.m3_threads.specs.declared.answers.Done.TheVariants as answer
 use Rattle.m3_threads.specs.declared.status.Thread.{Thread}
-use Rattle.m3_threads.specs.Actions.{After, acquires, releases, waits, wakes, SleepsLongest, broadcasts, joins, ends as ends_thread, alerts, tests_alert, alert_waits, alert_joins}
 use Rattle.m3_sections.specs.Parts.{Program}
-use Rattle.m3_sections.specs.Ranges.{containing}
-use Rattle.m3_machine.specs.State.{State, outside, settable, memory_of, can_set, Becomes, HasOtherWords, with_regs, with_all, executed}
-use Rattle.m3_machine.specs.Progress.{Progress, Goes, Rests, Ends, ends, goes_on}
-use Rattle.m3_machine.specs.Calls.{calls, calls_behind, calls_method, returns}
-use Rattle.m3_machine.specs.Acts.{Tests_type, tells_method, faults_at, is_uncaught, puts, puts_text, gets, tells_end, tells_self, Makes_fixed, Makes_open, Cats, Makes_char, Subs, Forks_thread}
+use Rattle.m3_machine.specs.State.{State, memory_of, can_set, Becomes, HasOtherWords, with_regs}
+use Rattle.m3_machine.specs.Act as act
+use Rattle.m3_machine.specs.Act.{Act, bytes_of, or_trap}
+use Rattle.m3_machine.specs.Progress.{Progress, Goes, Ends, Follows}
+use Rattle.m3_machine.specs.Calls.{stack_of, place_of, calls, number_before, method_called, returns, tells_method, Tests_type}
+use Rattle.m3_machine.specs.Acts.{faults_at, is_uncaught, puts_number, puts_byte, puts_text, gets, tells_end, tells_self}
+use Rattle.m3_machine.specs.OnThreads.{On_threads}
+use Rattle.m3_machine.specs.Making.{Makes_fixed, fixed_words}
+use Rattle.m3_machine.specs.NewTexts.{Makes_open, open_type, Cats, lengths_at, Makes_char, Subs, Forks_thread}
 
 -- ---- plain instructions, by the instruction table
 
 -- an instruction that traps may have put words at addresses that it may write
 pub record Breaks_off (p : Program) (t : Thread) (i : Instr) (s u : State) : Type 0 where
-  pub others : HasOtherWords (executed s) u
+  pub others : HasOtherWords s u
   pub words : (at : ℕ) → may_write i t.regs at ≡ false → memory_of p u at ≡ memory_of p s at
 
 pub data Plainly (p : Program) (t : Thread) (i : Instr) (s : State) : Effect → Progress → Type 0 where
-  goes : (regs : _) (memory : Memory) (u : State) → Becomes p (with_regs (executed s) t.number regs) memory u → Plainly p t i s (isa.Goes regs memory) (Goes u)
+  goes : (regs : _) (memory : Memory) (u : State) → Becomes p (with_regs s regs) memory u → Plainly p t i s (isa.Goes regs memory) (Goes u)
   trap : (n : ℕ) (u : State) → Breaks_off p t i s u → Plainly p t i s (isa.Traps n) (Ends u (Trap n))
 
--- ---- threads, mutexes, conditions and alerts: what m3_threads says, over the memory outside the stacks
+-- ---- THE TABLE, one line for each operation that isn't plain
 
--- the machine after an instruction left these threads and this memory outside the stacks
-pub record Leaves (p : Program) (s : State) (after : After) (u : State) : Type 0 where
-  pub others : HasOtherWords (with_all (executed s) after.all) u
-  pub threads : u.all ≡ after.all
-  pub words : (at : ℕ) → outside p u at ≡ after.memory at
+-- an act of the running thread, and the bytes that it puts
+abbrev pub Acted : Program → State → Act → List ℕ → Progress → Type 0
+Acted p s deed bytes progress = (bytes ≡ bytes_of deed) × Follows p deed s progress
 
--- the thread goes on, or it rests since it sleeps; an instruction that trapped may have put words before
-abbrev pub told : Answer → State → Progress
-told answer.Went u = Goes u
-told answer.Jumped u = Goes u
-told answer.Slept u = Rests u
-told (answer.Trapped n) u = Ends u (Trap n)
+-- something that puts nothing
+abbrev pub Silently : List ℕ → Type 0 → Type 0
+Silently bytes fact = (bytes ≡ []) × fact
 
-pub data By_threads (p : Program) (s : State) (after : After) : Progress → Type 0 where
-  leaves : (u : State) → Leaves p s after u → By_threads p s after (told after.answer u)
+abbrev pub Acts : Program → List ℕ → Thread → Instr → State → List ℕ → Progress → Op → Type 0
+Acts p input t i s bytes progress op.Call = Acted p s (calls p (Ok (cast_unsigned w32 i.imm)) (stack_of s.all t) t.regs (memory_of p s) (can_set s)) bytes progress
+Acts p input t i s bytes progress op.Callr = Acted p s (calls p (number_before 3 (reg t.regs i.a)) (stack_of s.all t) t.regs (memory_of p s) (can_set s)) bytes progress
+Acts p input t i s bytes progress op.Callm =
+    Acted p s (calls p (method_called p (cast_unsigned w32 i.imm) (place_of t.regs) (memory_of p s)) (stack_of s.all t) t.regs (memory_of p s) (can_set s)) bytes progress
+Acts p input t i s bytes progress op.Ret = Acted p s (returns (length p.code) t.regs (memory_of p s)) bytes progress
+Acts p input t i s bytes progress op.Meth = Acted p s (tells_method p.types i t.regs (memory_of p s)) bytes progress
+Acts p input t i s bytes progress op.Subt = (deed : Act) × Tests_type p.types i t.regs (memory_of p s) deed × Acted p s deed bytes progress
+Acts p input t i s bytes progress op.New = Silently bytes (Makes_fixed p i (cast_unsigned w32 i.imm) s (fixed_words (slice_get p.types (cast_unsigned w32 i.imm))) progress)
+Acts p input t i s bytes progress op.Newo = Silently bytes (Makes_open p t i s (open_type (slice_get p.types (cast_unsigned w32 i.imm))) progress)
+Acts p input t i s bytes progress op.Point = Acted p s (act.Goes (next t.regs)) bytes progress
+Acts p input t i s bytes progress op.Fault = Acted p s (faults_at p i) bytes progress
+Acts p input t i s bytes progress op.Unc = Acted p s (is_uncaught p i t.regs) bytes progress
+Acts p input t i s bytes progress op.Endp = Acted p s (act.Stops Done) bytes progress
+Acts p input t i s bytes progress op.Endt = Silently bytes (On_threads p t i s progress)
+Acts p input t i s bytes progress op.Cat = Silently bytes (Cats p t i s (lengths_at (memory_of p s) (reg t.regs i.b) (reg t.regs i.c)) progress)
+Acts p input t i s bytes progress op.Tchr = Silently bytes (Makes_char p t i s progress)
+Acts p input t i s bytes progress op.Tsub = Silently bytes (Subs p t i s (or_trap 2 (memory_of p s (add_words (reg t.regs i.b) 1))) progress)
+Acts p input t i s bytes progress op.Fork = Silently bytes (Forks_thread p i s progress)
+Acts p input t i s bytes progress op.Join = Silently bytes (On_threads p t i s progress)
+Acts p input t i s bytes progress op.Acq = Silently bytes (On_threads p t i s progress)
+Acts p input t i s bytes progress op.Rel = Silently bytes (On_threads p t i s progress)
+Acts p input t i s bytes progress op.Wait = Silently bytes (On_threads p t i s progress)
+Acts p input t i s bytes progress op.Sig = Silently bytes (On_threads p t i s progress)
+Acts p input t i s bytes progress op.Bca = Silently bytes (On_threads p t i s progress)
+Acts p input t i s bytes progress op.Self_ = Acted p s (tells_self (stack_of s.all t) i t.regs (memory_of p s)) bytes progress
+Acts p input t i s bytes progress op.Put = Acted p s (puts_text i t.regs (memory_of p s)) bytes progress
+Acts p input t i s bytes progress op.Putn = Acted p s (puts_number i t.regs) bytes progress
+Acts p input t i s bytes progress op.Putc = Acted p s (puts_byte i t.regs) bytes progress
+Acts p input t i s bytes progress op.Alert = Silently bytes (On_threads p t i s progress)
+Acts p input t i s bytes progress op.Talert = Silently bytes (On_threads p t i s progress)
+Acts p input t i s bytes progress op.Await = Silently bytes (On_threads p t i s progress)
+Acts p input t i s bytes progress op.Ajoin = Silently bytes (On_threads p t i s progress)
+Acts p input t i s bytes progress op.Getc = Acted p s (gets input s.taken i t.regs) bytes progress
+Acts p input t i s bytes progress op.Eof = Acted p s (tells_end input s.taken i t.regs) bytes progress
+Acts p input t i s bytes progress _ = Silently bytes (Plainly p t i s (effect i t.regs (memory_of p s) (can_set s)) progress)
 
--- SIG wakes the thread that sleeps longest on the condition
-pub data Signals_one (p : Program) (t : Thread) (i : Instr) (s : State) : Progress → Type 0 where
-  signals : (sleeper : Option Thread) (progress : Progress) → SleepsLongest (reg t.regs i.a) s.all.threads sleeper
-      → By_threads p s (wakes t sleeper s.all (outside p s)) progress → Signals_one p t i s progress
-
--- ENDT: the thread is no more, so its turn is over
-pub data Ends_own (p : Program) (t : Thread) (i : Instr) (s : State) : Progress → Type 0 where
-  ended : (u : State) → (ends_thread t i s.all (outside p s) (settable s)).answer ≡ answer.Went
-      → Leaves p s (ends_thread t i s.all (outside p s) (settable s)) u → Ends_own p t i s (Rests u)
-  trapped : (n : ℕ) (u : State) → (ends_thread t i s.all (outside p s) (settable s)).answer ≡ answer.Trapped n
-      → Leaves p s (ends_thread t i s.all (outside p s) (settable s)) u → Ends_own p t i s (Ends u (Trap n))
-
--- ---- THE TABLE of what isn't plain, one line for each operation; every other is plain
-
-abbrev pub Acts : (State → Option State → Type 0) → Program → List ℕ → Thread → Instr → State → Progress → Op → Type 0
-Acts collects p input t i s progress op.Call = progress ≡ calls p t (cast_unsigned w32 i.imm) s
-Acts collects p input t i s progress op.Callr = progress ≡ calls_behind 3 p t (reg t.regs i.a) s
-Acts collects p input t i s progress op.Callm = progress ≡ calls_method (containing p.procs t.regs.pc) p t (cast_unsigned w32 i.imm) s
-Acts collects p input t i s progress op.Ret = progress ≡ returns p t s
-Acts collects p input t i s progress op.Meth = progress ≡ tells_method p t i s
-Acts collects p input t i s progress op.Subt = Tests_type p t i s progress
-Acts collects p input t i s progress op.New = Makes_fixed collects p t i s progress
-Acts collects p input t i s progress op.Newo = Makes_open collects p t i s progress
-Acts collects p input t i s progress op.Point = progress ≡ goes_on t s
-Acts collects p input t i s progress op.Fault = progress ≡ faults_at p i s
-Acts collects p input t i s progress op.Unc = progress ≡ is_uncaught p t i s
-Acts collects p input t i s progress op.Endp = progress ≡ ends Done s
-Acts collects p input t i s progress op.Endt = Ends_own p t i s progress
-Acts collects p input t i s progress op.Cat = Cats collects p t i s progress
-Acts collects p input t i s progress op.Tchr = Makes_char collects t i s progress
-Acts collects p input t i s progress op.Tsub = Subs collects p t i s progress
-Acts collects p input t i s progress op.Fork = Forks_thread collects p t i s progress
-Acts collects p input t i s progress op.Join = By_threads p s (joins t i s.all (outside p s) (settable s)) progress
-Acts collects p input t i s progress op.Acq = By_threads p s (acquires t i s.all (outside p s) (settable s)) progress
-Acts collects p input t i s progress op.Rel = By_threads p s (releases t i s.all (outside p s) (settable s)) progress
-Acts collects p input t i s progress op.Wait = By_threads p s (waits t i s.all (outside p s) (settable s)) progress
-Acts collects p input t i s progress op.Sig = Signals_one p t i s progress
-Acts collects p input t i s progress op.Bca = By_threads p s (broadcasts t i s.all (outside p s)) progress
-Acts collects p input t i s progress op.Self_ = progress ≡ tells_self p t i s
-Acts collects p input t i s progress op.Put = progress ≡ puts_text p t i s
-Acts collects p input t i s progress op.Putn = progress ≡ puts (signed_decimal (signed t.regs i.a)) t s
-Acts collects p input t i s progress op.Putc = progress ≡ puts (reg t.regs i.a % 256 ∷ []) t s
-Acts collects p input t i s progress op.Alert = By_threads p s (alerts t i s.all (outside p s)) progress
-Acts collects p input t i s progress op.Talert = By_threads p s (tests_alert t i s.all (outside p s)) progress
-Acts collects p input t i s progress op.Await = By_threads p s (alert_waits t i s.all (outside p s) (settable s)) progress
-Acts collects p input t i s progress op.Ajoin = By_threads p s (alert_joins t i s.all (outside p s) (settable s)) progress
-Acts collects p input t i s progress op.Getc = progress ≡ gets input t i s
-Acts collects p input t i s progress op.Eof = progress ≡ tells_end input t i s
-Acts collects p input t i s progress _ = Plainly p t i s (effect i t.regs (memory_of p s) (can_set s)) progress
-
--- one instruction of a thread that stands at it
-abbrev pub Does : (State → Option State → Type 0) → Program → List ℕ → Thread → Instr → State → Progress → Type 0
-Does collects p input t i s progress = Acts collects p input t i s progress i.op
+-- one instruction of a thread that stands at it, which was counted before: what it puts and what becomes of the state
+abbrev pub Does : Program → List ℕ → Thread → Instr → State → List ℕ → Progress → Type 0
+Does p input t i s bytes progress = Acts p input t i s bytes progress i.op

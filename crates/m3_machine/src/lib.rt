@@ -5,6 +5,7 @@
 mod acts;
 mod calls;
 mod cells;
+mod collections;
 mod inputs;
 mod machine;
 mod memory;
@@ -13,12 +14,13 @@ mod outside;
 mod plain;
 mod points;
 mod progress;
+mod readers;
+mod running;
 mod runs;
 mod start;
 mod strides;
 mod texts;
 mod threading;
-mod types;
 
 pub use machine::Machine;
 pub use memory::Memory;

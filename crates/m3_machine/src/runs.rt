@@ -55,8 +55,8 @@ impl<'a, S: Store> Machine<'a, S> {
         regs.pc = at.pc;
         regs.fp = at.fp;
         self.set_regs(regs);
-        self.points = self.points.wrapping_add(points.wrapping_sub(pace.points));
-        self.instructions = self.instructions.wrapping_add(u128::from(count));
+        self.points = self.points.saturating_add(points.wrapping_sub(pace.points));
+        self.instructions = self.instructions.saturating_add(u128::from(count));
         (halt, count)
     }
 
@@ -72,7 +72,7 @@ impl<'a, S: Store> Machine<'a, S> {
                 self.stand();
                 return Progress::Rests;
             }
-            self.points = self.points.wrapping_add(1);
+            self.points = self.points.saturating_add(1);
             pace.points -= 1;
             pace.left = pace.limit;
             return Progress::Goes;

@@ -1,16 +1,20 @@
 //! A thread's instructions one after another, over points too where nothing else may go between them.
-ghost use Rattle.std.specs.Prelude.{◌≡◌, ◌≤◌, ℕ, true, Some, List, length, slice_get};
+ghost use Rattle.std.specs.Prelude.{◌≡◌, ◌<◌, ◌≤◌, ℕ, true, Some, List, length, slice_get};
 ghost use Rattle.m3_heap.specs.Shapes.{Shape};
 ghost use Rattle.m3_isa.specs.Instructions.{IsInstruction};
 ghost use Rattle.m3_isa.specs.declared.instructions.Instr.{Instr as Instruction};
+ghost use Rattle.m3_decoded.specs.Ready.{image_of};
 
 use crate::memory::Memory;
-use crate::near::{Place, Stack, callee_of, enter, give, leave, tell_of_type};
+use crate::near::{
+    Place, Stack, before, called_method, enter, give, is_of_type, leave, method_of, register,
+    truth,
+};
 use crate::outside::Outside;
 use crate::plain::Halt;
 use m3_decoded::Decoded;
 use m3_heap::Store;
-use m3_isa::{Instr, Op, Step, carry_out};
+use m3_isa::{Instr, Op, Step, Words, carry_out};
 
 // After so many instructions the counts are added up.
 const MOST: u64 = 1 << 62;
@@ -70,6 +74,36 @@ impl Fuel {
     }
 }
 
+/// METH, where the cell has the method.
+fn tell_near<W: Words>(
+    image: &Decoded<'_>,
+    i: Instr,
+    r: &mut [u64; 16],
+    at: Place,
+    memory: &W,
+) -> Option<Place>
+    requires answer { i.a < 16 }
+    requires cell { i.b < 16 }
+{
+    let method = method_of(image, register(r, i.b), i.imm.cast_unsigned(), memory).ok()?;
+    Some(give(r, i.a, u64::from(method), at))
+}
+
+/// SUBT, where the cell has a type.
+fn test_near<W: Words>(
+    image: &Decoded<'_>,
+    i: Instr,
+    r: &mut [u64; 16],
+    at: Place,
+    memory: &W,
+) -> Option<Place>
+    requires answer { i.a < 16 }
+    requires cell { i.b < 16 }
+{
+    let is_of = is_of_type(image, register(r, i.b), i.imm.cast_unsigned(), memory).ok()?;
+    Some(give(r, i.a, truth(is_of), at))
+}
+
 /// NEW, where the heap has the words.
 fn make_near<S: Store>(
     image: &Decoded<'_>,
@@ -78,6 +112,7 @@ fn make_near<S: Store>(
     at: Place,
     outside: &mut Outside<S>,
 ) -> Option<Place>
+    requires { i.a < 16 }
     ensures words { length outside.new.globals.items ≡ length outside.old.globals.items }
     ensures fitting { (shapes : List Shape) → S.fits outside.old.heap.store shapes → S.fits outside.new.heap.store shapes }
 {
@@ -100,17 +135,19 @@ fn call<S: Store>(
     memory: &mut Memory<S>,
     stack: Stack,
 ) -> Option<Place>
+    requires instruction { IsInstruction i }
+    requires inside { at.pc < length (image_of image.now).program.code }
     ensures forks { memory.new.threads.forks ≡ memory.old.threads.forks }
     ensures waits { memory.new.threads.waits ≡ memory.old.threads.waits }
     ensures words { length memory.new.outside.globals.items ≡ length memory.old.outside.globals.items }
     ensures fitting { (shapes : List Shape) → S.fits memory.old.outside.heap.store shapes → S.fits memory.new.outside.heap.store shapes }
 {
-    let number = if i.op == Op::Call {
-        i.imm.cast_unsigned()
-    } else {
-        callee_of(image, i, r, at, memory)?
+    let number = match i.op {
+        Op::Call => i.imm.cast_unsigned(),
+        Op::Callr => before(3, register(r, i.a)).ok()?,
+        _ => called_method(image, i.imm.cast_unsigned(), at, memory).ok()?,
     };
-    enter(image, number, at, memory, stack)
+    enter(image, number, at, memory, stack).ok()
 }
 
 /// A plain instruction.
@@ -142,6 +179,8 @@ fn go_near<S: Store>(
     stack: Stack,
     fuel: &mut Fuel,
 ) -> Option<Place>
+    requires instruction { IsInstruction i.now }
+    requires inside { at.pc < length (image_of image.now).program.code }
     ensures forks { memory.new.threads.forks ≡ memory.old.threads.forks }
     ensures waits { memory.new.threads.waits ≡ memory.old.threads.waits }
     ensures words { length memory.new.outside.globals.items ≡ length memory.old.outside.globals.items }
@@ -149,8 +188,9 @@ fn go_near<S: Store>(
     ensures left { fuel.new.left ≡ fuel.old.left }
 {
     match i.op {
-        Op::Ret => return leave(image.code().len(), at, memory),
-        Op::Meth | Op::Subt => return tell_of_type(image, *i, r, at, memory),
+        Op::Ret => return leave(image.code().len(), at, memory).ok(),
+        Op::Meth => return tell_near(image, *i, r, at, memory),
+        Op::Subt => return test_near(image, *i, r, at, memory),
         _ => {}
     }
     if !fuel.may_pass() {
@@ -176,7 +216,8 @@ fn go_on<S: Store>(
     stack: Stack,
     fuel: &mut Fuel,
 ) -> Option<Halt>
-    requires { IsInstruction i.now }
+    requires instruction { IsInstruction i.now }
+    requires inside { at.old.pc < length (image_of image.now).program.code }
     ensures forks { memory.new.threads.forks ≡ memory.old.threads.forks }
     ensures waits { memory.new.threads.waits ≡ memory.old.threads.waits }
     ensures words { length memory.new.outside.globals.items ≡ length memory.old.outside.globals.items }

@@ -1,4 +1,4 @@
-ghost use Rattle.std.specs.Prelude.{◌≡◌, ◌≤◌, OnOk, OnErr};
+ghost use Rattle.std.specs.Prelude.{◌≡◌, ◌<◌, ◌≤◌, OnOk, OnErr};
 ghost use Rattle.m3_ports.specs.Counts.{Rose};
 
 use crate::machine::Machine;
@@ -101,7 +101,9 @@ impl<'a, S: Store> Machine<'a, S> {
     }
 
     /// Fills a new text with the bytes of two parts, if their words are there, and the thread goes on with it.
-    fn finish_text(&mut self, a: u8, blank: Blank, left: Part, right: Part) -> Progress {
+    fn finish_text(&mut self, a: u8, blank: Blank, left: Part, right: Part) -> Progress
+        requires { a < 16 }
+    {
         if !self.has_part(left) || !self.has_part(right) {
             return Progress::trap(2);
         }
@@ -111,7 +113,11 @@ impl<'a, S: Store> Machine<'a, S> {
 
     /// CAT: the lengths are loaded, then the cell is made, then the bytes are loaded, by registers that are read
     /// again.
-    pub(crate) fn join_texts(&mut self, i: Instr) -> Progress {
+    pub(crate) fn join_texts(&mut self, i: Instr) -> Progress
+        requires answer { i.a < 16 }
+        requires left { i.b < 16 }
+        requires right { i.c < 16 }
+    {
         let Some(left) = self.memory.load(self.word(i.b).wrapping_add(1)) else {
             return Progress::trap(2);
         };
@@ -136,7 +142,10 @@ impl<'a, S: Store> Machine<'a, S> {
     }
 
     /// TCHR: a text of one byte, the low one of register b.
-    pub(crate) fn make_char(&mut self, i: Instr) -> Progress {
+    pub(crate) fn make_char(&mut self, i: Instr) -> Progress
+        requires answer { i.a < 16 }
+        requires byte { i.b < 16 }
+    {
         let blank = match self.make_text(3) {
             Ok(blank) => blank,
             Err(outcome) => return Progress::Ends(outcome),
@@ -148,7 +157,11 @@ impl<'a, S: Store> Machine<'a, S> {
     }
 
     /// TSUB: what of a text lies from a byte on, no more than so many bytes of it.
-    pub(crate) fn make_part(&mut self, i: Instr) -> Progress {
+    pub(crate) fn make_part(&mut self, i: Instr) -> Progress
+        requires answer { i.a < 16 }
+        requires text { i.b < 16 }
+        requires from { i.c < 16 }
+    {
         let Some(bytes) = self.memory.load(self.word(i.b).wrapping_add(1)) else {
             return Progress::trap(2);
         };
@@ -200,6 +213,7 @@ impl<'a, S: Store> Machine<'a, S> {
         i: Instr,
         out: &mut O,
     ) -> Result<Progress, SinkFailed>
+        requires { i.a < 16 }
         ensures rises { O.faults out.old ≤ O.faults out.new }
         ensures kept { OnOk result (O.faults out.new ≡ O.faults out.old) }
         ensures failed { OnErr result (Rose (O.faults out.old) (O.faults out.new)) }

@@ -4,6 +4,11 @@ ghost use Rattle.m3_threads.specs.All.{thread_named};
 ghost use Rattle.m3_threads.specs.declared.status.Thread.{Thread};
 ghost use Rattle.m3_threads.specs.Going.{IsAwake};
 ghost use Rattle.m3_isa.specs.Instructions.{IsInstruction};
+ghost use Rattle.m3_machine.specs.Addresses.{outside_of, settable_of};
+ghost use Rattle.m3_machine.specs.Kept.{KeepsOutside};
+ghost use Rattle.m3_machine.specs.Progress.{became};
+ghost use Rattle.m3_machine.specs.OnThreads.{answer_of, answer_of_end, Acts_on_threads, On_threads};
+ghost use Rattle.m3_machine.specs.Seen.{state_of, program_of, Running};
 
 use crate::machine::Machine;
 use crate::outside::Outside;
@@ -14,11 +19,23 @@ use m3_isa::{Instr, Op};
 use m3_threads::{Done, Threads};
 
 /// The thread goes on, or it rests since it sleeps; or the instruction trapped.
-fn told(done: Done) -> Progress {
+fn told(done: Done) -> Progress
+    ensures { result ≡ answer_of done }
+{
     match done {
         Done::Went | Done::Jumped => Progress::Goes,
         Done::Slept => Progress::Rests,
         Done::Trapped(n) => Progress::trap(n),
+    }
+}
+
+/// A thread that ended rests; or the instruction trapped.
+fn told_end(done: Done) -> Progress
+    ensures { result ≡ answer_of_end done }
+{
+    match done {
+        Done::Trapped(n) => Progress::trap(n),
+        _ => Progress::Rests,
     }
 }
 
@@ -33,6 +50,13 @@ fn act_of<S: Store>(
     requires there { IsSome (thread_named threads.old running) }
     requires awake { (t : Thread) → thread_named threads.old running ≡ Some t → IsAwake t }
     requires counted { threads.old.forks + threads.old.waits < 2 ^ 63 }
+    ensures acts { (t : Thread) → thread_named threads.old running ≡ Some t
+        → Acts_on_threads i.op t i threads.old
+        (outside_of outside.old.globals.items outside.old.constants.items (S.heap outside.old.heap.store).cells)
+        (settable_of (length outside.old.globals.items) (S.heap outside.old.heap.store).cells)
+        result threads.new
+        (outside_of outside.new.globals.items outside.new.constants.items (S.heap outside.new.heap.store).cells) }
+    ensures keeps { KeepsOutside outside.old.globals.items outside.new.globals.items outside.old.constants.items outside.new.constants.items (S.heap outside.old.heap.store) (S.heap outside.new.heap.store) }
     ensures counts { threads.new.forks + threads.new.waits ≤ threads.old.forks + threads.old.waits + 1 }
     ensures words { length outside.new.globals.items ≡ length outside.old.globals.items }
     ensures fitting { (shapes : List Shape) → S.fits outside.old.heap.store shapes → S.fits outside.new.heap.store shapes }
@@ -48,10 +72,7 @@ fn act_of<S: Store>(
         Op::Talert => told(threads.test_alert(running, outside, i)),
         Op::Await => told(threads.alert_wait(running, outside, i)),
         Op::Ajoin => told(threads.alert_join(running, outside, i)),
-        Op::Endt => match threads.end(running, outside, i) {
-            Done::Trapped(n) => Progress::trap(n),
-            _ => Progress::Rests,
-        },
+        Op::Endt => told_end(threads.end(running, outside, i)),
         _ => Progress::trap(1),
     }
 }
@@ -60,8 +81,13 @@ impl<'a, S: Store> Machine<'a, S> {
     /// Instructions on threads, mutexes, conditions and alerts.
     pub(crate) fn act_on_threads(&mut self, i: Instr) -> Progress
         requires { IsInstruction i }
+        ensures acts { self.old.made < 2 ^ 62 → (t : Thread) → Running self.old t → IsAwake t
+            → On_threads (program_of self.old) t i (state_of self.old) (became result (state_of self.new)) }
     {
-        if !self.is_awake() || !self.may_count() {
+        if !self.is_awake() {
+            return Progress::Rests;
+        }
+        if !self.may_count() {
             return Progress::Rests;
         }
         self.made += 1;
@@ -97,7 +123,10 @@ impl<'a, S: Store> Machine<'a, S> {
 
     /// FORK: a thread cell with the new thread's number, and the thread, which begins with procedure 1 and has
     /// the closure that register b holds.
-    pub(crate) fn start_thread(&mut self, i: Instr) -> Progress {
+    pub(crate) fn start_thread(&mut self, i: Instr) -> Progress
+        requires answer { i.a < 16 }
+        requires closure { i.b < 16 }
+    {
         if !self.may_count() || self.memory.threads.is_full() {
             return Progress::Ends(Outcome::ThreadsFull);
         }

@@ -2,13 +2,13 @@ use Rattle.m3_machine.proofs.Keeping.{same-forks, same-waits}
 use Rattle.m3_machine.proofs.strides.call.Goals as goal
 
 pub returns-clause-forks : goal.returns-clause-forks
-returns-clause-forks g c = same-forks c.args.memory.now.threads c.enter.new.memory.threads c.enter.ensures.0.stacks
+returns-clause-forks g c = same-forks c.args.memory.now.threads c.enter.new.memory.threads c.enter.ensures.keeps.0.stacks
 
 pub returns-clause-waits : goal.returns-clause-waits
-returns-clause-waits g c = same-waits c.args.memory.now.threads c.enter.new.memory.threads c.enter.ensures.0.stacks
+returns-clause-waits g c = same-waits c.args.memory.now.threads c.enter.new.memory.threads c.enter.ensures.keeps.0.stacks
 
 pub returns-clause-words : goal.returns-clause-words
-returns-clause-words g c = c.enter.ensures.0.outside.count
+returns-clause-words g c = c.enter.ensures.keeps.0.outside.count
 
 pub returns-clause-fitting : goal.returns-clause-fitting
-returns-clause-fitting g c = c.enter.ensures.1
+returns-clause-fitting g c = c.enter.ensures.keeps.1

@@ -1,6 +1,6 @@
 use Rattle.std.proofs.Common.{◌≡◌, ◌∙◌, arith, true, false, ap, sym}
 use Rattle.std.proofs.Math.Logic.{∥∥₁_elim, ∥∥₁_prop}
-use Rattle.m3_machine.proofs.points.collect_by.Goals as goal
+use Rattle.m3_machine.proofs.collections.collect_by.Goals as goal
 
 pub collect-requires-clause-fitting : goal.collect-requires-clause-fitting
 collect-requires-clause-fitting g c =
