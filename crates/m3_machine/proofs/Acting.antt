@@ -47,9 +47,9 @@ pub called : (p : Program) (s mid : State) (t : Thread) (n : ℕ) (stack : Stack
 called p s mid t n stack to progress found others words goes =
     let written = framed to (place_of t.regs) (memory_of p s) (can_set s) in
     let becomes : GoesOver p (with_regs s (come_to to t.regs)) written (Goes (with_regs mid (come_to to t.regs))) =
-        record { others = others_with_regs s mid (come_to to t.regs) others; words = words } in
+    record { others = others_with_regs s mid (come_to to t.regs) others; words = words } in
     let entered : GoesOver p (with_regs s (come_to to t.regs)) written progress =
-        subst (λ (q : Progress). GoesOver p (with_regs s (come_to to t.regs)) written q) (sym goes) becomes in
+    subst (λ (q : Progress). GoesOver p (with_regs s (come_to to t.regs)) written q) (sym goes) becomes in
     subst (λ (r : Result Place Outcome). Follows p (using r (λ to. Writes (come_to to t.regs) (framed to (place_of t.regs) (memory_of p s) (can_set s)))) s progress) (sym found) entered
 
 pub not_called : (p : Program) (s : State) (t : Thread) (n : ℕ) (stack : Stack) (outcome : Outcome) (progress : Progress)

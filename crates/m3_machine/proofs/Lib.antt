@@ -4,3 +4,4 @@ pub mod PlainSteps
 pub mod Keeping
 pub mod Acting
 pub mod OnThreadsLemmas
+pub mod Passing

@@ -44,11 +44,11 @@ pub record Chooses (p : Program) (entry : Entry) (s turn : State) : Type 0 where
 -- collection meets trap 9
 pub data Stops (p : Program) (entry : Entry) (s : State) : State → Outcome → Type 0 where
   nobody : NoneGoes s.all (outside p s) → Stops p entry s s Deadlock
-  stuck : (u : State) → (NoneGoes s.all (outside p s) → ⊥) → Collected_if p (passed s) entry.collect None → Spoils (passed s) u → Stops p entry s u (Trap 9)
+  trapped : (u : State) → (NoneGoes s.all (outside p s) → ⊥) → Collected_if p (passed s) entry.collect None → Spoils (passed s) u → Stops p entry s u (Trap 9)
   nobody_left : (ready : State) → (NoneGoes s.all (outside p s) → ⊥) → Collected_if p (passed s) entry.collect (Some ready)
       → NoneGoes ready.all (outside p ready) → Stops p entry s ready Deadlock
 
 -- what the machine says where no points are left
 pub data Says_spent (p : Program) (s : State) : Outcome → Type 0 where
-  nobody : NoneGoes s.all (outside p s) → Says_spent p s Deadlock
-  spent : (NoneGoes s.all (outside p s) → ⊥) → Says_spent p s Spent
+  deadlock : NoneGoes s.all (outside p s) → Says_spent p s Deadlock
+  points_used : (NoneGoes s.all (outside p s) → ⊥) → Says_spent p s Spent

@@ -20,6 +20,10 @@ pub data Progress : Type 0 where
 abbrev pub traps : ℕ → State → Progress
 traps n s = Ends s (Trap n)
 
+-- the answer of an instruction that trapped
+abbrev pub trapped : ℕ → Answer
+trapped n = answer.Ends (Trap n)
+
 -- an answer with the state that was left
 abbrev pub became : Answer → State → Progress
 became answer.Goes s = Goes s

@@ -74,12 +74,7 @@ pub(crate) fn give(r: &mut [u64; 16], a: u8, word: u64, at: Place) -> Place
 
 /// Where the frame of a procedure begins, if the procedure is there and the stack has the words.
 #[inline(always)]
-fn frame_for(
-    image: &Decoded<'_>,
-    number: u32,
-    at: Place,
-    stack: Stack,
-) -> Result<Place, Outcome>
+fn frame_for(image: &Decoded<'_>, number: u32, at: Place, stack: Stack) -> Result<Place, Outcome>
     requires { at.pc < length (image_of image.now).program.code }
     ensures { result ≡ entering (image_of image.now).program number stack at }
 {
@@ -221,6 +216,8 @@ pub(crate) fn called_method<W: Words>(
     let Some(cell) = memory.load(argument) else {
         return Err(Outcome::Trap(2));
     };
-    let method = method_of(image, cell, number, memory)?;
-    before(4, u64::from(method))
+    match method_of(image, cell, number, memory) {
+        Ok(method) => before(4, u64::from(method)),
+        Err(outcome) => Err(outcome),
+    }
 }

@@ -58,10 +58,7 @@ impl<'a, S: Store> Machine<'a, S> {
         ensures good { result ≡ true → Collected_if (program_of self.old) (state_of self.old) asked (Some (state_of self.new)) }
         ensures bad { result ≡ false → Collected_if (program_of self.old) (state_of self.old) asked None × Spoils (state_of self.old) (state_of self.new) }
     {
-        if !asked {
-            return true;
-        }
-        self.collect()
+        if asked { self.collect() } else { true }
     }
 
     /// Passes a point: an entry is taken, the heap is collected where it says so, and the thread that goes is

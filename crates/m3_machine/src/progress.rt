@@ -1,3 +1,6 @@
+ghost use Rattle.std.specs.Prelude.{◌≡◌};
+ghost use Rattle.m3_machine.specs.Progress.{trapped};
+
 use m3_base::Outcome;
 
 /// What became of an instruction: its thread goes on in its turn, it rests since it fell asleep or ended, or the
@@ -11,7 +14,9 @@ pub enum Progress {
 
 impl Progress {
     /// The instruction trapped.
-    pub(crate) fn trap(number: u32) -> Progress {
+    pub(crate) fn trap(number: u32) -> Progress
+        ensures { result ≡ trapped number }
+    {
         Progress::Ends(Outcome::Trap(number))
     }
 }

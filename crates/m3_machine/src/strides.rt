@@ -7,8 +7,7 @@ ghost use Rattle.m3_decoded.specs.Ready.{image_of};
 
 use crate::memory::Memory;
 use crate::near::{
-    Place, Stack, before, called_method, enter, give, is_of_type, leave, method_of, register,
-    truth,
+    Place, Stack, before, called_method, enter, give, is_of_type, leave, method_of, register, truth,
 };
 use crate::outside::Outside;
 use crate::plain::Halt;

@@ -37,12 +37,12 @@ returns-in-Ok-enter-clause-calls g c = λ t running stands.
     let stack = stack_of m.memory.threads t in
     let progress = became c.come_to.result (state_of c.come_to.new.self) in
     let found : entering p c.in-Ok.number stack (place_of t.regs) ≡ Ok to =
-        subst (λ (at : Place). entering p c.in-Ok.number stack at ≡ Ok to) stands
-        (subst (λ (k : Stack). entering p c.in-Ok.number k c.args.at ≡ Ok to) (c.stack-stack.ensures t running) (sym c.in-Ok-enter.ensures.place)) in
+    subst (λ (at : Place). entering p c.in-Ok.number stack at ≡ Ok to) stands
+    (subst (λ (k : Stack). entering p c.in-Ok.number k c.args.at ≡ Ok to) (c.stack-stack.ensures t running) (sym c.in-Ok-enter.ensures.place)) in
     let others : HasOtherWords s mid = record { all = kept.stacks; globals = kept.outside.count; heap = kept.outside.rest; rest = refl } in
     let words : (x : ℕ) → memory_of p mid x ≡ framed to (place_of t.regs) (memory_of p s) (can_set s) x =
-        λ x. ap (λ constants. held n.threads (outside_of n.outside.globals.items constants heap.cells) x) (sym kept.outside.same_constants)
-        ∙ c.in-Ok-enter.ensures.framed x ∙ ap (λ (at : Place). framed to at (memory_of p s) (can_set s) x) stands in
+    λ x. ap (λ constants. held n.threads (outside_of n.outside.globals.items constants heap.cells) x) (sym kept.outside.same_constants)
+    ∙ c.in-Ok-enter.ensures.framed x ∙ ap (λ (at : Place). framed to at (memory_of p s) (can_set s) x) stands in
     subst (λ (callee : Result ℕ Outcome). Follows p (calls p callee stack t.regs (memory_of p s) (can_set s)) s progress) (sym c.in-Ok.is)
     (called p s mid t c.in-Ok.number stack to progress found others words
     (c.come_to.ensures.goes t (still_found m.memory.threads n.threads m.running t kept.stacks running)))

@@ -1,8 +1,9 @@
 use Rattle.std.specs.Prelude.{ℕ, Option}
-use Rattle.std.proofs.Common.{refl, subst}
+use Rattle.std.proofs.Common.{ap, subst}
+use Rattle.m3_machine.specs.declared.progress.Progress.{Progress as Answer}
 use Rattle.m3_machine.specs.declared.near.Stack.{Stack}
 use Rattle.m3_machine.specs.Act.{Goes, loading}
-use Rattle.m3_machine.specs.Progress.{Follows, traps}
+use Rattle.m3_machine.specs.Progress.{Follows, became}
 use Rattle.m3_isa.specs.Effects.{answered}
 use Rattle.m3_machine.specs.State.{memory_of}
 use Rattle.m3_machine.specs.Acts.{tells_self}
@@ -14,5 +15,6 @@ returns-in-None-clause-tells g c = λ t running.
     let m = c.args.self.now in
     let p = program_of m in
     let s = state_of m in
-    subst (λ (stack : Stack). Follows p (tells_self stack c.args.i t.regs (memory_of p s)) s (traps 2 s)) (c.stack-stack.ensures t running)
-    (subst (λ (word : Option ℕ). Follows p (loading word (λ cell. Goes (answered t.regs c.args.i.a cell))) s (traps 2 s)) c.in-None.ensures refl)
+    let progress = became c.trap.result s in
+    subst (λ (stack : Stack). Follows p (tells_self stack c.args.i t.regs (memory_of p s)) s progress) (c.stack-stack.ensures t running)
+    (subst (λ (word : Option ℕ). Follows p (loading word (λ cell. Goes (answered t.regs c.args.i.a cell))) s progress) c.in-None.ensures (ap (λ (a : Answer). became a s) c.trap.ensures))

@@ -17,10 +17,11 @@ returns-in-Ok-clause-tests g c = λ t running.
     let memory = memory_of (program_of m) (state_of m) in
     let told : Result Bool Outcome = Ok c.in-Ok.is_of in
     let told-so = subst (λ (n : ℕ). TellsType types (kind_at types memory (reg t.regs c.args.i.b)) n told) c.cast_unsigned.ensures
-        (subst (λ (cell : ℕ). TellsType types (kind_at types memory cell) c.cast_unsigned.result told) (c.word-cell.ensures t running) c.in-Ok.ensures) in
-    (Goes (answered t.regs c.args.i.a (flag c.in-Ok.is_of)),
-    (told, told-so, refl),
-    c.give.ensures.goes t running ∙ ap (λ (word : ℕ). Goes_on (with_regs (state_of m) (answered t.regs c.args.i.a word))) c.truth.ensures)
+    (subst (λ (cell : ℕ). TellsType types (kind_at types memory cell) c.cast_unsigned.result told) (c.word-cell.ensures t running) c.in-Ok.ensures) in (
+      Goes (answered t.regs c.args.i.a (flag c.in-Ok.is_of)),
+      (told, told-so, refl),
+      c.give.ensures.goes t running ∙ ap (λ (word : ℕ). Goes_on (with_regs (state_of m) (answered t.regs c.args.i.a word))) c.truth.ensures,
+    )
 
 pub returns-in-Err-clause-tests : goal.returns-in-Err-clause-tests
 returns-in-Err-clause-tests g c = λ t running.
@@ -29,5 +30,5 @@ returns-in-Err-clause-tests g c = λ t running.
     let memory = memory_of (program_of m) (state_of m) in
     let told : Result Bool Outcome = Err c.in-Err.outcome in
     let told-so = subst (λ (n : ℕ). TellsType types (kind_at types memory (reg t.regs c.args.i.b)) n told) c.cast_unsigned.ensures
-        (subst (λ (cell : ℕ). TellsType types (kind_at types memory cell) c.cast_unsigned.result told) (c.word-cell.ensures t running) c.in-Err.ensures) in
+    (subst (λ (cell : ℕ). TellsType types (kind_at types memory cell) c.cast_unsigned.result told) (c.word-cell.ensures t running) c.in-Err.ensures) in
     (Stops c.in-Err.outcome, (told, told-so, refl), refl)
