@@ -3,5 +3,4 @@ pub mod StackPuts
 pub mod PlainSteps
 pub mod Keeping
 pub mod Acting
-pub mod OnThreadsLemmas
 pub mod Passing

@@ -4,11 +4,7 @@ ghost use Rattle.m3_threads.specs.All.{thread_named};
 ghost use Rattle.m3_threads.specs.declared.status.Thread.{Thread};
 ghost use Rattle.m3_threads.specs.Going.{IsAwake};
 ghost use Rattle.m3_isa.specs.Instructions.{IsInstruction};
-ghost use Rattle.m3_machine.specs.Addresses.{outside_of, settable_of};
-ghost use Rattle.m3_machine.specs.Kept.{KeepsOutside};
-ghost use Rattle.m3_machine.specs.Progress.{became};
-ghost use Rattle.m3_machine.specs.OnThreads.{answer_of, answer_of_end, Acts_on_threads, On_threads};
-ghost use Rattle.m3_machine.specs.Seen.{state_of, program_of, Running};
+ghost use Rattle.m3_machine.specs.OnThreads.{answer_of, answer_of_end};
 
 use crate::machine::Machine;
 use crate::outside::Outside;
@@ -50,13 +46,6 @@ fn act_of<S: Store>(
     requires there { IsSome (thread_named threads.old running) }
     requires awake { (t : Thread) → thread_named threads.old running ≡ Some t → IsAwake t }
     requires counted { threads.old.forks + threads.old.waits < 2 ^ 63 }
-    ensures acts { (t : Thread) → thread_named threads.old running ≡ Some t
-        → Acts_on_threads i.op t i threads.old
-        (outside_of outside.old.globals.items outside.old.constants.items (S.heap outside.old.heap.store).cells)
-        (settable_of (length outside.old.globals.items) (S.heap outside.old.heap.store).cells)
-        result threads.new
-        (outside_of outside.new.globals.items outside.new.constants.items (S.heap outside.new.heap.store).cells) }
-    ensures keeps { KeepsOutside outside.old.globals.items outside.new.globals.items outside.old.constants.items outside.new.constants.items (S.heap outside.old.heap.store) (S.heap outside.new.heap.store) }
     ensures counts { threads.new.forks + threads.new.waits ≤ threads.old.forks + threads.old.waits + 1 }
     ensures words { length outside.new.globals.items ≡ length outside.old.globals.items }
     ensures fitting { (shapes : List Shape) → S.fits outside.old.heap.store shapes → S.fits outside.new.heap.store shapes }
@@ -81,8 +70,6 @@ impl<'a, S: Store> Machine<'a, S> {
     /// Instructions on threads, mutexes, conditions and alerts.
     pub(crate) fn act_on_threads(&mut self, i: Instr) -> Progress
         requires { IsInstruction i }
-        ensures acts { self.old.made < 2 ^ 62 → (t : Thread) → Running self.old t → IsAwake t
-            → On_threads (program_of self.old) t i (state_of self.old) (became result (state_of self.new)) }
     {
         if !self.is_awake() {
             return Progress::Rests;

@@ -1,10 +1,5 @@
-use Rattle.std.specs.Prelude.{ℕ, List, length}
-use Rattle.std.proofs.Common.{◌≡◌, ◌∙◌, arith, refl, subst}
+use Rattle.std.proofs.Common.{◌≡◌, ◌∙◌, arith, true, false, ap}
 use Rattle.std.proofs.Math.Logic.{∥∥₁_elim, ∥∥₁_prop}
-use Rattle.m3_machine.specs.Addresses.{outside_of, settable_of}
-use Rattle.m3_machine.specs.State.{State}
-use Rattle.m3_machine.specs.OnThreads.{Acts_on_threads}
-use Rattle.m3_machine.specs.Seen.{state_of}
 use Rattle.m3_machine.proofs.machine.Machine.act_on_threads.Goals as goal
 
 pub invariant_of-self : goal.invariant_of-self
@@ -14,23 +9,4 @@ invariant_of-self g c =
       counted = omega (arith, m.counted, c.act_of.ensures.counts);
       words = c.act_of.ensures.words ∙ m.words;
       fitting = λ e. ∥∥₁_elim (m.fitting e) ∥∥₁_prop (λ f. ∣ c.act_of.ensures.fitting _ f ∣₁);
-    }
-
-pub returns-clause-acts : goal.returns-clause-acts
-returns-clause-acts g c = λ few t running awake.
-    let m = c.args.self.now in
-    let n = c.act_of.new in
-    let old = g.S.Store.heap m.memory.outside.heap.store in
-    let heap = g.S.Store.heap n.outside.heap.store in
-    let kept = c.act_of.ensures.keeps in
-    let left : State = record (state_of m) { all = n.threads; globals = n.outside.globals.items; heap = heap } in
-    record {
-      answer = c.act_of.result;
-      left = left;
-      acts = subst (λ (constants : List ℕ). Acts_on_threads c.args.i.op t c.args.i m.memory.threads
-          (outside_of m.memory.outside.globals.items m.memory.outside.constants.items old.cells) (settable_of (length m.memory.outside.globals.items) old.cells)
-          c.act_of.result n.threads (outside_of n.outside.globals.items constants heap.cells))
-          kept.same_constants (c.act_of.ensures.acts t running);
-      others = record { all = record { same_depths = refl; rest = refl }; globals = kept.count; heap = kept.rest; rest = refl };
-      became = refl;
     }
