@@ -1,4 +1,5 @@
 use Rattle.std.specs.Prelude.{ℕ, ◌≡◌, Bool, Result, Ok, Err}
+use Rattle.std.specs.Int.{cast_unsigned, w32}
 use Rattle.std.proofs.Common.{refl, sym, ap, subst, ◌∙◌, rules}
 use Rattle.m3_base.specs.declared.outcomes.Outcome.{Outcome}
 use Rattle.m3_isa.specs.Arithmetic.{flag}
@@ -16,7 +17,8 @@ returns-in-Ok-clause-tests g c = λ t running.
     let types = (program_of m).types in
     let memory = memory_of (program_of m) (state_of m) in
     let told : Result Bool Outcome = Ok c.in-Ok.is_of in
-    let told-so = subst (λ (n : ℕ). TellsType types (kind_at types memory (reg t.regs c.args.i.b)) n told) (search rules)
+    let n-is : c.cast_unsigned.result ≡ cast_unsigned w32 c.args.i.imm = search rules in
+    let told-so = subst (λ (n : ℕ). TellsType types (kind_at types memory (reg t.regs c.args.i.b)) n told) n-is
     (subst (λ (cell : ℕ). TellsType types (kind_at types memory cell) c.cast_unsigned.result told) (c.word-cell.ensures t running) c.in-Ok.ensures) in (
       Goes (answered t.regs c.args.i.a (flag c.in-Ok.is_of)),
       (told, told-so, refl),
@@ -29,6 +31,7 @@ returns-in-Err-clause-tests g c = λ t running.
     let types = (program_of m).types in
     let memory = memory_of (program_of m) (state_of m) in
     let told : Result Bool Outcome = Err c.in-Err.outcome in
-    let told-so = subst (λ (n : ℕ). TellsType types (kind_at types memory (reg t.regs c.args.i.b)) n told) (search rules)
+    let n-is : c.cast_unsigned.result ≡ cast_unsigned w32 c.args.i.imm = search rules in
+    let told-so = subst (λ (n : ℕ). TellsType types (kind_at types memory (reg t.regs c.args.i.b)) n told) n-is
     (subst (λ (cell : ℕ). TellsType types (kind_at types memory cell) c.cast_unsigned.result told) (c.word-cell.ensures t running) c.in-Err.ensures) in
     (Stops c.in-Err.outcome, (told, told-so, refl), refl)
