@@ -1,0 +1,2 @@
+pub mod SourceCommands
+pub mod Orders

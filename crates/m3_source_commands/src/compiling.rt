@@ -1,5 +1,8 @@
 //! From sources to the bytes of an image.
-ghost use Rattle.std.specs.Prelude.{◌≡◌, ◌<◌, true, length, All};
+ghost use Rattle.std.specs.Prelude.{◌≡◌, ◌<◌, true, length, All, IfOk, IfErr, IsOk};
+ghost use Rattle.m3_image.specs.Images.{read_of};
+ghost use Rattle.m3_image_commands.specs.Statuses.{RefusesBy};
+ghost use Rattle.m3_source_commands.specs.SourceCommands.{RefusesSources};
 
 use bumpalo::Bump;
 use bumpalo::collections::into_bump_slice;
@@ -30,7 +33,9 @@ fn refuse(
     alloc: Global,
     sources: &[Source<'_>],
     refused: Refused,
-) -> Result<Answer, Refusal<'static>> {
+) -> Result<Answer, Refusal<'static>>
+    ensures { RefusesBy 1 result }
+{
     match refused {
         Refused::NoMemory => Err(Refusal::NO_MEMORY),
         Refused::Rule(broken) => match rule_line(alloc, sources, broken) {
@@ -71,7 +76,9 @@ fn copies<'a>(
 }
 
 /// The image of a checked program, which goes to the arena.
-fn image_of<'a>(alloc: Global, arena: &'a Bump, core: Core<'a>) -> Result<Vec<u8>, NoMemory> {
+fn image_of<'a>(alloc: Global, arena: &'a Bump, core: Core<'a>) -> Result<Vec<u8>, NoMemory>
+    ensures { IfOk result (λ image. IsOk (read_of image.items)) }
+{
     let mut kept = Vec::new(arena);
     kept.push(core)?;
     match into_bump_slice(kept) {
@@ -86,7 +93,10 @@ pub fn compile(
     alloc: Global,
     sources: &[Source<'_>],
     switches: &[u8],
-) -> Step<'static, (Vec<u8>, Vec<Entry>)> {
+) -> Step<'static, (Vec<u8>, Vec<Entry>)>
+    ensures ok { IfOk result (λ built. IsOk (read_of built.0.items)) }
+    ensures err { IfErr result (RefusesSources switches.now) }
+{
     let owner = Bump::new(alloc);
     let arena = &owner;
     let Ok(copies) = copies(alloc, arena, sources) else {

@@ -1,4 +1,8 @@
 //! The FILEs of a command.
+ghost use Rattle.std.specs.Prelude.{◌≡◌, [], ◌∷◌, ◌++◌, OnOk, map};
+ghost use Rattle.m3_image_commands.specs.Statuses.{Fetches};
+ghost use Rattle.m3_source_commands.specs.SourceCommands.{OfFiles};
+
 use m3_base::{Bytes, NoMemory, Source};
 use m3_image_commands::{Refusal, fetch};
 use m3_ports::Shelf;
@@ -19,7 +23,9 @@ pub struct Sources<'a> {
 
 impl<'a> Sources<'a> {
     /// No file yet.
-    pub fn new(alloc: Global) -> Sources<'a> {
+    pub fn new(alloc: Global) -> Sources<'a>
+        ensures { result.texts.items ≡ [] }
+    {
         Sources {
             names: Vec::new(alloc),
             texts: Vec::new(alloc),
@@ -27,7 +33,9 @@ impl<'a> Sources<'a> {
     }
 
     /// Adds a file behind the others.
-    pub fn add(&mut self, name: &'a str, text: Vec<u8>) -> Result<(), NoMemory> {
+    pub fn add(&mut self, name: &'a str, text: Vec<u8>) -> Result<(), NoMemory>
+        ensures { OnOk result (self.new.texts.items ≡ self.old.texts.items ++ text ∷ []) }
+    {
         self.names.push(name)?;
         self.texts.push(text)?;
         Ok(())
@@ -39,10 +47,18 @@ pub fn fetch_sources<'a, F: Shelf>(
     alloc: Global,
     shelf: &mut F,
     files: &[&'a str],
-) -> Result<Sources<'a>, Refusal<'a>> {
+) -> Result<Sources<'a>, Refusal<'a>>
+    ensures { Fetches (record {
+      held = (F.held shelf.old, F.held shelf.new);
+      faults = (F.faults shelf.old, F.faults shelf.new);
+      store_faults = (F.store_faults shelf.old, F.store_faults shelf.new);
+      absences = (F.absences shelf.old, F.absences shelf.new);
+      excesses = (F.excesses shelf.old, F.excesses shelf.new);
+    }) (OfFiles (F.held shelf.old) (map (λ n. n.now) files.entry.now)) result }
+{
     let mut sources = Sources::new(alloc);
     let mut left = SOURCES_CAP;
-    for name in files {
+    'files: for name in files {
         let mut text = Vec::new(alloc);
         fetch(alloc, shelf, *name, left.min(SOURCE_CAP), &mut text)?;
         left = left.saturating_sub(text.len() as u64);
