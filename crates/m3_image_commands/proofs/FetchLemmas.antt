@@ -1,10 +1,10 @@
 -- Calls that fetch, one after the other, and what they read.
-use Rattle.std.proofs.Common.{◌≡◌, ℕ, ◌≤◌, ◌<◌, List, [], ◌++◌, Option, refl, sym, ap, ◌∙◌, subst, inl, inr, ◌⊎◌, arith}
-use Rattle.std.specs.Prelude.{Some, IfSome, Result, Ok, Err, IfErr, OnOk}
+use Rattle.std.proofs.Common.{◌≡◌, ℕ, ◌≤◌, ◌<◌, List, Option, refl, sym, ap, ◌∙◌, subst, inl, inr, ◌⊎◌, arith}
+use Rattle.std.specs.Prelude.{Some, IfSome, Result, Ok, Err, IfErr}
 use Rattle.m3_ports.specs.Counts.{Rose}
-use Rattle.m3_ports.specs.Files.{Files, IsNotHeld, IsHeldOver, TakesFile}
+use Rattle.m3_ports.specs.Files.{Files, IsNotHeld, IsHeldOver}
 use Rattle.m3_image_commands.specs.declared.answers.Refusal.{Refusal}
-use Rattle.m3_image_commands.specs.Statuses.{Shelving, IsKept, IsRead, IsGiven, file_cap, Only, OfOptions, Unfetched, read_fault, no_memory, absent, too_long, Fetches}
+use Rattle.m3_image_commands.specs.Statuses.{Shelving, IsKept, file_cap, Only, OfOptions, Unfetched, read_fault, no_memory, absent, too_long, Fetches}
 
 -- both as one
 abbrev pub joined : Shelving → Shelving → Shelving
@@ -92,33 +92,23 @@ pub rises : {A : Type 0} {R : List ℕ → ℕ → Type 0} {a : Shelving} {resul
 rises g = record { held = g.held; faults = g.faults; store_faults = g.store_faults; absences = g.absences; excesses = g.excesses }
 
 -- an error of one call is that of another
-pub fetches_err : {A B : Type 0} {R : List ℕ → ℕ → Type 0} {s : Shelving} {r : Refusal} → Fetches {A = A} s R (Err r) → Fetches {A = B} s R (Err r)
+fetches_err : {A B : Type 0} {R : List ℕ → ℕ → Type 0} {s : Shelving} {r : Refusal} → Fetches {A = A} s R (Err r) → Fetches {A = B} s R (Err r)
 fetches_err g = record { held = g.held; faults = g.faults; store_faults = g.store_faults; absences = g.absences; excesses = g.excesses; unfetched = g.unfetched }
 
--- a call that went well is as another that did
-pub fetches_ok : {A B : Type 0} {R : List ℕ → ℕ → Type 0} {s : Shelving} {x : A} {y : B} → Fetches {A = A} s R (Ok x) → Fetches {A = B} s R (Ok y)
-fetches_ok g = record { held = g.held; faults = g.faults; store_faults = g.store_faults; absences = g.absences; excesses = g.excesses; unfetched = tt }
+pub fails_as : {A B : Type 0} {R P : List ℕ → ℕ → Type 0} {s : Shelving} {r : Refusal} → Among R P → Fetches {A = A} s R (Err r) → Fetches {A = B} s P (Err r)
+fails_as {A} {B} {R} {P} {s} {r} m g = fetches_err {A = A} {B = B} (fetches_as {A = A} {R = R} {Q = P} {shelf = s} {result = Err r} m g)
 
 -- a call that fetches behind another
-pub fetches_after : {A B : Type 0} {R Q : List ℕ → ℕ → Type 0} {a b : Shelving} {first : Result A Refusal} {second : Result B Refusal} → Fetches a R first → Fetches b Q second → Follows a b → Fetches (joined a b) Q second
-fetches_after {A} {B} {R} {Q} {a} {b} {first} {second} g h f = fetches_on a b f (rises g) Q second h
+pub goes_after : {A B : Type 0} {R Q P : List ℕ → ℕ → Type 0} {a b : Shelving} {first : Result A Refusal} {second : Result B Refusal} → Among Q P → Fetches a R first → Fetches b Q second → Follows a b → Fetches (joined a b) P second
+goes_after {A} {B} {R} {Q} {P} {a} {b} {first} {second} m g h f =
+    fetches_as {R = Q} {Q = P} {shelf = joined a b} {result = second} m (fetches_on a b f (rises {result = first} g) Q second h)
 
--- ---- the bytes that were read
+-- the same where the second one's error is told
+pub fails_after : {A B C : Type 0} {R Q P : List ℕ → ℕ → Type 0} {a b : Shelving} {first : Result A Refusal} {r : Refusal} → Among Q P → Fetches a R first → Fetches {A = B} b Q (Err r) → Follows a b → Fetches {A = C} (joined a b) P (Err r)
+fails_after {A} {B} {C} {R} {Q} {P} {a} {b} {first} {r} m g h f =
+    fails_as {A = B} {B = C} {R = Q} {P = P} {s = joined a b} {r = r} m (fetches_on a b f (rises {result = first} g) Q (Err r) h)
 
-read_whole : (held : Option Files) (name : List ℕ) (cap : ℕ) (before after : List ℕ) → before ≡ [] → TakesFile held name cap before after → IsRead held name cap after
-read_whole held name cap before after e t =
-    let whole : after ≡ t.0 = t.1 ∙ ap (λ (b : List ℕ). b ++ t.0) e in
-    subst (λ (b : List ℕ). IsRead held name cap b) (sym whole) (t.2, t.3)
-
-pub reads_whole : {E : Type 0} (result : Result (Unit {0}) E) (held : Option Files) (name : List ℕ) (cap : ℕ) (before after : List ℕ) → before ≡ [] → OnOk result (TakesFile held name cap before after) → OnOk result (IsRead held name cap after)
-reads_whole (Ok x) held name cap before after e t = read_whole held name cap before after e t
-reads_whole (Err x) held name cap before after e t = t
-
-pub gives_whole : {E : Type 0} (result : Result (Unit {0}) E) (held : Option Files) (given : Option (List ℕ)) (name before after : List ℕ) → given ≡ Some name → before ≡ [] → OnOk result (TakesFile held name file_cap before after) → OnOk result (IsGiven held given after)
-gives_whole (Ok x) held given name before after g e t = subst (λ o. IsGiven held o after) (sym g) (read_whole held name file_cap before after e t)
-gives_whole (Err x) held given name before after g e t = t
-
--- the files of options
+-- ---- the files of options
 
 pub among_options : (given : Option (List ℕ)) (name : List ℕ) → given ≡ Some name → Among (Only name file_cap) (OfOptions given given)
 among_options given name e n c o = (inl (e ∙ ap (λ (x : List ℕ). Some x) (sym o.0)), o.1)

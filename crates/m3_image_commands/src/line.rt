@@ -85,7 +85,6 @@ fn name_bytes<'a>(name: Option<&'a [u8]>) -> &'a [u8]
 }
 
 /// The name of a file, or nothing where there is none of that number.
-#[tactic(auto, using(crate::proofs::LineLemmas::file_within))]
 fn file_name<'a>(image: &ImageView<'a>, file: u32) -> &'a [u8]
     ensures value { result.now ≡ name_bytes (slice_get (image_view image.now).program.files file) }
     ensures short { length result.now ≤ longest_name (image_view image.now) }
@@ -94,7 +93,6 @@ fn file_name<'a>(image: &ImageView<'a>, file: u32) -> &'a [u8]
 }
 
 /// The name of an exception, or nothing where there is none of that number.
-#[tactic(auto, using(crate::proofs::LineLemmas::exception_within))]
 fn exception_name<'a>(image: &ImageView<'a>, exception: u32) -> &'a [u8]
     ensures value { result.now ≡ name_bytes (slice_get (image_view image.now).program.exceptions exception) }
     ensures short { length result.now ≤ longest_name (image_view image.now) }

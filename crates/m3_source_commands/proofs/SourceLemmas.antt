@@ -4,8 +4,10 @@ use Rattle.std.specs.Prelude.{IfSome, Result, Ok, Err, IfErr, sum, slice_get}
 use Rattle.std.specs.FinMap.{get}
 use Rattle.std.proofs.lemmas.Option.{none-some, same_Some}
 use Rattle.m3_ports.specs.Files.{Files}
-use Rattle.m3_image_commands.specs.Statuses.{Shelving, Only}
-use Rattle.m3_image_commands.proofs.FetchLemmas.{Rises, Among}
+use Rattle.m3_image_commands.specs.declared.answers.Refusal.{Refusal}
+use Rattle.m3_image_commands.specs.Statuses.{Shelving, Only, Fetches}
+use Rattle.m3_image_commands.proofs.FetchLemmas.{Rises, Among, Follows, joined, rises, fetches_on, fetches_as, fetches_err}
+use Rattle.m3_source_commands.specs.Texts.{IsNext}
 use Rattle.m3_source_commands.specs.SourceCommands.{sources_cap, source_cap, total, AreRead, OfFiles}
 
 -- so many files were read, and so many bytes are left for the others
@@ -48,10 +50,43 @@ pub count_more : (texts : List (List ℕ)) (text : List ℕ) (k : ℕ) → lengt
 count_more texts text k e = let h : length (texts ++ text ∷ []) ≡ length texts + 1 = length-append texts (text ∷ []) in omega arith
 
 -- the file that comes next
-pub next_of : (held : Option Files) (files texts : List (List ℕ)) (name : List ℕ) (left cap : ℕ) → AreRead held files texts → slice_get files (length texts) ≡ Some name → left ≡ sources_cap - total texts → cap ≡ min left source_cap → Among (Only name cap) (OfFiles held files)
-next_of held files texts name left cap r e l c n k o = record {
+pub next_of : (held : Option Files) (files texts : List (List ℕ)) (name : List ℕ) (left : ℕ) → AreRead held files texts → slice_get files (length texts) ≡ Some name → left ≡ sources_cap - total texts → Among (Only name (min left source_cap)) (OfFiles held files)
+next_of held files texts name left r e l n k o = record {
   texts = texts;
   read = r;
   next = e ∙ ap (λ (x : List ℕ). Some x) (sym o.0);
-  left = o.1 ∙ c ∙ ap (λ (x : ℕ). min x source_cap) l;
+  left = o.1 ∙ ap (λ (x : ℕ). min x source_cap) l;
+}
+
+held_now : (a b : Option Files) (name text : List ℕ) → a ≡ b → IfSome a (λ all. get all name ≡ Some text) → IfSome b (λ all. get all name ≡ Some text)
+held_now a b name text e h = subst (λ o. IfSome o (λ all. get all name ≡ Some text)) e h
+
+-- one more was read
+pub reading_more : {A : Type 0} (a b : Shelving) (files texts after : List (List ℕ)) (name : List ℕ) (k left rest : ℕ) (result : Result A Refusal) → Reading a files texts k left → Follows a b → Fetches b (Only name (min left source_cap)) result → slice_get files k ≡ Some name → IsNext b.held.0 name left texts after rest → Reading (joined a b) files after (k + 1) rest
+reading_more a b files texts after name k left rest result r f g e n =
+    let at : slice_get files (length texts) ≡ Some name = ap (λ (x : ℕ). slice_get files x) r.count ∙ e in
+    let before : b.held.0 ≡ a.held.0 = sym f.held ∙ r.kept.held in
+    record {
+      kept = rises (fetches_on a b f r.kept (Only name (min left source_cap)) result g);
+      read = subst (λ (ts : List (List ℕ)). AreRead a.held.0 files ts) (sym n.added) (read_more a.held.0 files texts name n.text r.read at (held_now b.held.0 a.held.0 name n.text before n.read));
+      count = ap (λ (ts : List (List ℕ)). length ts) n.added ∙ count_more texts n.text k r.count;
+      rest = n.taken ∙ left_more texts n.text left r.rest ∙ ap (λ (ts : List (List ℕ)). sources_cap - total ts) (sym n.added);
+    }
+
+-- the next can't be read
+pub reading_failed : {A B : Type 0} (a b : Shelving) (files texts : List (List ℕ)) (name : List ℕ) (k left : ℕ) (r : Refusal) → Reading a files texts k left → Follows a b → Fetches {A = A} b (Only name (min left source_cap)) (Err r) → slice_get files k ≡ Some name → Fetches {A = B} (joined a b) (OfFiles a.held.0 files) (Err r)
+reading_failed {A} {B} a b files texts name k left refusal r f g e =
+    let at : slice_get files (length texts) ≡ Some name = ap (λ (x : ℕ). slice_get files x) r.count ∙ e in
+    let whole : Fetches {A = A} (joined a b) (Only name (min left source_cap)) (Err refusal) = fetches_on a b f r.kept (Only name (min left source_cap)) (Err refusal) g in
+    fetches_err (fetches_as (next_of a.held.0 files texts name left r.read at r.rest) whole)
+
+-- all were read
+pub reading_done : {A : Type 0} (a : Shelving) (files texts : List (List ℕ)) (k left : ℕ) (R : List ℕ → ℕ → Type 0) (x : A) → Reading a files texts k left → Fetches a R (Ok x)
+reading_done a files texts k left R x r = record {
+  held = r.kept.held;
+  faults = r.kept.faults;
+  store_faults = r.kept.store_faults;
+  absences = r.kept.absences;
+  excesses = r.kept.excesses;
+  unfetched = tt;
 }

@@ -1,7 +1,8 @@
 //! The FILEs of a command.
-ghost use Rattle.std.specs.Prelude.{◌≡◌, [], ◌∷◌, ◌++◌, OnOk, map};
-ghost use Rattle.m3_image_commands.specs.Statuses.{Fetches};
-ghost use Rattle.m3_source_commands.specs.SourceCommands.{OfFiles};
+ghost use Rattle.std.specs.Prelude.{◌≡◌, [], ◌∷◌, ◌++◌, OnOk, IfOk, map, min};
+ghost use Rattle.m3_image_commands.specs.Statuses.{Fetches, Only};
+ghost use Rattle.m3_source_commands.specs.SourceCommands.{OfFiles, source_cap};
+ghost use Rattle.m3_source_commands.specs.Texts.{texts_of, IsNext};
 
 use m3_base::{Bytes, NoMemory, Source};
 use m3_image_commands::{Refusal, fetch};
@@ -42,6 +43,33 @@ impl<'a> Sources<'a> {
     }
 }
 
+/// Fetches a FILE behind the others, within its cap and what is left for all, and gives what is left
+/// then.
+fn fetch_next<'a, F: Shelf>(
+    alloc: Global,
+    shelf: &mut F,
+    name: &'a str,
+    left: u64,
+    sources: &mut Sources<'a>,
+) -> Result<u64, Refusal<'a>>
+    ensures fetches { Fetches (record {
+      held = (F.held shelf.old, F.held shelf.new);
+      faults = (F.faults shelf.old, F.faults shelf.new);
+      store_faults = (F.store_faults shelf.old, F.store_faults shelf.new);
+      absences = (F.absences shelf.old, F.absences shelf.new);
+      excesses = (F.excesses shelf.old, F.excesses shelf.new);
+    }) (Only name.now (min left source_cap)) result }
+    ensures read { IfOk result (IsNext (F.held shelf.old) name.now left (texts_of sources.old) (texts_of sources.new)) }
+{
+    let mut text = Vec::new(alloc);
+    fetch(alloc, shelf, name, left.min(SOURCE_CAP), &mut text)?;
+    let rest = left.saturating_sub(text.len() as u64);
+    match sources.add(name, text) {
+        Ok(()) => Ok(rest),
+        Err(_) => Err(Refusal::NO_MEMORY),
+    }
+}
+
 /// Fetches the FILEs, each within its cap and what is left for all.
 pub fn fetch_sources<'a, F: Shelf>(
     alloc: Global,
@@ -59,12 +87,7 @@ pub fn fetch_sources<'a, F: Shelf>(
     let mut sources = Sources::new(alloc);
     let mut left = SOURCES_CAP;
     'files: for name in files {
-        let mut text = Vec::new(alloc);
-        fetch(alloc, shelf, *name, left.min(SOURCE_CAP), &mut text)?;
-        left = left.saturating_sub(text.len() as u64);
-        if sources.add(*name, text).is_err() {
-            return Err(Refusal::NO_MEMORY);
-        }
+        left = fetch_next(alloc, shelf, *name, left, &mut sources)?;
     }
     Ok(sources)
 }

@@ -11,7 +11,7 @@ use Rattle.m3_ports.specs.Files.{Files, IsNotHeld, IsHeldOver}
 use Rattle.m3_build.specs.Terms.{Term, outcome_of}
 use Rattle.m3_build.specs.PlainForm.{IsPlain}
 use Rattle.m3_image_commands.specs.Statuses.{CountRose}
-use Rattle.m3c.specs.Command.{Call, IsSilent, IsRead, Ran, Answers, AnswersOther, IsOther, end_status, Promises, file_cap}
+use Rattle.m3c.specs.Command.{Call, IsSilent, IsRead, Ran, Answers, AnswersOther, of_words, of_text, IsOther, end_status, Promises, file_cap}
 
 or_parts : (a b : Bool) → (a || b) ≡ true → (a ≡ true) ⊎ (b ≡ true)
 or_parts true b e = inl refl
@@ -104,8 +104,12 @@ not_plain call files name text puts f h g p (inr n) =
     let same : text ≡ n.text = same_text call files name text n.name n.text f h g (record { named = n.named; short = n.short; held = n.told }) in
     n.other puts (subst (λ x. IsPlain x puts) same p)
 
+is_other : (call : Call) (status : ℕ) → AnswersOther call status → IsOther call.file call.shelf.held.0
+is_other call status (of_words s none commands) = inl none
+is_other call status (of_text name s result named text carried told) = inr text
+
 pub other_promised : (call : Call) (status : ℕ) → AnswersOther call status → Promises call status
 other_promised call status answers = record {
   table = inr answers;
-  complete = λ files name text puts f h g short p a b c. absurd (not_plain call files name text puts f h g p answers.other);
+  complete = λ files name text puts f h g short p a b c. absurd (not_plain call files name text puts f h g p (is_other call status answers));
 }

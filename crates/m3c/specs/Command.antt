@@ -1,6 +1,6 @@
 -- What the command answers: a row for each status, over what the words say, what the shelf tells that it
 -- holds, which counts rose, and what the sinks took.
-use Rattle.std.specs.Prelude.{ℕ, ◌≡◌, ◌≤◌, ◌==◌, ◌&&◌, ◌⊎◌, Bool, false, not, if◌then◌else◌, Option, None, Some, IfSome, List, [], ◌∷◌, ◌++◌, length, codes, decimal, IsTrue}
+use Rattle.std.specs.Prelude.{ℕ, ◌≡◌, ◌≤◌, ◌==◌, ◌&&◌, ◌⊎◌, Bool, false, not, if◌then◌else◌, Option, None, Some, IfSome, Result, List, [], ◌∷◌, ◌++◌, length, codes, decimal, IsTrue}
 use Rattle.std.specs.List.{list_any}
 use Rattle.std.specs.Str.{bytes_eq}
 use Rattle.std.specs.FinMap.{get}
@@ -13,8 +13,10 @@ use Rattle.m3_isa.specs.declared.instructions.Instr.{Instr}
 use Rattle.m3_build.specs.Terms.{Term, output_of, points_of, outcome_of}
 use Rattle.m3_build.specs.PlainForm.{IsPlain}
 use Rattle.m3_build.specs.Machine.{Puts}
-use Rattle.m3_image_commands.specs.Statuses.{Shelving, Putting, CountRose, Took}
-use Rattle.m3_source_commands.specs.Orders.{Commands}
+use Rattle.m3_image_commands.specs.declared.answers.Answer.{Answer}
+use Rattle.m3_image_commands.specs.declared.answers.Refusal.{Refusal}
+use Rattle.m3_image_commands.specs.Statuses.{Shelving, Putting, CountRose, Took, Tells}
+use Rattle.m3_source_commands.specs.Orders.{exec, CarriesOut, Commands}
 
 -- ---- the words
 
@@ -135,10 +137,11 @@ IsComplete call status =
     → ¬ CountRose call.shelf.faults → ¬ CountRose call.out.faults → ¬ CountRose call.err.faults
     → ((status ≡ end_status (outcome_of puts)) × Ran call (outcome_of puts)) ⊎ ((status ≡ 5) × IsSilent call)
 
--- any other command: each status by its cause
-pub record AnswersOther (call : Call) (status : ℕ) : Type 0 where
-  pub other : IsOther call.file call.shelf.held.0
-  pub commands : Commands call.shelf call.out call.err call.image status
+-- any other command than exec FILE; or exec FILE with a text that isn't in the plain form
+pub data AnswersOther (call : Call) : ℕ → Type 0 where
+  of_words : (status : ℕ) → call.file ≡ None → Commands call.shelf call.out call.err call.image status → AnswersOther call status
+  of_text : (name : List ℕ) (status : ℕ) (result : Result Answer Refusal) → call.file ≡ Some name → NotPlain call.file call.shelf.held.0
+      → CarriesOut (exec (name ∷ []) None None) call.shelf call.out call.image result → Tells call.err result status → AnswersOther call status
 
 -- the table, and completeness
 pub record Promises (call : Call) (status : ℕ) : Type 0 where

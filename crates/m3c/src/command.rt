@@ -1,13 +1,14 @@
 // The command: its words, its files and its answer.
 
-ghost use Rattle.std.specs.Prelude.{◌≡◌, ◌+◌, ◌≤◌, ◌++◌, [], ◌⊎◌, ℕ, List, Option, Some, None, Result, length, codes, map, string_bytes, vec_len, vec_capacity, IfOk, MatchOption, MatchResult, IsErrOf};
+ghost use Rattle.std.specs.Prelude.{◌≡◌, ◌+◌, ◌≤◌, ◌++◌, [], ◌⊎◌, ℕ, List, Option, Some, None, Result, length, codes, map, string_bytes, vec_len, vec_capacity, IfOk, IfErr, MatchOption, MatchResult, IsErrOf};
 ghost use Rattle.m3_base.specs.declared.outcomes.Outcome.TheVariants.{Done, Fault};
 ghost use Rattle.m3_base.specs.declared.outcomes.FaultKind.TheVariants.{Overflow};
 ghost use Rattle.m3_ports.specs.Counts.{Rose};
 ghost use Rattle.m3_ports.specs.declared.shelves.ShelfFault.TheVariants.{Absent, TooLong, Failed, NoMemory};
 ghost use Rattle.m3_build.specs.Terms.{Term};
 ghost use Rattle.m3_build.specs.PlainForm.{IsPlain};
-ghost use Rattle.m3_image_commands.specs.Statuses.{Commands, Took};
+ghost use Rattle.m3_image_commands.specs.Statuses.{Took};
+ghost use Rattle.m3_source_commands.specs.Orders.{Commands};
 ghost use Rattle.m3c.specs.Command.{file_of, is_name, Answers, IsOther, NotPlain, Promises};
 ghost use Rattle.m3c.specs.Compiled.{Compiles, refusal, refusal_status};
 
@@ -79,6 +80,7 @@ fn other_command<F: Shelf, O: Sink, E: Sink>(
     err: &mut E,
     image: &mut Vec<u8>,
 ) -> u8
+    requires { image.old.items ≡ [] }
     ensures { Commands (record {
       held = (F.held shelf.old, F.held shelf.new);
       faults = (F.faults shelf.old, F.faults shelf.new);
@@ -195,6 +197,7 @@ fn execute<F: Shelf, O: Sink>(
       image = [];
     }) status) (λ text. NotPlain (Some name.now) (F.held shelf.old)) }
     ensures held { F.held shelf.new ≡ F.held shelf.old }
+    ensures silent { IfErr result (λ text. (O.taken out.new ≡ O.taken out.old) × (O.faults out.new ≡ O.faults out.old)) }
 {
     let mut text = Vec::new(alloc);
     if let Err(fault) = shelf.fetch(alloc, name, FILE_CAP, &mut text) {
