@@ -90,3 +90,8 @@ reading_done a files texts k left R x r = record {
   excesses = r.kept.excesses;
   unfetched = tt;
 }
+
+-- none was read yet
+pub reading_start : (a : Shelving) (files texts : List (List ℕ)) → texts ≡ [] → Rises a → Reading a files texts 0 sources_cap
+reading_start a files texts e k =
+    subst (λ (ts : List (List ℕ)). Reading a files ts 0 sources_cap) (sym e) (record { kept = k; read = none_read a.held.0 files; count = refl; rest = refl })

@@ -4,7 +4,7 @@ ghost use Rattle.std.specs.Option.{option_map};
 ghost use Rattle.m3_image.specs.Images.{read_of};
 ghost use Rattle.m3_image_commands.specs.declared.answers.Answer.{Answer as AnswerValue};
 ghost use Rattle.m3_image_commands.specs.declared.answers.Refusal.{Refusal as RefusalValue};
-ghost use Rattle.m3_image_commands.specs.Statuses.{Tells};
+ghost use Rattle.m3_image_commands.specs.Statuses.{LacksMemory, LacksOutput, Tells};
 ghost use Rattle.m3_source_commands.specs.SourceCommands.{Builds, Execs, ExecsTexts, RefusesSources, Stores};
 ghost use Rattle.m3_source_commands.specs.Orders.{CarriesOut, Commands, order_of};
 
@@ -36,8 +36,18 @@ fn store_image<F: Shelf>(
 {
     match shelf.store(alloc, name, image) {
         Ok(()) => Ok(Answer::silent(alloc)),
-        Err(ShelfFault::NoMemory) => Err(Refusal::NO_MEMORY),
-        Err(_) => Err(Refusal::WRITE_FAULT),
+        Err(fault) => Err(store_refusal(fault)),
+    }
+}
+
+/// The refusal of a store that failed so.
+fn store_refusal(fault: ShelfFault) -> Refusal<'static>
+    ensures no_memory { fault ≡ ShelfFault.NoMemory → LacksMemory result }
+    ensures others { (fault ≡ ShelfFault.NoMemory → ⊥) → LacksOutput result }
+{
+    match fault {
+        ShelfFault::NoMemory => Refusal::NO_MEMORY,
+        _ => Refusal::WRITE_FAULT,
     }
 }
 

@@ -1,7 +1,6 @@
 //! From sources to the bytes of an image.
-ghost use Rattle.std.specs.Prelude.{◌≡◌, ◌<◌, true, length, All, IfOk, IfErr, IsOk};
+ghost use Rattle.std.specs.Prelude.{◌≡◌, ◌<◌, ℕ, List, true, length, All, IfOk, IfErr, IsOk};
 ghost use Rattle.m3_image.specs.Images.{read_of};
-ghost use Rattle.m3_image_commands.specs.Statuses.{RefusesBy};
 ghost use Rattle.m3_source_commands.specs.SourceCommands.{RefusesSources};
 
 use bumpalo::Bump;
@@ -34,7 +33,7 @@ fn refuse(
     sources: &[Source<'_>],
     refused: Refused,
 ) -> Result<Answer, Refusal<'static>>
-    ensures { RefusesBy 1 result }
+    ensures { (switches : List ℕ) → RefusesSources switches result }
 {
     match refused {
         Refused::NoMemory => Err(Refusal::NO_MEMORY),
@@ -87,6 +86,13 @@ fn image_of<'a>(alloc: Global, arena: &'a Bump, core: Core<'a>) -> Result<Vec<u8
     }
 }
 
+/// The schedule that the lines of a switch file say.
+fn schedule_in(alloc: Global, switches: &[u8]) -> Step<'static, Vec<Entry>>
+    ensures { IfErr result (RefusesSources switches.now) }
+{
+    schedule_of(alloc, switches)
+}
+
 /// The image of a program, and the schedule of a switch file, whose lines are read once the sources
 /// are accepted.
 pub fn compile(
@@ -109,7 +115,7 @@ pub fn compile(
         Ok(core) => core,
         Err(refused) => return Err(refuse(alloc, sources, refused)),
     };
-    let schedule = schedule_of(alloc, switches)?;
+    let schedule = schedule_in(alloc, switches)?;
     match image_of(alloc, arena, core) {
         Ok(image) => Ok((image, schedule)),
         Err(_) => Err(Err(Refusal::NO_MEMORY)),

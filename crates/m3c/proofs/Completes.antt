@@ -11,6 +11,7 @@ use Rattle.m3_ports.specs.Files.{Files, IsNotHeld, IsHeldOver}
 use Rattle.m3_build.specs.Terms.{Term, outcome_of}
 use Rattle.m3_build.specs.PlainForm.{IsPlain}
 use Rattle.m3_image_commands.specs.Statuses.{CountRose}
+use Rattle.m3_source_commands.specs.Orders.{Commands}
 use Rattle.m3c.specs.Command.{Call, IsSilent, IsRead, Ran, Answers, AnswersOther, of_words, of_text, IsOther, end_status, Promises, file_cap}
 
 or_parts : (a b : Bool) → (a || b) ≡ true → (a ≡ true) ⊎ (b ≡ true)
@@ -113,3 +114,6 @@ other_promised call status answers = record {
   table = inr answers;
   complete = λ files name text puts f h g short p a b c. absurd (not_plain call files name text puts f h g p (is_other call status answers));
 }
+
+pub words_promised : (call : Call) (status : ℕ) → call.file ≡ None → Commands call.shelf call.out call.err call.image status → Promises call status
+words_promised call status none commands = other_promised call status (of_words status none commands)

@@ -20,4 +20,4 @@ texts_from image out taken faults answer t f h =
 pub text_promised : (call : Call) (name : List ℕ) (taken : Option (List ℕ)) (faults status : ℕ) (answer : Result Answer Refusal) → call.file ≡ Some name → NotPlain call.file call.shelf.held.0 → StoresNothing call.shelf → taken ≡ call.out.taken.0 → faults ≡ call.out.faults.0 → ExecsTexts call.image [] false (after call.out taken faults) answer → Tells call.err answer status → Promises call status
 text_promised call name taken faults status answer named text s t f h told =
     other_promised call status (of_text name status answer named text
-    (execs_fetched call.shelf call.out (name ∷ []) None None call.image answer [] false refl s refl (texts_from call.image call.out taken faults answer t f h)) told)
+    (execs_fetched call.shelf call.out (name ∷ []) None None call.image answer call.shelf.held.0 [] refl s refl (texts_from call.image call.out taken faults answer t f h)) told)

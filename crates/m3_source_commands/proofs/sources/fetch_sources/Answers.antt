@@ -1,0 +1,52 @@
+use Rattle.std.proofs.Common.{◌≡◌, ℕ, List, map, refl, ap, sym, ◌∙◌, Some, arith}
+use Rattle.std.specs.Prelude.{slice_get, ◌<◌, length}
+use Rattle.m3_image_commands.specs.Statuses.{Shelving}
+use Rattle.m3_source_commands.specs.Texts.{texts_of}
+use Rattle.m3_source_commands.proofs.SourceLemmas.{reading_start, reading_more, reading_failed, reading_done}
+use Rattle.m3_source_commands.proofs.sources.fetch_sources.Goals as goal
+
+pub files-init : goal.files-init
+files-init g c = reading_start _ _ _ (ap (λ texts. map (λ text. text.items) texts) c.new-sources.ensures) (record { held = refl; faults = omega arith; store_faults = omega arith; absences = omega arith; excesses = omega arith })
+
+pub files-preserved : goal.files-preserved
+files-preserved g c =
+    let a : Shelving = record {
+      held = (g.F.Shelf.held c.args.shelf.now, g.F.Shelf.held c.files.shelf);
+      faults = (g.F.Shelf.faults c.args.shelf.now, g.F.Shelf.faults c.files.shelf);
+      store_faults = (g.F.Shelf.store_faults c.args.shelf.now, g.F.Shelf.store_faults c.files.shelf);
+      absences = (g.F.Shelf.absences c.args.shelf.now, g.F.Shelf.absences c.files.shelf);
+      excesses = (g.F.Shelf.excesses c.args.shelf.now, g.F.Shelf.excesses c.files.shelf);
+    } in
+    let b : Shelving = record {
+      held = (g.F.Shelf.held c.files.shelf, g.F.Shelf.held c.fetch_next.new.shelf);
+      faults = (g.F.Shelf.faults c.files.shelf, g.F.Shelf.faults c.fetch_next.new.shelf);
+      store_faults = (g.F.Shelf.store_faults c.files.shelf, g.F.Shelf.store_faults c.fetch_next.new.shelf);
+      absences = (g.F.Shelf.absences c.files.shelf, g.F.Shelf.absences c.fetch_next.new.shelf);
+      excesses = (g.F.Shelf.excesses c.files.shelf, g.F.Shelf.excesses c.fetch_next.new.shelf);
+    } in
+    let files : List (List ℕ) = map (λ n. n.now) c.args.files.now in
+    reading_more a b files (texts_of c.files.sources) (texts_of c.fetch_next.new.sources) c.name-item.result.now c.files.name-index c.files.left c.in_ok-fetch_next.left c.fetch_next.result
+    c.files.invariant (record { held = refl; faults = refl; store_faults = refl; absences = refl; excesses = refl }) c.fetch_next.ensures.fetches ? c.in_ok-fetch_next.ensures.read
+
+pub returns-in_err-fetch_next : goal.returns-in_err-fetch_next
+returns-in_err-fetch_next g c =
+    let a : Shelving = record {
+      held = (g.F.Shelf.held c.args.shelf.now, g.F.Shelf.held c.files.shelf);
+      faults = (g.F.Shelf.faults c.args.shelf.now, g.F.Shelf.faults c.files.shelf);
+      store_faults = (g.F.Shelf.store_faults c.args.shelf.now, g.F.Shelf.store_faults c.files.shelf);
+      absences = (g.F.Shelf.absences c.args.shelf.now, g.F.Shelf.absences c.files.shelf);
+      excesses = (g.F.Shelf.excesses c.args.shelf.now, g.F.Shelf.excesses c.files.shelf);
+    } in
+    let b : Shelving = record {
+      held = (g.F.Shelf.held c.files.shelf, g.F.Shelf.held c.fetch_next.new.shelf);
+      faults = (g.F.Shelf.faults c.files.shelf, g.F.Shelf.faults c.fetch_next.new.shelf);
+      store_faults = (g.F.Shelf.store_faults c.files.shelf, g.F.Shelf.store_faults c.fetch_next.new.shelf);
+      absences = (g.F.Shelf.absences c.files.shelf, g.F.Shelf.absences c.fetch_next.new.shelf);
+      excesses = (g.F.Shelf.excesses c.files.shelf, g.F.Shelf.excesses c.fetch_next.new.shelf);
+    } in
+    let files : List (List ℕ) = map (λ n. n.now) c.args.files.now in
+    reading_failed a b files (texts_of c.files.sources) c.name-item.result.now c.files.name-index c.files.left c.in_err-fetch_next.field-0
+    c.files.invariant (record { held = refl; faults = refl; store_faults = refl; absences = refl; excesses = refl }) c.in_err-fetch_next.ensures.fetches ?
+
+pub returns : goal.returns
+returns g c = reading_done _ _ _ _ _ _ _ c.files.invariant
