@@ -33,8 +33,15 @@ module _ (shelf : Shelving) (out : Putting) (name : List ℕ) where
     pub runs_fetched : (result : Result Answer Refusal) (bytes given text : List ℕ) (tells : Bool) → bytes ≡ image → given ≡ text → tells ≡ is_some switches → StoresNothing shelf → IsRead shelf.held.0 name image_cap image → IsGiven shelf.held.0 switches text → RunsBytes bytes given tells out result → Runs shelf out name switches input image result
     runs_fetched (Ok a) bytes given text tells b v e s r g h = record {
       held = s;
-      answer = (r, (text, g, subst (λ t. RunAnswer image text t out a.status a.line.items) e
-          (subst (λ x. RunAnswer image x tells out a.status a.line.items) v (subst (λ x. RunAnswer x given tells out a.status a.line.items) b h))));
+      answer = (
+        r,
+        (
+          text,
+          g,
+          subst (λ t. RunAnswer image text t out a.status a.line.items) e
+              (subst (λ x. RunAnswer image x tells out a.status a.line.items) v (subst (λ x. RunAnswer x given tells out a.status a.line.items) b h)),
+        ),
+      );
       refusal = tt;
     }
     runs_fetched (Err x) bytes given text tells b v e s r g h = record { held = s; answer = tt; refusal = inr h }

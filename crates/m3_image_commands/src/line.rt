@@ -115,13 +115,7 @@ fn add_plain(line: &mut Vec<u8>, text: &[u8], status: u8) -> u8
 }
 
 #[tactic(auto, using(crate::proofs::LineLemmas::fault_short))]
-fn add_fault(
-    line: &mut Vec<u8>,
-    image: &ImageView<'_>,
-    kind: FaultKind,
-    file: u32,
-    at: u32,
-) -> u8
+fn add_fault(line: &mut Vec<u8>, image: &ImageView<'_>, kind: FaultKind, file: u32, at: u32) -> u8
     requires empty { line.old.items ≡ [] }
     requires room { longest_name (image_view image.now) + 256 ≤ vec_capacity line.old }
     ensures items { line.new.items ≡ ending (image_view image.now) (Fault kind file at) }

@@ -63,9 +63,10 @@ module _ (a b : Shelving) (f : Follows a b) (k : Rises a) (name bytes : List ℕ
   before = sym f.held ∙ k.held
 
   front_on : StoresFront b name bytes → StoresFront (joined a b) name bytes
-  front_on (rose, left) =
-      (rose_on a.store_faults.0 a.store_faults.1 b.store_faults.0 b.store_faults.1 k.store_faults f.store_faults rose,
-      subst (λ (o : Option Files). IfSome o (λ old. IfSome b.held.1 (λ new. LeavesFront old new name bytes))) before left)
+  front_on (rose, left) = (
+    rose_on a.store_faults.0 a.store_faults.1 b.store_faults.0 b.store_faults.1 k.store_faults f.store_faults rose,
+    subst (λ (o : Option Files). IfSome o (λ old. IfSome b.held.1 (λ new. LeavesFront old new name bytes))) before left,
+  )
 
   refused_on : (r : Refusal) → (LacksMemory r × StoresNothing b) ⊎ (LacksOutput r × StoresFront b name bytes) → (LacksMemory r × StoresNothing (joined a b)) ⊎ (LacksOutput r × StoresFront (joined a b) name bytes)
   refused_on r (inl l) = inl (l.0, l.1 ∙ before)

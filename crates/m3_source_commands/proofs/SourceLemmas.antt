@@ -25,9 +25,9 @@ last_or [] x zero y e = inr (refl, same_Some x y e)
 last_or [] x (suc k) y e = absurd (none-some y e)
 last_or (z ∷ xs) x zero y e = inl e
 last_or (z ∷ xs) x (suc k) y e = elim (last_or xs x k y e) [
-    | inl h ↦ inl h
-    | inr h ↦ inr (ap suc h.0, h.1)
-  ]
+  | inl h ↦ inl h
+  | inr h ↦ inr (ap suc h.0, h.1)
+]
 
 held_at : (held : Option Files) (name name' text text' : List ℕ) → name ≡ name' → text ≡ text' → IfSome held (λ all. get all name ≡ Some text) → IfSome held (λ all. get all name' ≡ Some text')
 held_at held name name' text text' n t h =
@@ -35,9 +35,9 @@ held_at held name name' text text' n t h =
 
 pub read_more : (held : Option Files) (files texts : List (List ℕ)) (name text : List ℕ) → AreRead held files texts → slice_get files (length texts) ≡ Some name → IfSome held (λ all. get all name ≡ Some text) → AreRead held files (texts ++ text ∷ [])
 read_more held files texts name text h e r k n t f g = elim (last_or texts text k t g) [
-    | inl w ↦ h k n t f w
-    | inr w ↦ held_at held name n text t (same_Some name n (sym e ∙ ap (λ (x : ℕ). slice_get files x) (sym w.0) ∙ f)) w.1 r
-  ]
+  | inl w ↦ h k n t f w
+  | inr w ↦ held_at held name n text t (same_Some name n (sym e ∙ ap (λ (x : ℕ). slice_get files x) (sym w.0) ∙ f)) w.1 r
+]
 
 total_more : (texts : List (List ℕ)) (text : List ℕ) → total (texts ++ text ∷ []) ≡ total texts + length text
 total_more [] text = omega arith

@@ -174,9 +174,9 @@ pub fn exec_text<O: Sink, E: Sink>(
       faults = (O.faults out.old, O.faults out.new);
     }) answer
         × Tells (record {
-      taken = (E.taken err.old, E.taken err.new);
-      faults = (E.faults err.old, E.faults err.new);
-    }) answer result }
+          taken = (E.taken err.old, E.taken err.new);
+          faults = (E.faults err.old, E.faults err.new);
+        }) answer result }
 {
     let mut sources = Sources::new(alloc);
     if sources.add(name, text).is_err() {
