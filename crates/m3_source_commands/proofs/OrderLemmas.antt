@@ -15,6 +15,7 @@ use Rattle.m3_image_commands.specs.declared.answers.Refusal.{Refusal}
 use Rattle.m3_image_commands.specs.Statuses.{Shelving, Putting, StoresNothing, StoresFront, PutsNothing, RefusesBy, Fetches, IsGiven, LacksMemory, LacksOutput}
 use Rattle.m3_image_commands.proofs.FetchLemmas.{Follows, Rises, joined}
 use Rattle.m3_image_commands.specs.ImageCommands.{ImageAnswer, image_refused, ended, RunsImage, IsNoSchedule}
+use Rattle.m3_source_commands.specs.Orders.{Order, CarriesOut}
 use Rattle.m3_source_commands.specs.SourceCommands.{OfFiles, RefusesSources, Stores, BuildAnswer, not_built, stored, Builds, ExecAnswer, not_run, no_schedule, run_ended, ExecsTexts, OfExec, Execs}
 
 pub never_both : {A E : Type 0} (r : Result A E) → IsOk r → IsErr r → ⊥
@@ -122,5 +123,23 @@ module _ (shelf : Shelving) (out : Putting) (files : List (List ℕ)) (switches 
   execs_fetched (Ok a) held text e s g h = record { held = s; answer = (text, given_now held shelf.held.0 switches text e g, h); refusal = tt }
   execs_fetched (Err r) held text e s g h = record { held = s; answer = tt; refusal = inr h }
 
+  pub execs_told : (result : Result Answer Refusal) (held : Option Files) (text : List ℕ) (told : Bool) → told ≡ is_some switches → held ≡ shelf.held.0 → StoresNothing shelf → IsGiven held switches text → ExecsTexts image text told out result → Execs shelf out files switches input image result
+  execs_told result held text told t e s g h = execs_fetched result held text e s g (subst (λ (x : Bool). ExecsTexts image text x out result) t h)
+
   pub execs_unfetched : {A : Type 0} (r : Refusal) → PutsNothing out → Fetches {A = A} shelf (OfExec shelf.held.0 files switches input) (Err r) → Execs shelf out files switches input image (Err r)
   execs_unfetched r p f = record { held = f.held; answer = tt; refusal = inl (f.unfetched, p) }
+
+-- without switches
+pub execs_plain : (image : List ℕ) (out : Putting) (result : Result Answer Refusal) (text : List ℕ) (told : Bool) → text ≡ [] → told ≡ false → ExecsTexts image text told out result → ExecsTexts image [] false out result
+execs_plain image out result text told e t h =
+    subst (λ (x : Bool). ExecsTexts image [] x out result) t (subst (λ (x : List ℕ). ExecsTexts image x told out result) e h)
+
+-- the files as they were handed on
+pub builds_of : (shelf : Shelving) (name : List ℕ) (files given : List (List ℕ)) (image : List ℕ) (result : Result Answer Refusal) → given ≡ files → Builds shelf name given image result → Builds shelf name files image result
+builds_of shelf name files given image result e h = subst (λ (f : List (List ℕ)). Builds shelf name f image result) e h
+
+pub execs_of : (shelf : Shelving) (out : Putting) (files given : List (List ℕ)) (switches input : Option (List ℕ)) (image : List ℕ) (result : Result Answer Refusal) → given ≡ files → Execs shelf out given switches input image result → Execs shelf out files switches input image result
+execs_of shelf out files given switches input image result e h = subst (λ (f : List (List ℕ)). Execs shelf out f switches input image result) e h
+
+pub carried : (order done : Order) (shelf : Shelving) (out : Putting) (image : List ℕ) (result : Result Answer Refusal) → order ≡ done → CarriesOut done shelf out image result → CarriesOut order shelf out image result
+carried order done shelf out image result e h = subst (λ (o : Order). CarriesOut o shelf out image result) (sym e) h

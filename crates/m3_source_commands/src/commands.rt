@@ -159,6 +159,37 @@ fn no_options() -> RunOptions<'static>
     }
 }
 
+/// The files of a run where none is named.
+fn no_files(alloc: Global) -> RunFiles
+    ensures { result.switches.items ≡ [] }
+{
+    RunFiles {
+        switches: Vec::new(alloc),
+        input: Vec::new(alloc),
+    }
+}
+
+/// Runs the program of one file, without options.
+fn exec_one<O: Sink>(
+    alloc: Global,
+    name: &str,
+    text: Vec<u8>,
+    out: &mut O,
+    image: &mut Vec<u8>,
+) -> Result<Answer, Refusal<'static>>
+    ensures { ExecsTexts image.new.items [] false (record {
+      taken = (O.taken out.old, O.taken out.new);
+      faults = (O.faults out.old, O.faults out.new);
+    }) result }
+{
+    let mut sources = Sources::new(alloc);
+    if sources.add(name, text).is_err() {
+        return Err(Refusal::NO_MEMORY);
+    }
+    let given = no_files(alloc);
+    exec_sources(alloc, &sources, &given, no_options(), out, image)
+}
+
 /// Runs the program of one file, without options: `exec FILE` where its text is there already. Output
 /// goes to `out`, one line to `err`, and the bytes of the image to `image`. Gives the status.
 pub fn exec_text<O: Sink, E: Sink>(
@@ -178,15 +209,7 @@ pub fn exec_text<O: Sink, E: Sink>(
           faults = (E.faults err.old, E.faults err.new);
         }) answer result }
 {
-    let mut sources = Sources::new(alloc);
-    if sources.add(name, text).is_err() {
-        return tell(err, Err(Refusal::NO_MEMORY));
-    }
-    let given = RunFiles {
-        switches: Vec::new(alloc),
-        input: Vec::new(alloc),
-    };
-    let answer = exec_sources(alloc, &sources, &given, no_options(), out, image);
+    let answer = exec_one(alloc, name, text, out, image);
     tell(err, answer)
 }
 
