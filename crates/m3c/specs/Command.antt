@@ -15,7 +15,8 @@ use Rattle.m3_build.specs.PlainForm.{IsPlain}
 use Rattle.m3_build.specs.Machine.{Puts}
 use Rattle.m3_image_commands.specs.declared.answers.Answer.{Answer}
 use Rattle.m3_image_commands.specs.declared.answers.Refusal.{Refusal}
-use Rattle.m3_image_commands.specs.Statuses.{Shelving, Putting, CountRose, Took, Tells}
+use Rattle.m3_image_commands.specs.Statuses.{Shelving, Putting, Tells}
+pub use Rattle.m3_image_commands.specs.Statuses.{CountRose, Took}
 use Rattle.m3_source_commands.specs.Orders.{exec, CarriesOut, Commands}
 
 -- ---- the words
