@@ -6,7 +6,7 @@ use Rattle.std.proofs.lemmas.Option.{none-some, same_Some}
 use Rattle.m3_ports.specs.Files.{Files}
 use Rattle.m3_image_commands.specs.declared.answers.Refusal.{Refusal}
 use Rattle.m3_image_commands.specs.Statuses.{Shelving, Only, Fetches}
-use Rattle.m3_image_commands.proofs.FetchLemmas.{Rises, Among, Follows, joined, rises, fetches_on, fetches_as, fetches_err}
+use Rattle.m3_image_commands.proofs.FetchLemmas.{Rises, Among, Follows, joined, rises, fetches_on, fails_as}
 use Rattle.m3_source_commands.specs.Texts.{IsNext}
 use Rattle.m3_source_commands.specs.SourceCommands.{sources_cap, source_cap, total, AreRead, OfFiles}
 
@@ -78,7 +78,7 @@ pub reading_failed : {A B : Type 0} (a b : Shelving) (files texts : List (List �
 reading_failed {A} {B} a b files texts name k left refusal r f g e =
     let at : slice_get files (length texts) ≡ Some name = ap (λ (x : ℕ). slice_get files x) r.count ∙ e in
     let whole : Fetches {A = A} (joined a b) (Only name (min left source_cap)) (Err refusal) = fetches_on a b f r.kept (Only name (min left source_cap)) (Err refusal) g in
-    fetches_err (fetches_as (next_of a.held.0 files texts name left r.read at r.rest) whole)
+    fails_as (next_of a.held.0 files texts name left r.read at r.rest) whole
 
 -- all were read
 pub reading_done : {A : Type 0} (a : Shelving) (files texts : List (List ℕ)) (k left : ℕ) (R : List ℕ → ℕ → Type 0) (x : A) → Reading a files texts k left → Fetches a R (Ok x)

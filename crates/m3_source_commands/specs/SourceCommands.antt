@@ -1,5 +1,5 @@
 -- What `build`, `exec` and `bench` answer.
-use Rattle.std.specs.Prelude.{ℕ, ◌≡◌, ◌-◌, ◌⊎◌, min, Bool, Option, Some, IfSome, is_some, Result, Ok, IfOk, IfErr, IsOk, MatchResult, List, [], length, map, sum, slice_get}
+use Rattle.std.specs.Prelude.{ℕ, ◌≡◌, ◌+◌, ◌-◌, ◌⊎◌, min, Bool, Option, Some, IfSome, is_some, Result, Ok, IfOk, IfErr, IsOk, MatchResult, List, [], ◌∷◌, length, slice_get}
 use Rattle.std.specs.FinMap.{get}
 use Rattle.m3_ports.specs.Files.{Files}
 use Rattle.m3_image.specs.Images.{read_of}
@@ -20,7 +20,8 @@ abbrev pub sources_cap : ℕ
 sources_cap = 8388608
 
 abbrev pub total : List (List ℕ) → ℕ
-total texts = sum (map length texts)
+total [] = 0
+total (text ∷ texts) = length text + total texts
 
 -- the texts of the first files, where the shelf tells what it holds
 abbrev pub AreRead : Option Files → List (List ℕ) → List (List ℕ) → Type 0

@@ -113,8 +113,14 @@ fn exec_files<'a, F: Shelf, O: Sink>(
       faults = (O.faults out.old, O.faults out.new);
     }) (map (λ n. n.now) files.entry.now) (option_map (λ n. n.now) options.entry.switches) (option_map (λ n. n.now) options.entry.input) image.new.items result }
 {
-    let sources = fetch_sources(alloc, shelf, files)?;
-    let given = fetch_run_files(alloc, shelf, options)?;
+    let sources = match fetch_sources(alloc, shelf, files) {
+        Ok(sources) => sources,
+        Err(refusal) => return Err(refusal),
+    };
+    let given = match fetch_run_files(alloc, shelf, options) {
+        Ok(given) => given,
+        Err(refusal) => return Err(refusal),
+    };
     exec_sources(alloc, &sources, &given, options, out, image)
 }
 

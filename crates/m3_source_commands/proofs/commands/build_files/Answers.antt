@@ -23,5 +23,5 @@ returns-in-Ok g c =
     builds_stored _ c.args.name.now (map (λ n. n.now) c.args.files.now) c.compile_into.new.image.items c.deref-in-Ok.result.now c.store_image.result c.deref-in-Ok.ensures.value
     (stores_on a b (record { held = refl; faults = refl; store_faults = refl; absences = refl; excesses = refl }) (rises c.fetch_sources.ensures) c.args.name.now c.deref-in-Ok.result.now c.store_image.result c.store_image.ensures) c.in-Ok.ensures.ok
 
-pub returns-in-Err : goal.returns-in-Err
-returns-in-Err g c = builds_refused _ c.args.name.now (map (λ n. n.now) c.args.files.now) c.compile_into.new.image.items c.in-Err.answer c.in-Err.ensures.err c.in_ok-sources.ensures.held
+pub returns : goal.returns
+returns g c = builds_refused _ c.args.name.now (map (λ n. n.now) c.args.files.now) c.compile_into.new.image.items c.in-Err.answer c.in-Err.ensures.err c.in_ok-sources.ensures.held

@@ -25,11 +25,11 @@ files-preserved g c =
       excesses = (g.F.Shelf.excesses c.files.shelf, g.F.Shelf.excesses c.fetch_next.new.shelf);
     } in
     let files : List (List ℕ) = map (λ n. n.now) c.args.files.now in
-    reading_more a b files (texts_of c.files.sources) (texts_of c.fetch_next.new.sources) c.name-item.result.now c.files.name-index c.files.left c.in_ok-fetch_next.left c.fetch_next.result
-    c.files.invariant (record { held = refl; faults = refl; store_faults = refl; absences = refl; excesses = refl }) c.fetch_next.ensures.fetches ? c.in_ok-fetch_next.ensures.read
+    reading_more a b files (texts_of c.files.sources) (texts_of c.fetch_next.new.sources) c.name-item.result.now c.files.name-index c.files.left c.in_ok-left.left c.fetch_next.result
+    c.files.invariant (record { held = refl; faults = refl; store_faults = refl; absences = refl; excesses = refl }) c.fetch_next.ensures.fetches ? c.in_ok-left.ensures.read
 
-pub returns-in_err-fetch_next : goal.returns-in_err-fetch_next
-returns-in_err-fetch_next g c =
+pub returns-in_err-left : goal.returns-in_err-left
+returns-in_err-left g c =
     let a : Shelving = record {
       held = (g.F.Shelf.held c.args.shelf.now, g.F.Shelf.held c.files.shelf);
       faults = (g.F.Shelf.faults c.args.shelf.now, g.F.Shelf.faults c.files.shelf);
@@ -45,8 +45,8 @@ returns-in_err-fetch_next g c =
       excesses = (g.F.Shelf.excesses c.files.shelf, g.F.Shelf.excesses c.fetch_next.new.shelf);
     } in
     let files : List (List ℕ) = map (λ n. n.now) c.args.files.now in
-    reading_failed a b files (texts_of c.files.sources) c.name-item.result.now c.files.name-index c.files.left c.in_err-fetch_next.field-0
-    c.files.invariant (record { held = refl; faults = refl; store_faults = refl; absences = refl; excesses = refl }) c.in_err-fetch_next.ensures.fetches ?
+    reading_failed a b files (texts_of c.files.sources) c.name-item.result.now c.files.name-index c.files.left c.in_err-left.field-0
+    c.files.invariant (record { held = refl; faults = refl; store_faults = refl; absences = refl; excesses = refl }) c.in_err-left.ensures.fetches ?
 
 pub returns : goal.returns
 returns g c = reading_done _ _ _ _ _ _ _ c.files.invariant
