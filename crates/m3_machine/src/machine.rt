@@ -43,17 +43,23 @@ const MOST_MADE: u64 = 1 << 62;
 
 impl<'a, S: Store> Machine<'a, S> {
     /// How many points were passed since the machine was made.
-    pub fn points(&self) -> u64 {
+    pub fn points(&self) -> u64
+        ensures { result ≡ self.now.points }
+    {
         self.points
     }
 
     /// How many instructions were executed since the machine was made.
-    pub fn instructions(&self) -> u128 {
+    pub fn instructions(&self) -> u128
+        ensures { result ≡ self.now.instructions }
+    {
         self.instructions
     }
 
     /// How many collections were made since the machine was made, without one that ended in trap 9.
-    pub fn collections(&self) -> u64 {
+    pub fn collections(&self) -> u64
+        ensures { result ≡ self.now.collections }
+    {
         self.collections
     }
 

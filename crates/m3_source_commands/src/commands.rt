@@ -1,4 +1,6 @@
 //! The commands.
+ghost use Rattle.std.specs.Prelude.{◌≡◌, []};
+
 use crate::compiling::compile;
 use crate::sources::{Sources, fetch_sources, views_of, views_of_bytes};
 use m3_base::{Entry, NoMemory, Source};
@@ -156,7 +158,9 @@ fn carry_out<'a, F: Shelf, O: Sink>(
     shelf: &mut F,
     out: &mut O,
     image: &mut Vec<u8>,
-) -> Result<Answer, Refusal<'a>> {
+) -> Result<Answer, Refusal<'a>>
+    requires { image.old.items ≡ [] }
+{
     match request {
         Request::Build { image: name, files } => build_files(alloc, *name, files, shelf, image),
         Request::Run {
@@ -181,7 +185,9 @@ pub fn command<F: Shelf, O: Sink, E: Sink>(
     out: &mut O,
     err: &mut E,
     image: &mut Vec<u8>,
-) -> u8 {
+) -> u8
+    requires { image.old.items ≡ [] }
+{
     match read_words(alloc, words) {
         Ok(Some(request)) => {
             let answer = carry_out(alloc, &request, shelf, out, image);

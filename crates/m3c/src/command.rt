@@ -75,7 +75,9 @@ fn other_command<F: Shelf, O: Sink, E: Sink>(
     out: &mut O,
     err: &mut E,
     image: &mut Vec<u8>,
-) -> u8 {
+) -> u8
+    requires { image.old.items ≡ [] }
+{
     let mut texts = Vec::new(alloc);
     for word in words {
         if texts.push(word.as_str()).is_err() {
