@@ -1,6 +1,12 @@
 //! What a run may do and use.
-ghost use Rattle.std.specs.Prelude.{◌≤◌, IfSome};
+ghost use Rattle.std.specs.Prelude.{◌≡◌, ◌≤◌, IfSome};
+ghost use Rattle.std.specs.Option.{option_map};
+ghost use Rattle.clap.specs.Words.{found_of, rows_of};
+ghost use Rattle.clap.specs.Walk.{first_of};
+ghost use Rattle.m3_base.specs.Schedules.{number_after};
+ghost use Rattle.m3_command_line.specs.Orders.{bounds_in, bounds_of, number_in, value_in};
 
+use crate::words::text_of;
 use clap::ArgMatches;
 
 /// What a run may do and use: points that it may pass, words of one half of the heap and of each
@@ -72,18 +78,28 @@ impl Limits {
 
 /// The number that decimal digits say. None exactly where they are none, or another byte is among
 /// them, or the number is past 64 bits.
-pub fn number_in(digits: &[u8]) -> Option<u64> {
+pub fn number_in(digits: &[u8]) -> Option<u64>
+    ensures { result ≡ number_in digits.now }
+{
     if digits.is_empty() {
         return None;
     }
+    value_of_digits(digits)
+}
+
+/// The number that digits say. None exactly where there is another byte, or the number is past 64 bits.
+#[tactic(auto, using(crate::proofs::NumberLemmas::number_after_large), unfolding(m3_base::specs::Schedules::number_after))]
+fn value_of_digits(digits: &[u8]) -> Option<u64>
+    ensures { result ≡ number_after 0 digits.now }
+{
     let mut value: u64 = 0;
-    for digit in digits {
+    let mut rest = digits;
+    'digits: while let [digit, after @ ..] = rest {
         if !digit.is_ascii_digit() {
             return None;
         }
-        value = value
-            .checked_mul(10)?
-            .checked_add(u64::from(digit.wrapping_sub(b'0')))?;
+        value = value.checked_mul(10)?.checked_add((*digit - b'0') as u64)?;
+        rest = after;
     }
     Some(value)
 }
@@ -91,9 +107,10 @@ pub fn number_in(digits: &[u8]) -> Option<u64> {
 /// The value of an option. None exactly where it is given and no number in its range.
 fn value_of(matches: &ArgMatches<'_>, name: &str, range: Range) -> Option<u64>
     requires usual { (range.least ≤ range.usual) × (range.usual ≤ range.most) }
-    ensures { IfSome result (λ n. (range.least ≤ n) × (n ≤ range.most)) }
+    ensures value { result ≡ value_in range.least range.most range.usual (first_of name.now (rows_of (found_of matches.now))) }
+    ensures within { IfSome result (λ n. (range.least ≤ n) × (n ≤ range.most)) }
 {
-    let Some(text) = matches.get_str(name) else {
+    let Some(text) = text_of(matches, name) else {
         return Some(range.usual);
     };
     let value = number_in(text.as_bytes())?;
@@ -105,7 +122,9 @@ fn value_of(matches: &ArgMatches<'_>, name: &str, range: Range) -> Option<u64>
 }
 
 /// The limits that options give. None where one of them is no number in its range.
-pub fn limits_of(matches: &ArgMatches<'_>) -> Option<Limits> {
+pub fn limits_of(matches: &ArgMatches<'_>) -> Option<Limits>
+    ensures { option_map bounds_of result ≡ bounds_in (rows_of (found_of matches.now)) }
+{
     let points = value_of(matches, "points", POINTS)?;
     let heap = value_of(matches, "heap", HEAP)?;
     let stack = value_of(matches, "stack", STACK)?;
