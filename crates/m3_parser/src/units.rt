@@ -1,15 +1,15 @@
-ghost use Rattle.std.specs.Prelude.{◌≡◌, ◌<◌, ◌≤◌, IfOk, IfErr, OnOk, OnSome, length};
+ghost use Rattle.std.specs.Prelude.{◌≡◌, ◌<◌, ◌≤◌, IfOk, IfErr, OnOk, OnSome, length, drop};
+ghost use Rattle.m3_grammar.specs.Tokens.{IsAt};
 ghost use Rattle.m3_cursor.specs.Readers.{Follows};
 ghost use Rattle.m3_base.specs.declared.refusals.Refused.TheVariants.{Rule};
 ghost use Rattle.m3_parser.specs.Refusals.{IsRefusal};
 ghost use Rattle.m3_parser.specs.Refusals as spec;
 
-use crate::closings::first_wrong_closing;
 use bumpalo::Bump;
 use m3_base::{NoMemory, Pos, Refusal, Refused};
 use m3_cursor::{Reader, Stop, Why, name_list, names_up_to};
 use m3_statements::{block, declaration_list};
-use m3_syntax::{Import, ImportItem, Kept, Lexed, Name, Sign, Token, Unit, UnitKind, Word};
+use m3_syntax::{Import, ImportItem, Kept, Lexed, Name, Sign, Token, TokenKind, Unit, UnitKind, Word};
 use std::alloc::Global;
 
 /// How many tokens a file may have.
@@ -42,6 +42,8 @@ const TOO_MANY_TOKENS: u16 = 14;
 pub fn parse<'a>(alloc: Global, arena: &'a Bump, lexed: &Lexed<'a>) -> Result<Unit<'a>, Refused>
     ensures tokens { IfOk result (λ unit. unit.tokens ≡ length lexed.now.tokens.items) }
     ensures within_limit { OnOk result (length lexed.now.tokens.items ≤ 500000) }
+    ensures place { IfOk result (λ unit. IsAt unit.pos lexed.now.tokens.items) }
+    ensures closed { IfOk result (λ unit. unit.closing.text.now ≡ unit.name.text.now) }
     ensures refused { IfErr result (IsRefusal lexed.now.end lexed.now.tokens.items) }
 {
     let mut reader = Reader::new(alloc, arena, lexed)?;
@@ -53,16 +55,15 @@ pub fn parse<'a>(alloc: Global, arena: &'a Bump, lexed: &Lexed<'a>) -> Result<Un
     if count > MAX_TOKENS {
         return Err(too_many_tokens(lexed));
     }
+    if let Some(left) = reader.wrong_closing() {
+        return Err(wrong_closing(lexed, left));
+    }
     let mut unit = unit?;
     unit.tokens = count as u32;
-    match first_wrong_closing(&unit) {
-        Some(pos) => Err(end_name_differs(lexed, pos)),
-        None => Ok(unit),
-    }
+    Ok(unit)
 }
 
 /// What a file is refused for whose reading stopped: token 500,001 where that was taken before.
-#[tactic(auto, using(crate::proofs::RefusalLaws::refused_at))]
 fn refusal_of(lexed: &Lexed<'_>, stop: Stop) -> Refused
     ensures { IsRefusal lexed.now.end lexed.now.tokens.items result }
 {
@@ -70,35 +71,27 @@ fn refusal_of(lexed: &Lexed<'_>, stop: Stop) -> Refused
     if taken > MAX_TOKENS {
         return too_many_tokens(lexed);
     }
-    let rest = &lexed.tokens.as_slice()[taken..];
+    let rest = tokens_behind(lexed, taken);
     match stop.why {
         Why::NoMemory => Refused::NoMemory,
-        Why::Unexpected => unexpected(lexed.end, rest),
-        Why::TooDeep => refusal(lexed.end, rest, NESTING_TOO_DEEP),
+        Why::Unexpected => refused_at(lexed.end, rest, UNEXPECTED_TOKEN),
+        Why::TooDeep => refused_at(lexed.end, rest, NESTING_TOO_DEEP),
     }
 }
 
-/// The refusal of the first token, which may not stand there, or of the end of the file, which comes too
-/// early.
-fn unexpected(end: Pos, rest: &[Token<'_>]) -> Refused
-    ensures { result ≡ Rule (spec.unexpected end rest.now) }
+/// What a file is refused for whose closing name, with so many tokens left there, is another than the one
+/// that it is to be.
+fn wrong_closing(lexed: &Lexed<'_>, left: usize) -> Refused
+    ensures { IsRefusal lexed.now.end lexed.now.tokens.items result }
 {
-    if rest.is_empty() {
-        refusal(end, rest, END_OF_FILE)
-    } else {
-        refusal(end, rest, UNEXPECTED_TOKEN)
+    let taken = lexed.tokens.len().saturating_sub(left);
+    let rest = tokens_behind(lexed, taken);
+    match rest {
+        [token, ..] if matches!(token.kind, TokenKind::Ident) => {
+            refused_at(lexed.end, rest, END_NAME_DIFFERS)
+        }
+        _ => refused_at(lexed.end, rest, UNEXPECTED_TOKEN),
     }
-}
-
-fn refusal(end: Pos, rest: &[Token<'_>], rule: u16) -> Refused
-    ensures { result ≡ Rule (spec.broken rule end rest.now) }
-{
-    Refused::Rule(Refusal {
-        phase: 2,
-        unit: end.file,
-        pos: first_place(rest, end),
-        rule,
-    })
 }
 
 /// The refusal of token 500,001.
@@ -106,40 +99,44 @@ fn too_many_tokens(lexed: &Lexed<'_>) -> Refused
     requires { 500000 < length lexed.now.tokens.items }
     ensures { IsRefusal lexed.now.end lexed.now.tokens.items result }
 {
-    let rest = &lexed.tokens.as_slice()[MAX_TOKENS..];
-    Refused::Rule(Refusal {
-        phase: 2,
-        unit: lexed.end.file,
-        pos: first_place(rest, lexed.end),
-        rule: TOO_MANY_TOKENS,
-    })
+    let rest = tokens_behind(lexed, MAX_TOKENS);
+    refused_at(lexed.end, rest, TOO_MANY_TOKENS)
 }
 
-/// The place of the first token, or the end of the file.
-fn first_place(tokens: &[Token<'_>], end: Pos) -> Pos
-    ensures { result ≡ spec.place_at end tokens.now }
+/// The tokens of a file behind so many.
+fn tokens_behind<'s, 'a>(lexed: &'s Lexed<'a>, taken: usize) -> &'s [Token<'a>]
+    requires { taken ≤ length lexed.now.tokens.items }
+    ensures { result.now ≡ drop taken lexed.now.tokens.items }
+{
+    &lexed.tokens.as_slice()[taken..]
+}
+
+/// The refusal of the first token by a rule. Where there is none, the file ends too early.
+fn refused_at(end: Pos, tokens: &[Token<'_>], rule: u16) -> Refused
+    ensures { result ≡ Rule (spec.refused rule end tokens.now) }
 {
     match tokens {
-        [] => end,
-        [token, ..] => token.pos,
+        [token, ..] => refusal(end, token.pos, rule),
+        [] => refusal(end, end, END_OF_FILE),
     }
 }
 
-/// The refusal of a closing name that is another than the one that it closes.
-fn end_name_differs(lexed: &Lexed<'_>, pos: Pos) -> Refused
-    ensures { IsRefusal lexed.now.end lexed.now.tokens.items result }
+fn refusal(end: Pos, pos: Pos, rule: u16) -> Refused
+    ensures { result ≡ Rule (spec.broken rule end pos) }
 {
     Refused::Rule(Refusal {
         phase: 2,
-        unit: lexed.end.file,
+        unit: end.file,
         pos,
-        rule: END_NAME_DIFFERS,
+        rule,
     })
 }
 
 /// The unit that all tokens make. The number of tokens is left at 0.
 fn unit<'a>(reader: &mut Reader<'_, 'a>) -> Result<Unit<'a>, NoMemory>
-    ensures { Follows reader.old reader.new }
+    ensures follows { Follows reader.old reader.new }
+    ensures place { IfOk result (λ unit. IsAt unit.pos reader.old.rest.now) }
+    ensures closed { reader.new.wrong_closing ≡ None → IfOk result (λ unit. unit.closing.text.now ≡ unit.name.text.now) }
 {
     let pos = reader.pos();
     let is_unsafe = reader.skip_word(Word::Unsafe);
@@ -156,9 +153,9 @@ fn unit<'a>(reader: &mut Reader<'_, 'a>) -> Result<Unit<'a>, NoMemory>
     } else {
         module(reader)
     };
-    let closing = reader.take_name();
+    let closing = reader.take_closing(&name);
     reader.take_sign(Sign::Dot);
-    if reader.kind().is_some() {
+    if !reader.is_at_end() {
         reader.unexpected();
     }
     Ok(Unit {

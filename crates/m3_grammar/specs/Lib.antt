@@ -1,0 +1,6 @@
+pub mod Expressions
+pub mod Names
+pub mod Operators
+pub mod Plain
+pub mod Ranks
+pub mod Tokens
