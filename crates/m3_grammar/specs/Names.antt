@@ -36,14 +36,14 @@ pub data IsQualids : Row → Row → List Qualid → Type 0 where
 -- TypeName = Qualid | ROOT | UNTRACED ROOT
 pub data IsTypeName : Row → Row → TypeName → Type 0 where
   qualid : {a b : Row} {name : Qualid} → IsQualid a b name → IsTypeName a b (named.Named name)
-  root : {a b : Row} {pos : Pos} → IsAt pos a → IsWord w.Root a b → IsTypeName a b (named.Root pos)
-  untraced_root : {a b c : Row} {pos : Pos} → IsAt pos a → IsWord w.Untraced a b → IsWord w.Root b c → IsTypeName a c (named.UntracedRoot pos)
+  root : {a b : Row} (pos : Pos) → IsAt pos a → IsWord w.Root a b → IsTypeName a b (named.Root pos)
+  untraced_root : {a b c : Row} (pos : Pos) → IsAt pos a → IsWord w.Untraced a b → IsWord w.Root b c → IsTypeName a c (named.UntracedRoot pos)
 
 -- [RAISES Raises], where Raises = "{" [Qualid {"," Qualid}] "}" | ANY
 pub data IsRaises : Row → Row → Raises → Type 0 where
-  none_written : {a : Row} {names : Bor (List Qualid)} → names.now ≡ [] → IsRaises a a (raises.Only names)
+  none_written : {a : Row} (names : Bor (List Qualid)) → names.now ≡ [] → IsRaises a a (raises.Only names)
   any : {a b c : Row} → IsWord w.Raises a b → IsWord w.Any b c → IsRaises a c raises.Any
-  only : {a b c d f : Row} {names : Bor (List Qualid)} → IsWord w.Raises a b → IsSign s.OpenBrace b c → IsQualids c d names.now → IsSign s.CloseBrace d f → IsRaises a f (raises.Only names)
+  only : {a b c d f : Row} (names : Bor (List Qualid)) → IsWord w.Raises a b → IsSign s.OpenBrace b c → IsQualids c d names.now → IsSign s.CloseBrace d f → IsRaises a f (raises.Only names)
 
 -- [VALUE | VAR | READONLY]
 pub data IsMode : Row → Row → Mode → Type 0 where
@@ -55,4 +55,4 @@ pub data IsMode : Row → Row → Mode → Type 0 where
 -- a type that is a qualified name alone, also in parentheses: an expression is spelled so too
 pub data IsNameAlone : TypeExp → Type 0 where
   bare : {name : Qualid} → IsNameAlone (t.Named (named.Named name))
-  in_parentheses : {pos : Pos} {inner : Bor TypeExp} → IsNameAlone inner.now → IsNameAlone (t.Parenthesis pos inner)
+  in_parentheses : (pos : Pos) (inner : Bor TypeExp) → IsNameAlone inner.now → IsNameAlone (t.Parenthesis pos inner)

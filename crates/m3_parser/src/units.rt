@@ -1,37 +1,18 @@
-ghost use Rattle.std.specs.Prelude.{◌≡◌, ◌<◌, ◌≤◌, IfOk, IfErr, OnOk, OnSome, length, drop};
+ghost use Rattle.std.specs.Prelude.{◌≡◌, ◌<◌, ◌≤◌, IfOk, IfErr, OnOk, OnSome, length};
 ghost use Rattle.m3_grammar.specs.Tokens.{IsAt};
 ghost use Rattle.m3_cursor.specs.Readers.{Follows};
-ghost use Rattle.m3_base.specs.declared.refusals.Refused.TheVariants.{Rule};
-ghost use Rattle.m3_parser.specs.Refusals.{IsRefusal};
-ghost use Rattle.m3_parser.specs.Refusals as spec;
+ghost use Rattle.m3_stops.specs.Refusals.{IsRefusal};
 
 use bumpalo::Bump;
-use m3_base::{NoMemory, Pos, Refusal, Refused};
-use m3_cursor::{Reader, Stop, Why, name_list, names_up_to};
+use m3_base::{NoMemory, Refused};
+use m3_cursor::{Reader, name_list, names_up_to};
 use m3_statements::{block, declaration_list};
-use m3_syntax::{Import, ImportItem, Kept, Lexed, Name, Sign, Token, TokenKind, Unit, UnitKind, Word};
+use m3_stops::{MAX_TOKENS, refusal_of, too_many_tokens, wrong_closing};
+use m3_syntax::{Import, ImportItem, Kept, Lexed, Name, Sign, Unit, UnitKind, Word};
 use std::alloc::Global;
-
-/// How many tokens a file may have.
-const MAX_TOKENS: usize = 500_000;
 
 /// How many constructs may be open at a place.
 const MAX_OPEN: u32 = 200;
-
-/// The rule that a token breaks with which no text of the grammar goes on.
-const UNEXPECTED_TOKEN: u16 = 10;
-
-/// The rule that a file breaks that ends too early.
-const END_OF_FILE: u16 = 11;
-
-/// The rule that a closing name breaks that differs from the name that it closes.
-const END_NAME_DIFFERS: u16 = 12;
-
-/// The rule that a token breaks that lies inside too many constructs.
-const NESTING_TOO_DEEP: u16 = 13;
-
-/// The rule that token 500,001 breaks.
-const TOO_MANY_TOKENS: u16 = 14;
 
 /// The unit of a file (the report, section 2.5), given its tokens. Its names and texts borrow those of
 /// the tokens, and its tree stands in the arena.
@@ -55,81 +36,12 @@ pub fn parse<'a>(alloc: Global, arena: &'a Bump, lexed: &Lexed<'a>) -> Result<Un
     if count > MAX_TOKENS {
         return Err(too_many_tokens(lexed));
     }
-    if let Some(left) = reader.wrong_closing() {
-        return Err(wrong_closing(lexed, left));
-    }
     let mut unit = unit?;
     unit.tokens = count as u32;
-    Ok(unit)
-}
-
-/// What a file is refused for whose reading stopped: token 500,001 where that was taken before.
-fn refusal_of(lexed: &Lexed<'_>, stop: Stop) -> Refused
-    ensures { IsRefusal lexed.now.end lexed.now.tokens.items result }
-{
-    let taken = lexed.tokens.len().saturating_sub(stop.left);
-    if taken > MAX_TOKENS {
-        return too_many_tokens(lexed);
+    match reader.wrong_closing() {
+        Some(left) => Err(wrong_closing(lexed, left)),
+        None => Ok(unit),
     }
-    let rest = tokens_behind(lexed, taken);
-    match stop.why {
-        Why::NoMemory => Refused::NoMemory,
-        Why::Unexpected => refused_at(lexed.end, rest, UNEXPECTED_TOKEN),
-        Why::TooDeep => refused_at(lexed.end, rest, NESTING_TOO_DEEP),
-    }
-}
-
-/// What a file is refused for whose closing name, with so many tokens left there, is another than the one
-/// that it is to be.
-fn wrong_closing(lexed: &Lexed<'_>, left: usize) -> Refused
-    ensures { IsRefusal lexed.now.end lexed.now.tokens.items result }
-{
-    let taken = lexed.tokens.len().saturating_sub(left);
-    let rest = tokens_behind(lexed, taken);
-    match rest {
-        [token, ..] if matches!(token.kind, TokenKind::Ident) => {
-            refused_at(lexed.end, rest, END_NAME_DIFFERS)
-        }
-        _ => refused_at(lexed.end, rest, UNEXPECTED_TOKEN),
-    }
-}
-
-/// The refusal of token 500,001.
-fn too_many_tokens(lexed: &Lexed<'_>) -> Refused
-    requires { 500000 < length lexed.now.tokens.items }
-    ensures { IsRefusal lexed.now.end lexed.now.tokens.items result }
-{
-    let rest = tokens_behind(lexed, MAX_TOKENS);
-    refused_at(lexed.end, rest, TOO_MANY_TOKENS)
-}
-
-/// The tokens of a file behind so many.
-fn tokens_behind<'s, 'a>(lexed: &'s Lexed<'a>, taken: usize) -> &'s [Token<'a>]
-    requires { taken ≤ length lexed.now.tokens.items }
-    ensures { result.now ≡ drop taken lexed.now.tokens.items }
-{
-    &lexed.tokens.as_slice()[taken..]
-}
-
-/// The refusal of the first token by a rule. Where there is none, the file ends too early.
-fn refused_at(end: Pos, tokens: &[Token<'_>], rule: u16) -> Refused
-    ensures { result ≡ Rule (spec.refused rule end tokens.now) }
-{
-    match tokens {
-        [token, ..] => refusal(end, token.pos, rule),
-        [] => refusal(end, end, END_OF_FILE),
-    }
-}
-
-fn refusal(end: Pos, pos: Pos, rule: u16) -> Refused
-    ensures { result ≡ Rule (spec.broken rule end pos) }
-{
-    Refused::Rule(Refusal {
-        phase: 2,
-        unit: end.file,
-        pos,
-        rule,
-    })
 }
 
 /// The unit that all tokens make. The number of tokens is left at 0.

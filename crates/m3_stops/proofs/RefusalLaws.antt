@@ -9,7 +9,7 @@ use Rattle.m3_syntax.specs.declared.tokens.TokenKind.{TokenKind}
 use Rattle.m3_syntax.specs.declared.tokens.TokenKind.TheVariants.{Ident}
 use Rattle.m3_grammar.specs.Tokens.{first_kind}
 use Rattle.std.specs.Prelude.{Some}
-use Rattle.m3_parser.specs.Refusals.{IsBroken, IsRefusal, place_at, refused}
+use Rattle.m3_stops.specs.Refusals.{IsBroken, IsRefusal, place_at, refused}
 
 -- what stands first behind some tokens is one of them all
 contains : (tokens : List Token) (n : ℕ) (token : Token) (rest : List Token) → drop n tokens ≡ token ∷ rest → Contains tokens token
