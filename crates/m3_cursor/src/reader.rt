@@ -6,25 +6,9 @@ ghost use Rattle.m3_cursor.specs.Readers.{Follows, Reads};
 use bumpalo::Bump;
 use m3_base::{NoMemory, Pos};
 use m3_grammar::{is_sign, is_word};
+use m3_stops::{Stop, Why};
 use m3_syntax::{Expr, Lexed, Name, Sign, Token, TokenKind, TypeExp, Word};
 use std::alloc::Global;
-
-/// Why the reading of a file stopped.
-#[derive(Clone, Copy, Debug, PartialEq, Eq)]
-pub enum Why {
-    /// The token there may not stand there, or the file ends too early.
-    Unexpected,
-    /// The token there lies inside too many constructs.
-    TooDeep,
-    NoMemory,
-}
-
-/// The first error in a file, and how many tokens were left there.
-#[derive(Clone, Copy, Debug)]
-pub struct Stop {
-    pub why: Why,
-    pub left: usize,
-}
 
 /// Reads the tokens of a file from the first to the last. It keeps the first error, and stands at the end
 /// of the tokens from then on, where nothing more is taken; so whoever reads goes on as if nothing had

@@ -1,5 +1,4 @@
 ghost use Rattle.std.specs.Prelude.{◌≡◌, ◌<◌, ◌≤◌, IfOk, IfErr, OnOk, OnSome, length};
-ghost use Rattle.m3_grammar.specs.Tokens.{IsAt};
 ghost use Rattle.m3_cursor.specs.Readers.{Follows};
 ghost use Rattle.m3_stops.specs.Refusals.{IsRefusal};
 
@@ -23,8 +22,6 @@ const MAX_OPEN: u32 = 200;
 pub fn parse<'a>(alloc: Global, arena: &'a Bump, lexed: &Lexed<'a>) -> Result<Unit<'a>, Refused>
     ensures tokens { IfOk result (λ unit. unit.tokens ≡ length lexed.now.tokens.items) }
     ensures within_limit { OnOk result (length lexed.now.tokens.items ≤ 500000) }
-    ensures place { IfOk result (λ unit. IsAt unit.pos lexed.now.tokens.items) }
-    ensures closed { IfOk result (λ unit. unit.closing.text.now ≡ unit.name.text.now) }
     ensures refused { IfErr result (IsRefusal lexed.now.end lexed.now.tokens.items) }
 {
     let mut reader = Reader::new(alloc, arena, lexed)?;
@@ -46,9 +43,7 @@ pub fn parse<'a>(alloc: Global, arena: &'a Bump, lexed: &Lexed<'a>) -> Result<Un
 
 /// The unit that all tokens make. The number of tokens is left at 0.
 fn unit<'a>(reader: &mut Reader<'_, 'a>) -> Result<Unit<'a>, NoMemory>
-    ensures follows { Follows reader.old reader.new }
-    ensures place { IfOk result (λ unit. IsAt unit.pos reader.old.rest.now) }
-    ensures closed { reader.new.wrong_closing ≡ None → IfOk result (λ unit. unit.closing.text.now ≡ unit.name.text.now) }
+    ensures { Follows reader.old reader.new }
 {
     let pos = reader.pos();
     let is_unsafe = reader.skip_word(Word::Unsafe);

@@ -44,8 +44,8 @@ module _ (end : Pos) (tokens : List Token) (n : ℕ) where
   too_deep_at rest e h from = subst (λ x. IsRefusal end tokens x) (sym h) (at_13 rest (sym from))
 
   -- it is a closing name that differs
-  pub differs_at : (rest : List Token) (e : Refused) → e ≡ Rule (refused 12 end rest) → rest ≡ drop n tokens → first_kind rest ≡ Some Ident → IsRefusal end tokens e
-  differs_at rest e h from k = subst (λ x. IsRefusal end tokens x) (sym h) (at_12 rest (sym from) k)
+  pub differs_at : (rest : List Token) (e : Refused) → e ≡ Rule (refused 12 end rest) → rest ≡ drop n tokens → first_kind (drop n tokens) ≡ Some Ident → IsRefusal end tokens e
+  differs_at rest e h from k = subst (λ x. IsRefusal end tokens x) (sym h) (at_12 rest (sym from) (ap first_kind from ∙ k))
 
 module _ (end : Pos) (tokens : List Token) (more : 500000 < length tokens) where
   at_14 : (rest : List Token) → rest ≡ drop 500000 tokens → IsBroken end tokens (refused 14 end rest)

@@ -1,14 +1,14 @@
-//! What a file is refused for whose tokens make no unit: the rule, and its place among the tokens.
+//! Why the reading of a file stops, and what the file is refused for then: the rule, and its place among the
+//! tokens.
 #![tactic(auto)]
 
-ghost use Rattle.std.specs.Prelude.{◌≡◌, ◌<◌, ◌≤◌, length, drop};
+ghost use Rattle.std.specs.Prelude.{◌≡◌, ◌<◌, ◌≤◌, IsTrue, length, drop};
 ghost use Rattle.m3_base.specs.declared.refusals.Refused.TheVariants.{Rule};
-ghost use Rattle.m3_grammar.specs.Tokens as tokens_spec;
+ghost use Rattle.m3_grammar.specs.Tokens.{first_kind};
 ghost use Rattle.m3_stops.specs.Refusals.{IsRefusal};
 ghost use Rattle.m3_stops.specs.Refusals as spec;
 
 use m3_base::{Pos, Refusal, Refused};
-use m3_cursor::{Stop, Why};
 use m3_syntax::{Lexed, Token, TokenKind};
 
 /// How many tokens a file may have.
@@ -29,6 +29,23 @@ const NESTING_TOO_DEEP: u16 = 13;
 /// The rule that token 500,001 breaks.
 const TOO_MANY_TOKENS: u16 = 14;
 
+/// Why the reading of a file stopped.
+#[derive(Clone, Copy, Debug, PartialEq, Eq)]
+pub enum Why {
+    /// The token there may not stand there, or the file ends too early.
+    Unexpected,
+    /// The token there lies inside too many constructs.
+    TooDeep,
+    NoMemory,
+}
+
+/// The first error in a file, and how many tokens were left there.
+#[derive(Clone, Copy, Debug)]
+pub struct Stop {
+    pub why: Why,
+    pub left: usize,
+}
+
 /// What a file is refused for whose reading stopped: token 500,001 where that was taken before.
 pub fn refusal_of(lexed: &Lexed<'_>, stop: Stop) -> Refused
     ensures { IsRefusal lexed.now.end lexed.now.tokens.items result }
@@ -37,11 +54,10 @@ pub fn refusal_of(lexed: &Lexed<'_>, stop: Stop) -> Refused
     if taken > MAX_TOKENS {
         return too_many_tokens(lexed);
     }
-    let rest = tokens_behind(lexed, taken);
     match stop.why {
         Why::NoMemory => Refused::NoMemory,
-        Why::Unexpected => refused_at(lexed.end, rest, UNEXPECTED_TOKEN),
-        Why::TooDeep => refused_at(lexed.end, rest, NESTING_TOO_DEEP),
+        Why::Unexpected => unexpected(lexed, taken),
+        Why::TooDeep => too_deep(lexed, taken),
     }
 }
 
@@ -51,21 +67,49 @@ pub fn wrong_closing(lexed: &Lexed<'_>, left: usize) -> Refused
     ensures { IsRefusal lexed.now.end lexed.now.tokens.items result }
 {
     let taken = lexed.tokens.len().saturating_sub(left);
-    let rest = tokens_behind(lexed, taken);
-    match first_kind(rest) {
-        Some(TokenKind::Ident) => refused_at(lexed.end, rest, END_NAME_DIFFERS),
-        _ => refused_at(lexed.end, rest, UNEXPECTED_TOKEN),
+    if is_name(tokens_behind(lexed, taken)) {
+        name_differs(lexed, taken)
+    } else {
+        unexpected(lexed, taken)
     }
 }
 
-/// What the first token is.
-fn first_kind(tokens: &[Token<'_>]) -> Option<TokenKind>
-    ensures { result ≡ tokens_spec.first_kind tokens.now }
+/// Whether the first token is an identifier.
+fn is_name(tokens: &[Token<'_>]) -> bool
+    ensures { IsTrue result → first_kind tokens.now ≡ Some TokenKind.Ident }
 {
     match tokens {
-        [token, ..] => Some(token.kind),
-        [] => None,
+        [token, ..] => matches!(token.kind, TokenKind::Ident),
+        [] => false,
     }
+}
+
+/// The refusal of the token behind so many, which may not stand there.
+fn unexpected(lexed: &Lexed<'_>, taken: usize) -> Refused
+    requires { taken ≤ length lexed.now.tokens.items }
+    ensures { IsRefusal lexed.now.end lexed.now.tokens.items result }
+{
+    let rest = tokens_behind(lexed, taken);
+    refused_at(lexed.end, rest, UNEXPECTED_TOKEN)
+}
+
+/// The refusal of the token behind so many, which lies too deep.
+fn too_deep(lexed: &Lexed<'_>, taken: usize) -> Refused
+    requires { taken ≤ length lexed.now.tokens.items }
+    ensures { IsRefusal lexed.now.end lexed.now.tokens.items result }
+{
+    let rest = tokens_behind(lexed, taken);
+    refused_at(lexed.end, rest, NESTING_TOO_DEEP)
+}
+
+/// The refusal of the closing name behind so many tokens, which differs.
+fn name_differs(lexed: &Lexed<'_>, taken: usize) -> Refused
+    requires within { taken ≤ length lexed.now.tokens.items }
+    requires name { first_kind (drop taken lexed.now.tokens.items) ≡ Some TokenKind.Ident }
+    ensures { IsRefusal lexed.now.end lexed.now.tokens.items result }
+{
+    let rest = tokens_behind(lexed, taken);
+    refused_at(lexed.end, rest, END_NAME_DIFFERS)
 }
 
 /// The refusal of token 500,001.
