@@ -25,17 +25,15 @@ use Rattle.m3_syntax.specs.declared.expressions.Selector.TheVariants as sel
 use Rattle.m3_syntax.specs.declared.expressions.Signature.{Signature, out-Signature}
 use Rattle.m3_syntax.specs.declared.expressions.TypeExp.{TypeExp}
 use Rattle.m3_syntax.specs.declared.expressions.TypeExp.TheVariants as t
-use Rattle.m3_syntax.specs.declared.names.Mode.{Mode}
 use Rattle.m3_syntax.specs.declared.names.Name.{Name}
 use Rattle.m3_syntax.specs.declared.names.TypeName.{TypeName}
-use Rattle.m3_syntax.specs.declared.tokens.Token.{Token}
 use Rattle.m3_syntax.specs.declared.tokens.TokenKind.{TokenKind}
 use Rattle.m3_syntax.specs.declared.tokens.TokenKind.TheVariants.{Ident, Number, CharLit, TextLit}
 use Rattle.m3_syntax.specs.declared.tokens.Sign.TheVariants as s
 use Rattle.m3_syntax.specs.declared.tokens.Word.TheVariants as w
 use Rattle.m3_grammar.specs.declared.operators.Level.{Level}
 use Rattle.m3_grammar.specs.Operators.{operator_of, level_of}
-use Rattle.m3_grammar.specs.Ranks.{Rank, whole, e1, e2, e3, e4, e5, e6, e7, e8, next, rank_of}
+use Rattle.m3_grammar.specs.Ranks.{Rank, whole, e2, e3, e6, e7, e8, next, rank_of}
 use Rattle.m3_grammar.specs.Tokens.{Row, first_kind, IsAt, IsWritten, IsToken, IsWord, IsSign, IsName}
 use Rattle.m3_grammar.specs.Names.{IsNames, IsTypeName, IsRaises, IsMode, IsNameAlone}
 

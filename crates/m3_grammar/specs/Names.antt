@@ -1,5 +1,5 @@
 -- The grammar of names.
-use Rattle.std.specs.Prelude.{◌≡◌, ◌≢◌, List, [], ◌∷◌, ◌++◌, Option, None, Some}
+use Rattle.std.specs.Prelude.{◌≡◌, ◌≢◌, List, [], ◌∷◌, ◌++◌, None, Some}
 use Rattle.std.proofs.Common.{Bor}
 use Rattle.m3_base.specs.declared.places.Pos.{Pos}
 use Rattle.m3_syntax.specs.declared.expressions.TypeExp.{TypeExp}

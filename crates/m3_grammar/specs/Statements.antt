@@ -30,7 +30,7 @@ use Rattle.m3_syntax.specs.declared.tokens.Word.TheVariants as w
 use Rattle.m3_grammar.specs.Ranks.{whole}
 use Rattle.m3_grammar.specs.Tokens.{Row, IsAt, IsWord, IsSign, IsName}
 use Rattle.m3_grammar.specs.Names.{IsNames, IsQualid, IsQualids}
-use Rattle.m3_grammar.specs.Expressions.{IsExpr, IsType, IsActuals, IsSignature, IsInit, IsResult}
+use Rattle.m3_grammar.specs.Expressions.{IsExpr, IsType, IsActuals, IsSignature, IsInit}
 
 -- ---- parts of statements
 

@@ -1,5 +1,5 @@
 -- The grammar of units (the report, section 2.5).
-use Rattle.std.specs.Prelude.{◌≡◌, ◌≢◌, Bool, true, false, List, [], ◌∷◌, ◌++◌, Option, None, Some}
+use Rattle.std.specs.Prelude.{◌≢◌, Bool, true, false, List, [], ◌∷◌, ◌++◌, Option, None, Some}
 use Rattle.std.proofs.Common.{Bor}
 use Rattle.m3_base.specs.declared.places.Pos.{Pos}
 use Rattle.m3_syntax.specs.declared.names.Name.{Name}

@@ -1,11 +1,10 @@
 -- What the readers refuse at a token is what a file is refused for.
-use Rattle.std.proofs.Common.{ℕ, zero, suc, ◌≡◌, ◌⊎◌, ◌≤◌, ◌<◌, List, [], ◌∷◌, refl, sym, subst, inl, inr, ap, ◌∙◌, length, drop, arith, lit≤}
+use Rattle.std.proofs.Common.{ℕ, zero, suc, ◌≡◌, ◌≤◌, ◌<◌, List, [], ◌∷◌, refl, sym, subst, ap, ◌∙◌, length, drop, arith, lit≤}
 use Rattle.std.specs.List.{Contains}
 use Rattle.m3_base.specs.declared.places.Pos.{Pos}
 use Rattle.m3_base.specs.declared.refusals.Refused.{Refused}
 use Rattle.m3_base.specs.declared.refusals.Refused.TheVariants.{Rule}
 use Rattle.m3_syntax.specs.declared.tokens.Token.{Token}
-use Rattle.m3_syntax.specs.declared.tokens.TokenKind.{TokenKind}
 use Rattle.m3_syntax.specs.declared.tokens.TokenKind.TheVariants.{Ident}
 use Rattle.m3_grammar.specs.Tokens.{first_kind}
 use Rattle.std.specs.Prelude.{Some}
