@@ -165,8 +165,10 @@ impl<'t, 'a> Reader<'t, 'a> {
     /// Goes past the token here, if there is one.
     pub fn step(&mut self)
         ensures follows { Follows self.old self.new }
-        ensures past { (kind : TokenKind) → first_kind self.old.rest.now ≡ Some kind → length self.new.rest.now < length self.old.rest.now }
-        ensures reads { (kind : TokenKind) → first_kind self.old.rest.now ≡ Some kind → IsToken kind self.old.rest.now self.new.rest.now }
+        ensures past { (kind : TokenKind) → first_kind self.old.rest.now ≡ Some kind
+            → length self.new.rest.now < length self.old.rest.now }
+        ensures reads { (kind : TokenKind) → first_kind self.old.rest.now ≡ Some kind
+            → IsToken kind self.old.rest.now self.new.rest.now }
     {
         if let [_, rest @ ..] = self.rest {
             self.rest = rest;
