@@ -1,11 +1,15 @@
-ghost use Rattle.m3_cursor.specs.Readers.{Follows};
+ghost use Rattle.std.specs.Prelude.{◌≡◌, ◌≢◌, []};
+ghost use Rattle.m3_grammar.specs.Names.{IsNames, IsNamesUpTo, IsQualid, IsQualids, IsRaises};
+ghost use Rattle.m3_cursor.specs.Readers.{Follows, Reads};
 
 use crate::reader::Reader;
 use m3_syntax::{Name, Qualid, Raises, Sign, Word};
 
 /// Names with commas between them, at least one.
 pub fn name_list<'a>(reader: &mut Reader<'_, 'a>) -> &'a [Name<'a>]
-    ensures { Follows reader.old reader.new }
+    ensures follows { Follows reader.old reader.new }
+    ensures reads { Reads reader.old reader.new (λ before after. IsNames before after result.now) }
+    ensures some { reader.new.stop ≡ None → result.now ≢ [] }
 {
     let mut names = Vec::new(reader.alloc());
     'names: loop {
@@ -20,7 +24,8 @@ pub fn name_list<'a>(reader: &mut Reader<'_, 'a>) -> &'a [Name<'a>]
 
 /// Names with commas between them, maybe none, up to and with the sign that closes them.
 pub fn names_up_to<'a>(reader: &mut Reader<'_, 'a>, close: Sign) -> &'a [Name<'a>]
-    ensures { Follows reader.old reader.new }
+    ensures follows { Follows reader.old reader.new }
+    ensures reads { Reads reader.old reader.new (λ before after. IsNamesUpTo close before after result.now) }
 {
     if reader.skip_sign(close) {
         return reader.no_items();
@@ -32,20 +37,28 @@ pub fn names_up_to<'a>(reader: &mut Reader<'_, 'a>, close: Sign) -> &'a [Name<'a
 
 /// A name, or an interface's name, a dot and a name of it.
 pub fn qualid<'a>(reader: &mut Reader<'_, 'a>) -> Qualid<'a>
-    ensures { Follows reader.old reader.new }
+    ensures follows { Follows reader.old reader.new }
+    ensures reads { Reads reader.old reader.new (λ before after. IsQualid before after result) }
 {
     let first = reader.take_name();
-    let second = if reader.skip_sign(Sign::Dot) {
-        Some(reader.take_name())
-    } else {
-        None
-    };
-    Qualid { first, second }
+    if !reader.skip_sign(Sign::Dot) {
+        return Qualid {
+            first,
+            second: None,
+        };
+    }
+    let second = reader.take_name();
+    Qualid {
+        first,
+        second: Some(second),
+    }
 }
 
 /// Qualified names with commas between them, at least one.
 pub fn qualid_list<'a>(reader: &mut Reader<'_, 'a>) -> &'a [Qualid<'a>]
-    ensures { Follows reader.old reader.new }
+    ensures follows { Follows reader.old reader.new }
+    ensures reads { Reads reader.old reader.new (λ before after. IsQualids before after result.now) }
+    ensures some { reader.new.stop ≡ None → result.now ≢ [] }
 {
     let mut names = Vec::new(reader.alloc());
     'names: loop {
@@ -60,28 +73,20 @@ pub fn qualid_list<'a>(reader: &mut Reader<'_, 'a>) -> &'a [Qualid<'a>]
 
 /// RAISES with ANY or with qualified names in braces; no exception where it isn't here.
 pub fn raises<'a>(reader: &mut Reader<'_, 'a>) -> Raises<'a>
-    ensures { Follows reader.old reader.new }
+    ensures follows { Follows reader.old reader.new }
+    ensures reads { Reads reader.old reader.new (λ before after. IsRaises before after result) }
 {
-    let is_given = reader.skip_word(Word::Raises);
-    if is_given && reader.skip_word(Word::Any) {
-        Raises::Any
-    } else {
-        Raises::Only(raised(reader, is_given))
+    if !reader.skip_word(Word::Raises) {
+        return Raises::Only(reader.no_items());
     }
-}
-
-/// The qualified names in braces behind RAISES, where it is given.
-fn raised<'a>(reader: &mut Reader<'_, 'a>, is_given: bool) -> &'a [Qualid<'a>]
-    ensures { Follows reader.old reader.new }
-{
-    if !is_given {
-        return reader.no_items();
+    if reader.skip_word(Word::Any) {
+        return Raises::Any;
     }
     reader.take_sign(Sign::OpenBrace);
     if reader.skip_sign(Sign::CloseBrace) {
-        return reader.no_items();
+        return Raises::Only(reader.no_items());
     }
     let names = qualid_list(reader);
     reader.take_sign(Sign::CloseBrace);
-    names
+    Raises::Only(names)
 }

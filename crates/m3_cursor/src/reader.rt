@@ -1,4 +1,4 @@
-ghost use Rattle.std.specs.Prelude.{◌≡◌, ◌+◌, ◌<◌, ◌≤◌, ◌++◌, [], ◌∷◌, IsTrue, IsFalse, IfSome, IfOk, IsSome, length};
+ghost use Rattle.std.specs.Prelude.{◌≡◌, ◌+◌, ◌<◌, ◌≤◌, ◌++◌, [], ◌∷◌, IsTrue, IsFalse, IfSome, IfOk, IsNone, IsSome, length};
 ghost use Rattle.m3_syntax.specs.declared.tokens.TokenKind.{TokenKind};
 ghost use Rattle.m3_grammar.specs.Tokens.{IsAt, IsToken, IsWritten, IsWord, IsSign, IsName, first_kind};
 ghost use Rattle.m3_cursor.specs.Readers.{Follows, Reads};
@@ -335,6 +335,8 @@ impl<'t, 'a> Reader<'t, 'a> {
     pub fn inside(&mut self, room: u32) -> Option<u32>
         ensures follows { Follows self.old self.new }
         ensures less { IfSome result (λ r. r + 1 ≡ room) }
+        ensures stays { IsSome result → self.new ≡ self.old }
+        ensures failed { IsNone result → IsSome self.new.stop }
     {
         if room == 0 {
             self.too_deep();

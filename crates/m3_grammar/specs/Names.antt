@@ -12,6 +12,7 @@ use Rattle.m3_syntax.specs.declared.names.Raises.{Raises}
 use Rattle.m3_syntax.specs.declared.names.Raises.TheVariants as raises
 use Rattle.m3_syntax.specs.declared.names.TypeName.{TypeName}
 use Rattle.m3_syntax.specs.declared.names.TypeName.TheVariants as named
+use Rattle.m3_syntax.specs.declared.tokens.Sign.{Sign}
 use Rattle.m3_syntax.specs.declared.tokens.Sign.TheVariants as s
 use Rattle.m3_syntax.specs.declared.tokens.Word.TheVariants as w
 use Rattle.m3_grammar.specs.Tokens.{Row, IsAt, IsWord, IsSign, IsName}
@@ -21,6 +22,12 @@ pub data IsNames : Row → Row → List Name → Type 0 where
   no_names : {a : Row} → IsNames a a []
   one_name : {a b : Row} {name : Name} → IsName a b name → IsNames a b (name ∷ [])
   names : {a b c d : Row} {before : List Name} {name : Name} → IsNames a b before → before ≢ [] → IsSign s.Comma b c → IsName c d name → IsNames a d (before ++ name ∷ [])
+
+-- [Id {"," Id}] and a sign behind them
+pub record IsNamesUpTo (close : Sign) (before after : Row) (names : List Name) : Type 0 where
+  pub closed_from : Row
+  pub listed : IsNames before closed_from names
+  pub closed : IsSign close closed_from after
 
 -- Qualid = Id ["." Id]
 pub data IsQualid : Row → Row → Qualid → Type 0 where

@@ -1,9 +1,10 @@
-use Rattle.std.proofs.Common.{length}
+use Rattle.std.proofs.Common.{◌≡◌, length, None}
 use Rattle.m3_cursor.specs.Readers.{Follows}
+use Rattle.m3_cursor.proofs.NameRows.{QualidsBegun}
 use Rattle.m3_cursor.proofs.names.qualid_list.Given as goal
 
 abbrev pub invariant-names : goal.invariant-names
-invariant-names l = Follows l.initial.reader l.reader
+invariant-names l = Follows l.initial.reader l.reader × (l.reader.stop ≡ None → QualidsBegun l.initial.reader.rest.now l.reader.rest.now l.names.items)
 
 abbrev pub decreases-names : goal.decreases-names
 decreases-names l = length l.reader.rest.now
