@@ -10,7 +10,7 @@ use std::alloc::Global;
 use std::process::Abort;
 use std::test::Fail;
 
-fn field<'a>(name: &'a [u8], kind: u32) -> Field<'a> {
+pub(crate) fn field<'a>(name: &'a [u8], kind: u32) -> Field<'a> {
     Field {
         name,
         kind: TypeId(kind),
@@ -78,13 +78,13 @@ fn giving<'a>() -> TypeNode<'a> {
     TypeNode::Procedure(&[], Some(TypeId(0)), Raises::Only(&[]))
 }
 
-fn put<'a>(types: &mut TypeGraph<'a>, node: TypeNode<'a>) -> Result<(), Fail> {
+pub(crate) fn put<'a>(types: &mut TypeGraph<'a>, node: TypeNode<'a>) -> Result<(), Fail> {
     types.push(node)?;
     Ok(())
 }
 
 // Sets a place that was reserved.
-fn fill<'a>(types: &mut TypeGraph<'a>, place: u32, node: TypeNode<'a>) {
+pub(crate) fn fill<'a>(types: &mut TypeGraph<'a>, place: u32, node: TypeNode<'a>) {
     if types.is_reserved(TypeId(place)) {
         types.set(TypeId(place), node);
     }
@@ -199,7 +199,7 @@ fn reveal(view: u32, opaque: u32, bound: u32, full: bool) -> Reveal {
     }
 }
 
-fn graph<'a>(alloc: Global, bump: &'a Bump) -> Result<TypeGraph<'a>, Fail> {
+pub(crate) fn graph<'a>(alloc: Global, bump: &'a Bump) -> Result<TypeGraph<'a>, Fail> {
     let mut types = TypeGraph::new(alloc);
     put_basic(&mut types)?;
     put_arrays(bump, &mut types)?;
@@ -370,7 +370,7 @@ fn procedures_and_opaque_types(rt: HostRuntime) -> Result<(), Fail> {
 // Two families of count references to records: the i-th record has the next reference and another one,
 // and the last record of the second family has other names if it is to differ. All places are reserved
 // first and set from the last one on.
-fn families<'a>(
+pub(crate) fn families<'a>(
     alloc: Global,
     bump: &'a Bump,
     count: u32,
