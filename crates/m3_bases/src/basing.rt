@@ -118,10 +118,11 @@ fn without_bases<'a>(arena: &'a Bump, p: Proc<'a>) -> Result<Based<'a>, NoMemory
     })
 }
 
-/// From which tidy pointers each derived temporary comes that the row of a point names: moves, sums and
-/// differences are followed back to them. A base that may change while what comes from it is live is copied to
-/// a temporary of its own. Where a derived temporary has several lists of bases, a further temporary tells which
-/// one holds. The marks of loops, which name operations by their numbers, are left out.
+/// From which tidy pointers each derived temporary comes that the row of a point names: moves, sums
+/// and differences are followed back to them. A base that may change while what comes from it is
+/// live is copied to a temporary of its own. Where a derived temporary has several lists of bases,
+/// a further temporary tells which one holds. The marks of loops, which name operations by their
+/// numbers, are left out.
 pub fn find_bases<'a>(alloc: Global, arena: &'a Bump, p: &Proc<'a>) -> Result<Based<'a>, NoMemory> {
     let plain = Proc { loops: &[], ..*p };
     if !has_addresses(p) {

@@ -263,8 +263,8 @@ fn count_of(terms: &[Term]) -> (u32, u32) {
     (added, taken)
 }
 
-/// Of the temporaries that keep their bases, those that do so by ways: they have several lists, and each of
-/// their settings is direct.
+/// Of the temporaries that keep their bases, those that do so by ways: they have several lists, and
+/// each of their settings is direct.
 fn by_ways(
     alloc: Global,
     p: &Proc,

@@ -1,5 +1,5 @@
-//! From which references the addresses into cells come, and where these are kept (Diwan, Moss and Hudson, PLDI
-//! 1992).
+//! From which references the addresses into cells come, and where these are kept (Diwan, Moss and
+//! Hudson, PLDI 1992).
 #![tactic(auto)]
 
 mod basing;

@@ -204,7 +204,8 @@ fn kept_settings(
     Ok(())
 }
 
-/// The operations of a block, with what keeps the bases that its settings, in their order, have to keep.
+/// The operations of a block, with what keeps the bases that its settings, in their order, have to
+/// keep.
 fn rewrite_ops<'a>(
     arena: &'a Bump,
     p: &Proc,

@@ -24,7 +24,8 @@ pub(crate) fn set_item<T: Copy>(list: &mut Vec<T>, at: u32, value: T) {
     }
 }
 
-/// Where a term stands among the terms of a list: first its temporary or slot, then added before taken away.
+/// Where a term stands among the terms of a list: first its temporary or slot, then added before
+/// taken away.
 fn rank_of(term: Term) -> (bool, u32, bool) {
     match term.base {
         Base::Temp(temp) => (false, temp, term.is_taken),
@@ -129,7 +130,8 @@ impl<'a> Shapes<'a> {
         }
     }
 
-    /// The bases that a setting gives, in the buffer. One that only moves its temporary on says nothing.
+    /// The bases that a setting gives, in the buffer. One that only moves its temporary on says
+    /// nothing.
     pub(crate) fn say(&mut self, p: &Proc, setting: Setting) -> Result<Said, NoMemory> {
         self.buffer.clear();
         let Source::Terms(terms) = setting.source else {

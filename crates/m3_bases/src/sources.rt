@@ -11,7 +11,8 @@ pub(crate) struct Term {
     pub(crate) is_taken: bool,
 }
 
-/// Where an address comes from: from at most two temporaries or slots, or it is a tidy pointer of its own.
+/// Where an address comes from: from at most two temporaries or slots, or it is a tidy pointer of
+/// its own.
 #[derive(Clone, Copy, Debug)]
 pub(crate) enum Source {
     Terms([Option<Term>; 2]),

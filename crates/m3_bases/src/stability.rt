@@ -97,8 +97,8 @@ fn mark_derived(p: &Proc, settings: &[Setting], relevant: &[bool], kept: &mut Ve
     has_changed
 }
 
-/// The derived temporaries whose bases have to be kept in temporaries of their own: those with several lists
-/// of bases, those a base of which may change, and what comes from them.
+/// The derived temporaries whose bases have to be kept in temporaries of their own: those with
+/// several lists of bases, those a base of which may change, and what comes from them.
 pub(crate) fn kept_temps(
     alloc: Global,
     p: &Proc,

@@ -1,0 +1,14 @@
+pub mod BarActs
+pub mod Collected
+pub mod Gathering
+pub mod Marking
+pub mod Moving
+pub mod Offsets
+pub mod RoomSizes
+pub mod RowActs
+pub mod RowLists
+pub mod RowMeaning
+pub mod TakingApart
+pub mod ThreadWords
+pub mod ThreadsGathered
+pub mod Visiting

@@ -1,9 +1,15 @@
-//! Derived words taken apart and put together again.
-use crate::places::{place_in, row_of, set_word, word_at};
-use m3_decoded::Decoded;
-use m3_frames::Frame;
+//! Derived words of one frame, taken apart and put together again.
+ghost use Rattle.std.specs.Prelude.{◌≡◌, ◌++◌, length, Some, None};
+ghost use Rattle.std.specs.Bool.{MatchBool};
+ghost use Rattle.std.specs.Option.{option_map};
+ghost use Rattle.m3_tables.specs.Views.{numbers_of, bases_of, entry_of};
+ghost use Rattle.m3_tables.specs.Tables.{derived_in};
+ghost use Rattle.m3_roots.specs.ThreadWords.{places_from, derived_at, derived_from, way_at, sum_at, bases_at};
+ghost use Rattle.m3_roots.specs.TakingApart.{apart_at, apart, together_at, together};
+
+use crate::places::{set_word, word_at};
 use m3_heap::Steps;
-use m3_tables::{Derivation, Numbers, WayView};
+use m3_tables::{Derivation, Numbers, Row, WayView};
 use std::sync::ledger::Ledger;
 
 /// The sum of the words at some places, modulo 2^64.
@@ -13,10 +19,12 @@ fn sum_of<L: Ledger>(
     first: usize,
     places: Numbers<'_>,
     steps: &mut Steps<L>,
-) -> u64 {
+) -> u64
+    ensures { result ≡ sum_at (r.now ++ stack.now) (places_from first (numbers_of places.entry)) }
+{
     let mut sum: u64 = 0;
     for place in places {
-        sum = sum.wrapping_add(word_at(r, stack, place_in(first, place)));
+        sum = sum.wrapping_add(word_at(r, stack, first, place));
         steps.tick();
     }
     sum
@@ -28,9 +36,11 @@ fn way_of<'a>(
     stack: &[u64],
     first: usize,
     entry: &Derivation<'a>,
-) -> Option<WayView<'a>> {
+) -> Option<WayView<'a>>
+    ensures { option_map bases_of result ≡ way_at (r.now ++ stack.now) (derived_at first (entry_of entry.now)) }
+{
     let number = match entry.path_number() {
-        Some(path) => word_at(r, stack, place_in(first, path)),
+        Some(path) => word_at(r, stack, first, path),
         None => 0,
     };
     if number >= u64::from(entry.ways()) {
@@ -43,98 +53,109 @@ fn way_of<'a>(
     ways.next()
 }
 
-/// The signed sum of the bases of an entry, modulo 2^64.
+/// The signed sum of the bases of an entry, modulo 2^64. None comes exactly where its path is past its ways.
 fn bases_of<L: Ledger>(
     r: &[u64; 16],
     stack: &[u64],
     first: usize,
     entry: &Derivation<'_>,
     steps: &mut Steps<L>,
-) -> Option<u64> {
+) -> Option<u64>
+    ensures { result ≡ option_map (bases_at (r.now ++ stack.now) first) (way_at (r.now ++ stack.now) (derived_at first (entry_of entry.now))) }
+{
     let way = way_of(r, stack, first, entry)?;
     let added = sum_of(r, stack, first, way.added, steps);
     let subtracted = sum_of(r, stack, first, way.subtracted, steps);
     Some(added.wrapping_sub(subtracted))
 }
 
-fn apart<L: Ledger>(
-    image: &Decoded<'_>,
-    frame: &Frame,
+/// Subtracts the bases of a derived word from it. False comes exactly where its path is past its ways.
+fn subtract<L: Ledger>(
+    first: usize,
+    entry: &Derivation<'_>,
     r: &mut [u64; 16],
     stack: &mut [u64],
     steps: &mut Steps<L>,
-) -> bool {
-    let Some(row) = row_of(image, frame) else {
+) -> bool
+    ensures { let d = derived_at first (entry_of entry.now) in
+        MatchBool result (apart_at d (r.old ++ stack.old) ≡ Some (r.new ++ stack.new)) (apart_at d (r.old ++ stack.old) ≡ None) }
+{
+    let Some(bases) = bases_of(r, stack, first, entry, steps) else {
         return false;
     };
-    for entry in row.derivations() {
-        let Some(bases) = bases_of(r, stack, frame.first, &entry, steps) else {
-            return false;
-        };
-        let place = place_in(frame.first, entry.place_number());
-        let word = word_at(r, stack, place);
-        set_word(r, stack, place, word.wrapping_sub(bases));
-    }
+    let place = entry.place_number();
+    let word = word_at(r, stack, first, place);
+    set_word(r, stack, first, place, word.wrapping_sub(bases));
     true
 }
 
-/// Subtracts the bases of all derived words from them, from the newest frame to the oldest. False comes exactly
-/// where a path is past its ways.
-pub fn take_apart<L: Ledger>(
-    image: &Decoded<'_>,
-    frames: &[Frame],
+/// Adds the bases of a derived word to it. False comes exactly where its path is past its ways.
+fn add<L: Ledger>(
+    first: usize,
+    entry: &Derivation<'_>,
     r: &mut [u64; 16],
     stack: &mut [u64],
     steps: &mut Steps<L>,
-) -> bool {
-    for frame in frames {
-        if !apart(image, frame, r, stack, steps) {
+) -> bool
+    ensures { let d = derived_at first (entry_of entry.now) in
+        MatchBool result (together_at d (r.old ++ stack.old) ≡ Some (r.new ++ stack.new)) (together_at d (r.old ++ stack.old) ≡ None) }
+{
+    let Some(bases) = bases_of(r, stack, first, entry, steps) else {
+        return false;
+    };
+    let place = entry.place_number();
+    let word = word_at(r, stack, first, place);
+    set_word(r, stack, first, place, word.wrapping_add(bases));
+    true
+}
+
+/// Subtracts the bases of a row's derived words from them, from the first to the last.
+pub fn take_row_apart<L: Ledger>(
+    row: &Row<'_>,
+    first: usize,
+    r: &mut [u64; 16],
+    stack: &mut [u64],
+    steps: &mut Steps<L>,
+) -> bool
+    ensures { let ds = derived_from first (derived_in row.now) in
+        MatchBool result (apart ds (r.old ++ stack.old) ≡ Some (r.new ++ stack.new)) (apart ds (r.old ++ stack.old) ≡ None) }
+{
+    for entry in row.derivations() {
+        if !subtract(first, &entry, r, stack, steps) {
             return false;
         }
     }
     true
 }
 
-fn together<L: Ledger>(
-    image: &Decoded<'_>,
-    frame: &Frame,
-    r: &mut [u64; 16],
-    stack: &mut [u64],
-    steps: &mut Steps<L>,
-) -> bool {
-    let Some(row) = row_of(image, frame) else {
-        return false;
-    };
+fn count_of(row: &Row<'_>) -> u32
+    ensures { result ≡ length (derived_in row.now) }
+{
     let mut count: u32 = 0;
     for _entry in row.derivations() {
-        count = count.saturating_add(1);
+        count += 1;
     }
-    for k in 0..count {
-        let Some(entry) = row.derived(count - 1 - k) else {
-            return false;
-        };
-        let Some(bases) = bases_of(r, stack, frame.first, &entry, steps) else {
-            return false;
-        };
-        let place = place_in(frame.first, entry.place_number());
-        let word = word_at(r, stack, place);
-        set_word(r, stack, place, word.wrapping_add(bases));
-    }
-    true
+    count
 }
 
-/// Adds the bases of all derived words to them, from the oldest frame to the newest.
-pub fn put_together<L: Ledger>(
-    image: &Decoded<'_>,
-    frames: &[Frame],
+/// Adds the bases of a row's derived words to them, from the last to the first.
+pub fn put_row_together<L: Ledger>(
+    row: &Row<'_>,
+    first: usize,
     r: &mut [u64; 16],
     stack: &mut [u64],
     steps: &mut Steps<L>,
-) -> bool {
-    let mut k = frames.len();
+) -> bool
+    ensures { let ds = derived_from first (derived_in row.now) in
+        MatchBool result (together ds (r.old ++ stack.old) ≡ Some (r.new ++ stack.new)) (together ds (r.old ++ stack.old) ≡ None) }
+{
+    let mut k = count_of(row);
     while k > 0 {
         k -= 1;
-        if !together(image, &frames[k], r, stack, steps) {
+        let Some(entry) = row.derived(k) else {
+            return false;
+        };
+        if !add(first, &entry, r, stack, steps) {
             return false;
         }
     }

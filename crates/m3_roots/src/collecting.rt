@@ -1,13 +1,25 @@
-ghost use Rattle.std.specs.Prelude.{◌≡◌, true, false, List, map, length, IfSome, IsSome};
-ghost use Rattle.m3_threads.specs.All.{thread_named};
+//! All threads and the globals, one after the other, before and after the cells are moved.
+ghost use Rattle.std.specs.Prelude.{◌≡◌, ◌≤◌, ◌+◌, ℕ, true, false, List, map, length, IfSome, IfNone, IsSome, Some};
+ghost use Rattle.std.specs.Bool.{OnTrue, OnFalse};
+ghost use Rattle.m3_heap.specs.Cells.{Cell};
+ghost use Rattle.m3_heap.specs.Moves.{Move};
 ghost use Rattle.m3_heap.specs.Shapes.{Shape};
+ghost use Rattle.m3_threads.specs.declared.status.Thread.{Thread};
+ghost use Rattle.m3_threads.specs.All.{Everyone, thread_named, words_of};
+ghost use Rattle.m3_threads.specs.Lending.{with_regs};
 ghost use Rattle.m3_sections.specs.Shapes.{shape_of};
 ghost use Rattle.m3_decoded.specs.Ready.{image_of};
+ghost use Rattle.m3_frames.specs.declared.frame.Frame.{Frame as AFrame};
+ghost use Rattle.m3_roots.specs.RoomSizes.{IsRoomFor};
+ghost use Rattle.m3_roots.specs.Visiting.{KeepsHeap};
+ghost use Rattle.m3_roots.specs.Gathering.{Gathers, GoesOn};
+ghost use Rattle.m3_roots.specs.Collected.{Parts, words_at, AreFrames, MovesThreads, Collected, StopsCollection};
+ghost use Rattle.m3_roots.specs.Offsets.{AllKeepOffsets};
+ghost use Rattle.m3_roots.specs.ThreadsGathered.{GathersThread, StopsThreadHere, MendsThread, AllGathered, Visited, Opens};
 
-use crate::bases::{put_together, take_apart};
-use crate::lists::lists_fit;
+use crate::gathering::{gather, mend};
 use crate::room::Room;
-use crate::tidy::{visit_frames, visit_globals};
+use crate::tidy::visit_globals;
 use crate::walk::list_frames;
 use m3_decoded::Decoded;
 use m3_heap::{Steps, Store};
@@ -16,10 +28,15 @@ use m3_threads::Threads;
 use std::sync::ledger::Ledger;
 
 /// Lists the frames of a thread, and gives its registers. None comes exactly where one of the frames isn't as
-/// frames are.
+/// frames are, if there is room for as many as its stack has words.
 #[tactic(auto, using(crate::proofs::Named::is_named))]
 fn frames_of(image: &Decoded<'_>, threads: &Threads, thread: u64, room: &mut Room) -> Option<Regs>
-    ensures { IfSome result (λ _. IsSome (thread_named threads.now thread)) }
+    ensures there { IfSome result (λ _. IsSome (thread_named threads.now thread)) }
+    ensures framed { (t : Thread) → thread_named threads.now thread ≡ Some t
+        → IfSome result (λ regs. (regs ≡ t.regs) × AreFrames (image_of image.now).program threads.now t room.new.frames.items) }
+    ensures none { (t : Thread) → thread_named threads.now thread ≡ Some t → IsRoomFor (length (words_of threads.now t)) room.old
+        → IfNone result ((frames : List AFrame) → AreFrames (image_of image.now).program threads.now t frames → ⊥) }
+    ensures room { (stack : ℕ) → IsRoomFor stack room.old → IsRoomFor stack room.new }
 {
     let base = threads.stack_at(thread)?;
     let regs = *threads.regs(thread)?;
@@ -32,6 +49,7 @@ fn frames_of(image: &Decoded<'_>, threads: &Threads, thread: u64, room: &mut Roo
 }
 
 fn set_regs(threads: &mut Threads, thread: u64, regs: Regs)
+    ensures set { (t : Thread) → thread_named threads.old thread ≡ Some t → threads.new ≡ with_regs threads.old thread regs }
     ensures forks { threads.new.forks ≡ threads.old.forks }
     ensures waits { threads.new.waits ≡ threads.old.waits }
 {
@@ -50,24 +68,34 @@ fn visit_thread<S: Store, L: Ledger>(
     steps: &mut Steps<L>,
 ) -> bool
     requires open { (S.heap store.old).is_open ≡ true }
-    ensures open { (S.heap store.new).is_open ≡ true }
+    ensures gathered { (t : Thread) → thread_named threads.old thread ≡ Some t → IsRoomFor (length (words_of threads.old t)) room.old
+        → OnTrue result (GathersThread (image_of image.now).program (S.heap store.old).cells t threads.old (S.heap store.old).moves threads.new (S.heap store.new).moves) }
+    ensures stopped { (t : Thread) → thread_named threads.old thread ≡ Some t → IsRoomFor (length (words_of threads.old t)) room.old
+        → OnFalse result (StopsThreadHere (image_of image.now).program (S.heap store.old).cells t threads.old (S.heap store.old).moves) }
+    ensures heap { KeepsHeap (S.heap store.old) (S.heap store.new) }
     ensures fitting { (shapes : List Shape) → S.fits store.old shapes → S.fits store.new shapes }
+    ensures room { (stack : ℕ) → IsRoomFor stack room.old → IsRoomFor stack room.new }
     ensures forks { threads.new.forks ≡ threads.old.forks }
     ensures waits { threads.new.waits ≡ threads.old.waits }
 {
     let Some(mut regs) = frames_of(image, threads, thread, room) else {
         return false;
     };
-    if !lists_fit(image, &room.frames, &mut room.marks) {
-        return false;
-    }
     let stack = threads.stack_mut(thread);
-    let fits = take_apart(image, &room.frames, &mut regs.r, stack, steps)
-        && visit_frames(image, &room.frames, &mut regs.r, stack, store, steps);
+    let fits = gather(
+        image,
+        &room.frames,
+        &mut room.marks,
+        &mut regs.r,
+        stack,
+        store,
+        steps,
+    );
     set_regs(threads, thread, regs);
     fits
 }
 
+/// Takes the derived words of all threads apart and visits their tidy words.
 fn visit_threads<S: Store, L: Ledger>(
     image: &Decoded<'_>,
     threads: &mut Threads,
@@ -76,11 +104,18 @@ fn visit_threads<S: Store, L: Ledger>(
     steps: &mut Steps<L>,
 ) -> bool
     requires open { (S.heap store.old).is_open ≡ true }
-    ensures open { (S.heap store.new).is_open ≡ true }
+    ensures gathered { IsRoomFor threads.old.stack room.old
+        → OnTrue result (AllGathered (image_of image.now).program (S.heap store.old).cells threads.old threads.new (S.heap store.old).moves (S.heap store.new).moves) }
+    ensures stopped { (s : Parts) → s.all ≡ threads.old → s.heap.cells ≡ (S.heap store.old).cells → IsRoomFor threads.old.stack room.old
+        → OnFalse result (StopsCollection (image_of image.now).program s) }
+    ensures heap { KeepsHeap (S.heap store.old) (S.heap store.new) }
     ensures fitting { (shapes : List Shape) → S.fits store.old shapes → S.fits store.new shapes }
+    ensures room { (stack : ℕ) → IsRoomFor stack room.old → IsRoomFor stack room.new }
     ensures forks { threads.new.forks ≡ threads.old.forks }
     ensures waits { threads.new.waits ≡ threads.old.waits }
 {
+    image.image().keeps_its_form();
+    image.image().keeps_together();
     for place in 0..64 {
         let Some(thread) = threads.number(place) else {
             return true;
@@ -92,6 +127,37 @@ fn visit_threads<S: Store, L: Ledger>(
     true
 }
 
+/// Opens a collection, takes the derived words of all threads apart, and visits the tidy words of the threads and of
+/// the globals.
+fn visit_roots<S: Store, L: Ledger>(
+    image: &Decoded<'_>,
+    threads: &mut Threads,
+    globals: &mut [u64],
+    store: &mut S,
+    room: &mut Room,
+    steps: &mut Steps<L>,
+) -> bool
+    requires closed { (S.heap store.old).is_open ≡ false }
+    ensures visited { IsRoomFor threads.old.stack room.old
+        → OnTrue result (Visited (image_of image.now).program (record { all = threads.old; globals = globals.old; heap = S.heap store.old }) threads.new globals.new (S.heap store.new).moves) }
+    ensures stopped { IsRoomFor threads.old.stack room.old
+        → OnFalse result (StopsCollection (image_of image.now).program (record { all = threads.old; globals = globals.old; heap = S.heap store.old })) }
+    ensures heap { Opens (S.heap store.old) (S.heap store.new) }
+    ensures fitting { (shapes : List Shape) → S.fits store.old shapes → S.fits store.new shapes }
+    ensures words { length globals.new ≡ length globals.old }
+    ensures room { (stack : ℕ) → IsRoomFor stack room.old → IsRoomFor stack room.new }
+    ensures forks { threads.new.forks ≡ threads.old.forks }
+    ensures waits { threads.new.waits ≡ threads.old.waits }
+{
+    image.image().keeps_its_form();
+    image.image().keeps_together();
+    store.begin();
+    if !visit_threads(image, threads, store, room, steps) {
+        return false;
+    }
+    visit_globals(image, globals, store, steps)
+}
+
 /// Puts the derived words of a thread together again.
 fn mend_thread<L: Ledger>(
     image: &Decoded<'_>,
@@ -100,24 +166,34 @@ fn mend_thread<L: Ledger>(
     room: &mut Room,
     steps: &mut Steps<L>,
 ) -> bool
+    ensures mended { (t : Thread) (frames : List AFrame) (cells : List Cell) (words : List ℕ) (before after last : List Move) → thread_named threads.old thread ≡ Some t → IsRoomFor (length (words_of threads.old t)) room.old
+        → AreFrames (image_of image.now).program threads.old t frames → Gathers (image_of image.now).program cells frames words before (words_at threads.old t) after
+        → length words ≡ length (words_of threads.old t) + 16 → GoesOn after last → (result ≡ true) × MendsThread (image_of image.now).program last frames t words threads.old threads.new }
+    ensures room { (stack : ℕ) → IsRoomFor stack room.old → IsRoomFor stack room.new }
     ensures forks { threads.new.forks ≡ threads.old.forks }
     ensures waits { threads.new.waits ≡ threads.old.waits }
 {
+    image.image().keeps_its_form();
     let Some(mut regs) = frames_of(image, threads, thread, room) else {
         return false;
     };
     let stack = threads.stack_mut(thread);
-    let fits = put_together(image, &room.frames, &mut regs.r, stack, steps);
+    let fits = mend(image, &room.frames, &mut regs.r, stack, steps);
     set_regs(threads, thread, regs);
     fits
 }
 
+/// Puts the derived words of all threads together again. Where their words were gathered, it answers true, and the
+/// words are moved.
 fn mend_threads<L: Ledger>(
     image: &Decoded<'_>,
     threads: &mut Threads,
     room: &mut Room,
     steps: &mut Steps<L>,
 ) -> bool
+    ensures mended { (cells : List Cell) (first : Everyone) (start moves last : List Move) → (all : AllGathered (image_of image.now).program cells first threads.old start moves) → GoesOn moves last → IsRoomFor threads.old.stack room.old
+        → (result ≡ true) × MovesThreads (image_of image.now).program last all.walks first threads.new }
+    ensures room { (stack : ℕ) → IsRoomFor stack room.old → IsRoomFor stack room.new }
     ensures forks { threads.new.forks ≡ threads.old.forks }
     ensures waits { threads.new.waits ≡ threads.old.waits }
 {
@@ -134,8 +210,9 @@ fn mend_threads<L: Ledger>(
 
 /// Collects the heap over all frames of all threads, by the rows of the image. Bases are subtracted from derived
 /// words from the newest frame to the oldest, the tidy words are visited, and once all that they lead to is
-/// moved, the bases are added again from the oldest frame to the newest. False comes exactly where a frame, a
-/// value or the lists of the rows aren't as they have to be (trap 9); then nothing is said of words and cells.
+/// moved, the bases are added again from the oldest frame to the newest. With room for the threads' stacks, false
+/// comes exactly where a frame, a value or the lists of the rows aren't as they have to be (trap 9); then nothing is
+/// said of words and cells.
 pub fn collect<S: Store, L: Ledger>(
     threads: &mut Threads,
     globals: &mut [u64],
@@ -147,15 +224,23 @@ pub fn collect<S: Store, L: Ledger>(
     requires closed { (S.heap store.old).is_open ≡ false }
     requires fitting { S.fits store.old (map shape_of (image_of image.now).program.types) }
     requires words { length globals.old ≡ (image_of image.now).program.globals.words }
+    ensures collected { IsRoomFor threads.old.stack room.old
+        → OnTrue result (Collected (image_of image.now).program (record { all = threads.old; globals = globals.old; heap = S.heap store.old }) (record { all = threads.new; globals = globals.new; heap = S.heap store.new })) }
+    ensures offsets { IsRoomFor threads.old.stack room.old → OnTrue result (AllKeepOffsets (image_of image.now).program threads.old threads.new) }
+    ensures whole { IsRoomFor threads.old.stack room.old
+        → OnTrue result (StopsCollection (image_of image.now).program (record { all = threads.old; globals = globals.old; heap = S.heap store.old }) → ⊥) }
+    ensures stopped { IsRoomFor threads.old.stack room.old
+        → OnFalse result (StopsCollection (image_of image.now).program (record { all = threads.old; globals = globals.old; heap = S.heap store.old })) }
     ensures closed { (S.heap store.new).is_open ≡ false }
     ensures fitting { result ≡ true → S.fits store.new (map shape_of (image_of image.now).program.types) }
     ensures words { length globals.new ≡ length globals.old }
+    ensures room { (stack : ℕ) → IsRoomFor stack room.old → IsRoomFor stack room.new }
     ensures forks { threads.new.forks ≡ threads.old.forks }
     ensures waits { threads.new.waits ≡ threads.old.waits }
 {
-    store.begin();
-    let visited = visit_threads(image, threads, store, room, steps)
-        && visit_globals(image, globals, store, steps);
+    image.image().keeps_its_form();
+    image.image().keeps_together();
+    let visited = visit_roots(image, threads, globals, store, room, steps);
     let traced = store.finish(image, steps);
     if !visited || !traced {
         return false;

@@ -1,142 +1,103 @@
 //! What the rows of a thread's frames may list together: no word twice, no path and no first or second word of a
 //! frame, and no derived word of a newer frame as the base of an older one.
-use crate::places::{place_in, row_of};
+ghost use Rattle.std.specs.Prelude.{◌≡◌, ◌≤◌, ◌<◌, ◌+◌, ◌^◌, ℕ, List, length, map, true, false};
+ghost use Rattle.std.specs.List.{AllByRecursion};
+ghost use Rattle.m3_tables.specs.Numbers.{word_in};
+ghost use Rattle.m3_decoded.specs.Ready.{image_of};
+ghost use Rattle.m3_frames.specs.declared.frame.Frame.{Frame as AFrame};
+ghost use Rattle.m3_roots.specs.RowMeaning.{HaveRows, AreFramesAt, newest_arguments};
+ghost use Rattle.m3_roots.specs.RowLists.{ListsFit};
+ghost use Rattle.m3_roots.specs.Marking.{Lists, MarksAll};
+ghost use Rattle.m3_roots.specs.RowActs.{frame_acts, acts_below, acts_of};
+
+use crate::listing::{bar_all, list_numbers, list_row};
+use crate::marks::{Mark, clear};
+use crate::walk::row_of;
 use m3_decoded::Decoded;
 use m3_frames::Frame;
-use m3_tables::{Derivation, Numbers, Row};
-
-// What is known of a word: a row lists it, a row lists it as derived, or no row may list it.
-const LISTED: u8 = 1;
-
-const DERIVED: u8 = 2;
-
-const BARRED: u8 = 4;
-
-fn clear(marks: &mut [u8], end: usize) {
-    for place in 0..end {
-        if place < marks.len() {
-            marks[place] = 0;
-        }
-    }
-}
-
-/// Marks a word, and says whether it had none of some marks.
-fn mark(marks: &mut [u8], place: usize, with: u8, without: u8) -> bool {
-    if place >= marks.len() {
-        return true;
-    }
-    let old = marks[place];
-    marks[place] = old | with;
-    old & without == 0
-}
-
-fn is_marked(marks: &[u8], place: usize, with: u8) -> bool {
-    place < marks.len() && marks[place] & with != 0
-}
-
-fn mark_all(marks: &mut [u8], first: usize, places: Numbers<'_>) -> bool {
-    for place in places {
-        if !mark(marks, place_in(first, place), LISTED, LISTED | BARRED) {
-            return false;
-        }
-    }
-    true
-}
-
-fn mark_tidy(marks: &mut [u8], first: usize, places: &[u32]) -> bool {
-    for place in places {
-        if !mark(marks, place_in(first, *place), LISTED, LISTED | BARRED) {
-            return false;
-        }
-    }
-    true
-}
-
-fn bar_paths(marks: &mut [u8], first: usize, row: &Row<'_>) -> bool {
-    for entry in row.derivations() {
-        if let Some(path) = entry.path_number() {
-            if !mark(marks, place_in(first, path), BARRED, LISTED) {
-                return false;
-            }
-        }
-    }
-    true
-}
-
-fn any_is_derived(marks: &[u8], first: usize, places: Numbers<'_>) -> bool {
-    for place in places {
-        if is_marked(marks, place_in(first, place), DERIVED) {
-            return true;
-        }
-    }
-    false
-}
-
-/// Whether a base of one of the ways of an entry is a derived word.
-fn has_derived_base(marks: &[u8], first: usize, entry: &Derivation<'_>) -> bool {
-    for way in entry.every_way() {
-        if any_is_derived(marks, first, way.added) || any_is_derived(marks, first, way.subtracted) {
-            return true;
-        }
-    }
-    false
-}
-
-fn bases_are_plain(marks: &[u8], first: usize, row: &Row<'_>) -> bool {
-    for entry in row.derivations() {
-        if has_derived_base(marks, first, &entry) {
-            return false;
-        }
-    }
-    true
-}
-
-fn mark_derived(marks: &mut [u8], first: usize, row: &Row<'_>) -> bool {
-    for entry in row.derivations() {
-        let place = place_in(first, entry.place_number());
-        if !mark(marks, place, LISTED | DERIVED, LISTED | BARRED) {
-            return false;
-        }
-    }
-    true
-}
 
 /// Marks what the row of a frame lists.
-fn mark_frame(image: &Decoded<'_>, marks: &mut [u8], frame: &Frame, newest: bool) -> bool {
+fn mark_frame(image: &Decoded<'_>, marks: &mut [Mark], frame: &Frame) -> bool
+    ensures { frame.now.row < word_in (image_of image.now).program.tables
+        → MarksAll marks.old marks.new (frame_acts (image_of image.now).program frame.now) result }
+{
     let Some(row) = row_of(image, frame) else {
         return false;
     };
     let Some(tidy) = image.tidy_places(frame.row) else {
         return false;
     };
-    let first = frame.first;
-    mark(marks, place_in(first, 16), BARRED, LISTED)
-        && mark(marks, place_in(first, 17), BARRED, LISTED)
-        && bar_paths(marks, first, &row)
-        && (newest || bases_are_plain(marks, first, &row))
-        && mark_tidy(marks, first, tidy)
-        && (!newest || mark_all(marks, first, row.argument_places()))
-        && mark_derived(marks, first, &row)
+    bar_all(marks, frame.first, &row) && list_row(marks, frame.first, tidy, &row)
+}
+
+/// Marks what the rows of the frames list.
+fn mark_frames(image: &Decoded<'_>, marks: &mut [Mark], frames: &[Frame]) -> bool
+    ensures { HaveRows (image_of image.now).program frames.now
+        → MarksAll marks.old marks.new (acts_below (image_of image.now).program frames.now) result }
+{
+    for frame in frames {
+        if !mark_frame(image, marks, frame) {
+            return false;
+        }
+    }
+    true
+}
+
+/// Marks the arguments of the newest frame.
+fn mark_arguments(image: &Decoded<'_>, marks: &mut [Mark], frames: &[Frame]) -> bool
+    ensures { HaveRows (image_of image.now).program frames.now
+        → MarksAll marks.old marks.new (map Lists (newest_arguments (image_of image.now).program frames.now)) result }
+{
+    let [newest, ..] = frames else {
+        return true;
+    };
+    let Some(row) = row_of(image, newest) else {
+        return false;
+    };
+    list_numbers(marks, newest.first, row.argument_places())
+}
+
+/// Marks what the rows of all frames list, and the arguments of the newest.
+fn mark_all(image: &Decoded<'_>, marks: &mut [Mark], frames: &[Frame]) -> bool
+    ensures { HaveRows (image_of image.now).program frames.now
+        → MarksAll marks.old marks.new (acts_of (image_of image.now).program frames.now) result }
+{
+    mark_arguments(image, marks, frames) && mark_frames(image, marks, frames)
+}
+
+/// The later one of an end and that of a frame.
+fn later_end(end: usize, frame: &Frame) -> usize
+    ensures later { end ≤ result }
+    ensures frame { (n : ℕ) → n < 2 ^ 64 → frame.now.first + frame.now.words ≤ n → frame.now.first + frame.now.words ≤ result }
+    ensures within { (n : ℕ) → n < 2 ^ 64 → frame.now.first + frame.now.words ≤ n → end ≤ n → result ≤ n }
+{
+    end.max(frame.first.saturating_add(frame.words))
 }
 
 /// Where the words of all frames end.
-fn end_of(frames: &[Frame]) -> usize {
+fn end_of(frames: &[Frame]) -> usize
+    ensures { (n : ℕ) → n < 2 ^ 64 → AllByRecursion (λ (f : AFrame). f.first + f.words ≤ n) frames.now
+        → (result ≤ n) × AllByRecursion (λ (f : AFrame). f.first + f.words ≤ result) frames.now }
+{
     let mut end = 0;
     for frame in frames {
-        end = end.max(frame.first.wrapping_add(frame.words));
+        end = later_end(end, frame);
     }
     end
 }
 
-/// Whether what the rows of these frames list together is as it may be.
-pub fn lists_fit(image: &Decoded<'_>, frames: &[Frame], marks: &mut [u8]) -> bool {
-    clear(marks, end_of(frames).wrapping_add(16));
-    let mut newest = true;
-    for frame in frames {
-        if !mark_frame(image, marks, frame, newest) {
-            return false;
-        }
-        newest = false;
-    }
-    true
+/// Whether what the rows of the frames of a stack list together is as it may be, where there is a mark for each
+/// register and each word of the stack.
+pub fn lists_fit(image: &Decoded<'_>, frames: &[Frame], marks: &mut [Mark]) -> bool
+    ensures fit { (base fp pc : ℕ) (stack : List ℕ) → AreFramesAt (image_of image.now).program base stack fp pc frames.now → length stack + 16 ≤ length marks.old
+        → result ≡ true → ListsFit (image_of image.now).program frames.now }
+    ensures unfit { (base fp pc : ℕ) (stack : List ℕ) → AreFramesAt (image_of image.now).program base stack fp pc frames.now → length stack + 16 ≤ length marks.old
+        → result ≡ false → ListsFit (image_of image.now).program frames.now → ⊥ }
+{
+    image.image().keeps_its_form();
+    image.image().keeps_together();
+    let count = marks.len();
+    let end = end_of(frames).saturating_add(16).min(count);
+    clear(marks, end);
+    mark_all(image, marks, frames)
 }

@@ -1,46 +1,44 @@
 //! The words of a thread by their places: the registers are 0 to 15, and 16 and more are the words of its stack.
-use m3_decoded::Decoded;
-use m3_frames::Frame;
-use m3_tables::Row;
+ghost use Rattle.std.specs.Prelude.{◌≡◌, ◌++◌, nat_lt, if◌then◌else◌, Some, None, slice_set};
+ghost use Rattle.m3_roots.specs.ThreadWords.{word_at, place_from};
 
-/// The row of a frame.
-pub fn row_of<'a>(image: &Decoded<'a>, frame: &Frame) -> Option<Row<'a>> {
-    let tables = image.image().tables();
-    if frame.row >= tables.len() as usize {
-        return None;
-    }
-    tables.at(frame.row as u32)
-}
-
-/// The place of a location of a frame that begins at a place of the stack.
+/// The place that a row's number stands for in a frame that begins at a word of the stack. None exactly where it
+/// isn't before an end.
 #[inline]
-pub fn place_in(first: usize, location: u32) -> usize {
-    if location < 16 {
-        location as usize
+pub fn place_before(end: usize, first: usize, number: u32) -> Option<usize>
+    ensures { result ≡ (if nat_lt (place_from first number) end then Some (place_from first number) else None) }
+{
+    let number = number as usize;
+    if number < 16 {
+        return if number < end { Some(number) } else { None };
+    }
+    if first < end && number < end - first {
+        Some(first + number)
     } else {
-        first.wrapping_add(location as usize)
+        None
     }
 }
 
-/// The word at a place, and 0 past the last.
+/// The word that a row's number stands for, and 0 past the last.
 #[inline]
-pub fn word_at(r: &[u64; 16], stack: &[u64], place: usize) -> u64 {
-    if place < 16 {
-        return r[place];
-    }
-    if place - 16 < stack.len() {
-        stack[place - 16]
-    } else {
-        0
+pub fn word_at(r: &[u64; 16], stack: &[u64], first: usize, number: u32) -> u64
+    ensures { result ≡ word_at (r.now ++ stack.now) (place_from first number) }
+{
+    match place_before(stack.len() + 16, first, number) {
+        Some(place) if place < 16 => r[place],
+        Some(place) => stack[place - 16],
+        None => 0,
     }
 }
 
-/// Sets the word at a place, if one is there.
+/// Sets the word that a row's number stands for, if one is there.
 #[inline]
-pub fn set_word(r: &mut [u64; 16], stack: &mut [u64], place: usize, word: u64) {
-    if place < 16 {
-        r[place] = word;
-    } else if place - 16 < stack.len() {
-        stack[place - 16] = word;
+pub fn set_word(r: &mut [u64; 16], stack: &mut [u64], first: usize, number: u32, word: u64)
+    ensures { r.new ++ stack.new ≡ slice_set (r.old ++ stack.old) (place_from first number) word }
+{
+    match place_before(stack.len() + 16, first, number) {
+        Some(place) if place < 16 => r[place] = word,
+        Some(place) => stack[place - 16] = word,
+        None => {}
     }
 }

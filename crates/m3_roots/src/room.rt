@@ -1,5 +1,7 @@
-ghost use Rattle.std.specs.Prelude.{◌≤◌};
+ghost use Rattle.std.specs.Prelude.{◌≤◌, IfOk};
+ghost use Rattle.m3_roots.specs.RoomSizes.{IsRoomFor};
 
+use crate::marks::{BLANK, Mark};
 use m3_base::NoMemory;
 use m3_frames::Frame;
 use std::alloc::Global;
@@ -9,16 +11,17 @@ use std::alloc::Global;
 #[derive(Drop)]
 pub struct Room {
     pub(crate) frames: Vec<Frame>,
-    pub(crate) marks: Vec<u8>,
+    pub(crate) marks: Vec<Mark>,
 }
 
 impl Room {
     /// Room for the frames and the words of a stack of so many words.
     pub fn new(alloc: Global, stack: u64) -> Result<Room, NoMemory>
         requires { stack ≤ 1048576 }
+        ensures { IfOk result (λ room. IsRoomFor stack room) }
     {
-        let frames = Vec::with_capacity(alloc, stack as usize)?;
-        let marks = vec![in alloc; 0u8; stack as usize + 16]?;
+        let frames = Vec::with_capacity(alloc, stack as usize + 1)?;
+        let marks = vec![in alloc; BLANK; stack as usize + 16]?;
         Ok(Room { frames, marks })
     }
 }

@@ -1,101 +1,85 @@
 //! The tidy words, visited.
-ghost use Rattle.std.specs.Prelude.{◌≡◌, true, List, length};
+ghost use Rattle.std.specs.Prelude.{◌≡◌, ◌<◌, ◌++◌, ◌∷◌, [], true, List, length, slice_set};
+ghost use Rattle.m3_roots.specs.ThreadWords.{word_at};
+ghost use Rattle.m3_tables.specs.Numbers.{word_in};
 ghost use Rattle.m3_heap.specs.Shapes.{Shape};
+ghost use Rattle.m3_decoded.specs.Ready.{image_of};
+ghost use Rattle.m3_roots.specs.RowMeaning.{HaveRows, tidy_in, tidy_below, newest_arguments, tidy_places};
+ghost use Rattle.m3_roots.specs.Visiting.{VisitEnds, KeepsHeap};
 
-use crate::places::{place_in, row_of, set_word, word_at};
+use crate::visits::{visit_list, visit_numbers};
+use crate::walk::row_of;
 use m3_decoded::Decoded;
 use m3_frames::Frame;
 use m3_heap::{Steps, Store};
-use m3_tables::Numbers;
 use std::sync::ledger::Ledger;
 
-fn visit_at<S: Store, L: Ledger>(
-    place: usize,
-    r: &mut [u64; 16],
-    stack: &mut [u64],
-    store: &mut S,
-    steps: &mut Steps<L>,
-) -> bool
-    requires open { (S.heap store.old).is_open ≡ true }
-    ensures open { (S.heap store.new).is_open ≡ true }
-    ensures fitting { (shapes : List Shape) → S.fits store.old shapes → S.fits store.new shapes }
-{
-    let word = word_at(r, stack, place);
-    match store.visit(word, steps) {
-        Some(to) => {
-            set_word(r, stack, place, to);
-            true
-        }
-        None => false,
-    }
-}
-
-fn visit_arguments<S: Store, L: Ledger>(
-    places: Numbers<'_>,
-    first: usize,
-    r: &mut [u64; 16],
-    stack: &mut [u64],
-    store: &mut S,
-    steps: &mut Steps<L>,
-) -> bool
-    requires open { (S.heap store.old).is_open ≡ true }
-    ensures open { (S.heap store.new).is_open ≡ true }
-    ensures fitting { (shapes : List Shape) → S.fits store.old shapes → S.fits store.new shapes }
-{
-    for place in places {
-        if !visit_at(place_in(first, place), r, stack, store, steps) {
-            return false;
-        }
-    }
-    true
-}
-
-fn visit_tidy<S: Store, L: Ledger>(
-    places: &[u32],
-    first: usize,
-    r: &mut [u64; 16],
-    stack: &mut [u64],
-    store: &mut S,
-    steps: &mut Steps<L>,
-) -> bool
-    requires open { (S.heap store.old).is_open ≡ true }
-    ensures open { (S.heap store.new).is_open ≡ true }
-    ensures fitting { (shapes : List Shape) → S.fits store.old shapes → S.fits store.new shapes }
-{
-    for place in places {
-        if !visit_at(place_in(first, *place), r, stack, store, steps) {
-            return false;
-        }
-    }
-    true
-}
-
+/// Visits the tidy words of a frame.
 fn visit_frame<S: Store, L: Ledger>(
     image: &Decoded<'_>,
     frame: &Frame,
-    newest: bool,
     r: &mut [u64; 16],
     stack: &mut [u64],
     store: &mut S,
     steps: &mut Steps<L>,
 ) -> bool
     requires open { (S.heap store.old).is_open ≡ true }
-    ensures open { (S.heap store.new).is_open ≡ true }
+    ensures visited { frame.now.row < word_in (image_of image.now).program.tables
+        → VisitEnds result (S.heap store.old) (tidy_in (image_of image.now).program frame.now) (r.old ++ stack.old) (r.new ++ stack.new) (S.heap store.new) }
+    ensures heap { KeepsHeap (S.heap store.old) (S.heap store.new) }
     ensures fitting { (shapes : List Shape) → S.fits store.old shapes → S.fits store.new shapes }
 {
     let Some(tidy) = image.tidy_places(frame.row) else {
         return false;
     };
-    if !visit_tidy(tidy, frame.first, r, stack, store, steps) {
-        return false;
-    }
-    if !newest {
+    visit_list(tidy, frame.first, r, stack, store, steps)
+}
+
+/// Visits the arguments of the newest frame.
+fn visit_arguments<S: Store, L: Ledger>(
+    image: &Decoded<'_>,
+    frames: &[Frame],
+    r: &mut [u64; 16],
+    stack: &mut [u64],
+    store: &mut S,
+    steps: &mut Steps<L>,
+) -> bool
+    requires open { (S.heap store.old).is_open ≡ true }
+    ensures visited { HaveRows (image_of image.now).program frames.now
+        → VisitEnds result (S.heap store.old) (newest_arguments (image_of image.now).program frames.now) (r.old ++ stack.old) (r.new ++ stack.new) (S.heap store.new) }
+    ensures heap { KeepsHeap (S.heap store.old) (S.heap store.new) }
+    ensures fitting { (shapes : List Shape) → S.fits store.old shapes → S.fits store.new shapes }
+{
+    let [newest, ..] = frames else {
         return true;
-    }
-    let Some(row) = row_of(image, frame) else {
+    };
+    let Some(row) = row_of(image, newest) else {
         return false;
     };
-    visit_arguments(row.argument_places(), frame.first, r, stack, store, steps)
+    visit_numbers(row.argument_places(), newest.first, r, stack, store, steps)
+}
+
+/// Visits the tidy words of each frame.
+fn visit_each<S: Store, L: Ledger>(
+    image: &Decoded<'_>,
+    frames: &[Frame],
+    r: &mut [u64; 16],
+    stack: &mut [u64],
+    store: &mut S,
+    steps: &mut Steps<L>,
+) -> bool
+    requires open { (S.heap store.old).is_open ≡ true }
+    ensures visited { HaveRows (image_of image.now).program frames.now
+        → VisitEnds result (S.heap store.old) (tidy_below (image_of image.now).program frames.now) (r.old ++ stack.old) (r.new ++ stack.new) (S.heap store.new) }
+    ensures heap { KeepsHeap (S.heap store.old) (S.heap store.new) }
+    ensures fitting { (shapes : List Shape) → S.fits store.old shapes → S.fits store.new shapes }
+{
+    for frame in frames {
+        if !visit_frame(image, frame, r, stack, store, steps) {
+            return false;
+        }
+    }
+    true
 }
 
 /// Visits the tidy words of all frames, and puts the new words in their places. False comes exactly where one of
@@ -109,17 +93,51 @@ pub fn visit_frames<S: Store, L: Ledger>(
     steps: &mut Steps<L>,
 ) -> bool
     requires open { (S.heap store.old).is_open ≡ true }
-    ensures open { (S.heap store.new).is_open ≡ true }
+    ensures visited { HaveRows (image_of image.now).program frames.now
+        → VisitEnds result (S.heap store.old) (tidy_places (image_of image.now).program frames.now) (r.old ++ stack.old) (r.new ++ stack.new) (S.heap store.new) }
+    ensures heap { KeepsHeap (S.heap store.old) (S.heap store.new) }
     ensures fitting { (shapes : List Shape) → S.fits store.old shapes → S.fits store.new shapes }
 {
-    let mut newest = true;
-    for frame in frames {
-        if !visit_frame(image, frame, newest, r, stack, store, steps) {
-            return false;
-        }
-        newest = false;
+    visit_arguments(image, frames, r, stack, store, steps)
+        && visit_each(image, frames, r, stack, store, steps)
+}
+
+/// The word of a number among the globals, and 0 past the last.
+fn global_at(globals: &[u64], n: usize) -> u64
+    ensures { result ≡ word_at globals.now n }
+{
+    if n < globals.len() { globals[n] } else { 0 }
+}
+
+/// Sets the word of a number among the globals, if one is there.
+fn set_global(globals: &mut [u64], n: usize, word: u64)
+    ensures { globals.new ≡ slice_set globals.old n word }
+{
+    if n < globals.len() {
+        globals[n] = word;
     }
-    true
+}
+
+/// Visits the word of a number among the globals, and puts its new value in its place.
+fn visit_global<S: Store, L: Ledger>(
+    n: usize,
+    globals: &mut [u64],
+    store: &mut S,
+    steps: &mut Steps<L>,
+) -> bool
+    requires open { (S.heap store.old).is_open ≡ true }
+    ensures visited { VisitEnds result (S.heap store.old) (n ∷ []) globals.old globals.new (S.heap store.new) }
+    ensures heap { KeepsHeap (S.heap store.old) (S.heap store.new) }
+    ensures fitting { (shapes : List Shape) → S.fits store.old shapes → S.fits store.new shapes }
+{
+    let word = global_at(globals, n);
+    match store.visit(word, steps) {
+        Some(to) => {
+            set_global(globals, n, to);
+            true
+        }
+        None => false,
+    }
 }
 
 /// Visits the tidy words among the globals.
@@ -130,18 +148,14 @@ pub fn visit_globals<S: Store, L: Ledger>(
     steps: &mut Steps<L>,
 ) -> bool
     requires open { (S.heap store.old).is_open ≡ true }
-    ensures open { (S.heap store.new).is_open ≡ true }
+    ensures visited { VisitEnds result (S.heap store.old) (image_of image.now).program.globals.pointers globals.old globals.new (S.heap store.new) }
+    ensures heap { KeepsHeap (S.heap store.old) (S.heap store.new) }
     ensures fitting { (shapes : List Shape) → S.fits store.old shapes → S.fits store.new shapes }
     ensures count { length globals.new ≡ length globals.old }
 {
-    for place in image.image().global_pointers() {
-        let place = place as usize;
-        if place >= globals.len() {
+    for number in image.image().global_pointers() {
+        if !visit_global(number as usize, globals, store, steps) {
             return false;
-        }
-        match store.visit(globals[place], steps) {
-            Some(to) => globals[place] = to,
-            None => return false,
         }
     }
     true

@@ -1,0 +1,23 @@
+use Rattle.std.proofs.Common.{refl, sym, ap}
+use Rattle.m3_heap.specs.Heap.{Heap}
+use Rattle.m3_decoded.specs.Ready.{image_of}
+use Rattle.m3_roots.specs.Collected.{Parts}
+use Rattle.m3_roots.proofs.GoodLemmas.{IsGood, good_of}
+use Rattle.m3_roots.proofs.CollectedLemmas.{roots_visited, roots_stopped}
+use Rattle.m3_roots.proofs.collecting.visit_roots.Goals as goal
+
+pub returns-then-not-visit_threads-clause-stopped : goal.returns-then-not-visit_threads-clause-stopped
+returns-then-not-visit_threads-clause-stopped g c = λ room. c.if-not-visit_threads.ensures.stopped (record { all = c.args.threads.now; globals = c.args.globals.now; heap = g.S.Store.heap c.args.store.now }) refl (sym (ap (λ (h : Heap). h.cells) c.begin.ensures.opened)) room
+
+pub returns-clause-stopped : goal.returns-clause-stopped
+returns-clause-stopped g c = λ room.
+    (let p = (image_of c.args.image.now).program in
+    let good : IsGood p = good_of _ _ (image_of c.args.image.now) c.image.ensures c.image-2.ensures c.keeps_its_form.ensures c.keeps_together.ensures in
+    let old : Parts = record { all = c.args.threads.now; globals = c.args.globals.now; heap = g.S.Store.heap c.args.store.now } in
+    roots_stopped c.visit_globals.result p good old (g.S.Store.heap c.begin.new.self) (g.S.Store.heap c.visit_threads.new.store) (g.S.Store.heap c.visit_globals.new.store).moves c.visit_globals.new.globals c.begin.ensures.opened c.if-not-visit_threads.ensures.heap c.visit_globals.ensures.visited)
+
+pub returns-clause-visited : goal.returns-clause-visited
+returns-clause-visited g c = λ room.
+    (let p = (image_of c.args.image.now).program in
+    let old : Parts = record { all = c.args.threads.now; globals = c.args.globals.now; heap = g.S.Store.heap c.args.store.now } in
+    roots_visited c.visit_globals.result p old (g.S.Store.heap c.begin.new.self) (g.S.Store.heap c.visit_threads.new.store) (g.S.Store.heap c.visit_globals.new.store).moves c.visit_threads.new.threads c.visit_globals.new.globals c.begin.ensures.opened c.if-not-visit_threads.ensures.heap (c.if-not-visit_threads.ensures.gathered room) c.visit_globals.ensures.visited)

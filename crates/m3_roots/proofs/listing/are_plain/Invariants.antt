@@ -1,0 +1,8 @@
+use Rattle.std.specs.Prelude.{map}
+use Rattle.m3_tables.specs.Views.{numbers_of}
+use Rattle.m3_roots.specs.ThreadWords.{places_from}
+use Rattle.m3_roots.specs.Marking.{Uses, MarksPart}
+use Rattle.m3_roots.proofs.listing.are_plain.Given as goal
+
+abbrev pub invariant-loop-number : goal.invariant-loop-number
+invariant-loop-number l = MarksPart l.marks l.marks (map Uses (places_from l.first (numbers_of l.fn.numbers))) (map Uses (places_from l.first (numbers_of l.number-iterator)))
