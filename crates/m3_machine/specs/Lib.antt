@@ -1,14 +1,3 @@
-pub mod Addresses
-pub mod Kept
-pub mod State
-pub mod Progress
-pub mod Calls
-pub mod Texts
-pub mod Making
-pub mod Acts
-pub mod Steps
-pub mod Plain
-pub mod Points
-pub mod Runs
-pub mod OutsideLaws
-pub mod MemoryLaws
+pub mod Seen
+pub mod Blanks
+pub mod Deeds

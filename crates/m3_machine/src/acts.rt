@@ -1,14 +1,29 @@
+ghost use Rattle.std.specs.Prelude.{◌≡◌, ◌<◌, ◌≤◌, ◌-◌, ◌^◌, ℕ, [], Some, List, length, slice_get, OnOk, OnErr, IfOk};
+ghost use Rattle.m3_isa.specs.declared.instructions.Instr.{Instr as Instruction};
+ghost use Rattle.m3_strides.specs.State.{executed};
+ghost use Rattle.m3_strides.specs.Calls.{place_of};
+ghost use Rattle.m3_strides.specs.Steps.{Acts, Does};
+ghost use Rattle.m3_machine.specs.Deeds.{MayAct, IsSilent};
 ghost use Rattle.m3_isa.specs.Instructions.{IsInstruction};
+ghost use Rattle.m3_ports.specs.Counts.{Rose};
+ghost use Rattle.m3_threads.specs.declared.status.Thread.{Thread};
+ghost use Rattle.m3_decoded.specs.Ready.{image_of};
+ghost use Rattle.m3_strides.specs.Progress.{Follows, became};
+ghost use Rattle.m3_strides.specs.Acts.{fault_kinds, faults_at, is_uncaught};
+ghost use Rattle.m3_machine.specs.Seen.{state_of, program_of, Running, Took};
 
 use crate::machine::Machine;
-use crate::progress::Progress;
 use m3_base::{FaultKind, Outcome};
 use m3_heap::Store;
-use m3_isa::{Instr, Op, Regs};
+use m3_isa::{Instr, Op};
 use m3_ports::{Sink, SinkFailed};
+use m3_strides::Progress;
+use m3_strides::near::{Place, before};
 
 /// The kind of fault of a number.
-fn kind_of(number: u8) -> Option<FaultKind> {
+fn kind_of(number: u8) -> Option<FaultKind>
+    ensures { result ≡ slice_get fault_kinds number }
+{
     match number {
         0 => Some(FaultKind::Overflow),
         1 => Some(FaultKind::DivZero),
@@ -31,43 +46,10 @@ fn kind_of(number: u8) -> Option<FaultKind> {
 }
 
 impl<'a, S: Store> Machine<'a, S> {
-    /// The word in a register of the running thread.
-    pub(crate) fn word(&self, n: u8) -> u64 {
-        match self.memory.threads.regs(self.running) {
-            Some(regs) if n < 16 => regs.r[n as usize],
-            _ => 0,
-        }
-    }
-
-    /// The running thread goes on to its next instruction.
-    pub(crate) fn go_on(&mut self) -> Progress {
-        let mut regs = self.regs();
-        regs.pc = regs.pc.wrapping_add(1);
-        self.set_regs(regs);
-        Progress::Goes
-    }
-
-    /// It goes on with a word in a register.
-    pub(crate) fn give(&mut self, a: u8, word: u64) -> Progress {
-        let mut regs = self.regs();
-        if a < 16 {
-            regs.r[a as usize] = word;
-        }
-        regs.pc = regs.pc.wrapping_add(1);
-        self.set_regs(regs);
-        Progress::Goes
-    }
-
-    /// It jumps.
-    pub(crate) fn jump(&mut self, target: i32) -> Progress {
-        let mut regs = self.regs();
-        regs.pc = target.cast_unsigned();
-        self.set_regs(regs);
-        Progress::Goes
-    }
-
     /// FAULT, whose kind and place every image has.
-    fn fault(&self, i: Instr) -> Progress {
+    fn fault(&self, i: Instr) -> Progress
+        ensures { Follows (program_of self.now) (faults_at (program_of self.now) i) (state_of self.now) (became result (state_of self.now)) }
+    {
         let Some(kind) = kind_of(i.a) else {
             return Progress::trap(2);
         };
@@ -78,7 +60,11 @@ impl<'a, S: Store> Machine<'a, S> {
     }
 
     /// UNC: an exception that nobody handled.
-    fn uncaught(&self, i: Instr) -> Progress {
+    fn uncaught(&self, i: Instr) -> Progress
+        requires { i.a < 16 }
+        ensures { (t : Thread) → Running self.now t
+            → Follows (program_of self.now) (is_uncaught (program_of self.now) i t.regs) (state_of self.now) (became result (state_of self.now)) }
+    {
         let number = self.word(i.a);
         if number >= 1 << 32 {
             return Progress::trap(5);
@@ -89,29 +75,63 @@ impl<'a, S: Store> Machine<'a, S> {
         }
     }
 
-    /// Carries out the running thread's instruction, whatever it is but plain.
-    pub(crate) fn act<O: Sink>(&mut self, out: &mut O) -> Result<Progress, SinkFailed> {
-        let Some(i) = self.image.fetch(self.pc()) else {
-            return Ok(Progress::trap(1));
-        };
-        let i = *i;
-        self.instructions = self.instructions.wrapping_add(1);
+    /// Carries out the running thread's instruction, which isn't plain.
+    pub(crate) fn act<O: Sink>(&mut self, out: &mut O) -> Result<Progress, SinkFailed>
+        ensures rises { O.faults out.old ≤ O.faults out.new }
+        ensures kept { OnOk result (O.faults out.new ≡ O.faults out.old) }
+        ensures failed { OnErr result (Rose (O.faults out.old) (O.faults out.new)) }
+        ensures does { IfOk result (λ progress. (t : Thread) (i : Instruction) → slice_get (program_of self.old).code t.regs.pc ≡ Some i → MayAct self.old t i → self.old.instructions < 2 ^ 128 - 1
+            → (bytes : List ℕ) × Took (O.taken out.old) (O.taken out.new) bytes
+            × Does (program_of self.old) self.old.input.now t i (executed (state_of self.old)) bytes (became progress (state_of self.new))) }
+    {
+        let regs = self.regs();
+        match self.image.fetch(regs.pc) {
+            Some(i) => {
+                let i = *i;
+                self.act_at(i, Place::of(&regs), out)
+            }
+            None => Ok(Progress::trap(1)),
+        }
+    }
+
+    /// Carries out an instruction, at which the running thread stands.
+    fn act_at<O: Sink>(&mut self, i: Instr, at: Place, out: &mut O) -> Result<Progress, SinkFailed>
+        requires instruction { IsInstruction i }
+        requires inside { at.pc < length (image_of self.old.image).program.code }
+        ensures rises { O.faults out.old ≤ O.faults out.new }
+        ensures kept { OnOk result (O.faults out.new ≡ O.faults out.old) }
+        ensures failed { OnErr result (Rose (O.faults out.old) (O.faults out.new)) }
+        ensures does { IfOk result (λ progress. (t : Thread) → MayAct self.old t i → at ≡ place_of t.regs → self.old.instructions < 2 ^ 128 - 1
+            → (bytes : List ℕ) × Took (O.taken out.old) (O.taken out.new) bytes
+            × Does (program_of self.old) self.old.input.now t i (executed (state_of self.old)) bytes (became progress (state_of self.new))) }
+    {
+        self.instructions = self.instructions.saturating_add(1);
         match i.op {
             Op::Put => self.put_text(i, out),
             Op::Putn => self.put_number(i, out),
             Op::Putc => self.put_byte(i, out),
-            _ => Ok(self.act_silently(i)),
+            _ => Ok(self.act_silently(i, at)),
         }
     }
 
-    fn act_silently(&mut self, i: Instr) -> Progress
-        requires { IsInstruction i }
+    /// Carries out an instruction that puts nothing.
+    fn act_silently(&mut self, i: Instr, at: Place) -> Progress
+        requires instruction { IsInstruction i }
+        requires inside { at.pc < length (image_of self.old.image).program.code }
+        ensures { (t : Thread) → MayAct self.old t i → at ≡ place_of t.regs → IsSilent i.op
+            → Acts (program_of self.old) self.old.input.now t i (state_of self.old) [] (became result (state_of self.new)) i.op }
     {
         match i.op {
-            Op::Call => self.call(i.imm.cast_unsigned()),
-            Op::Callr => self.call_behind(3, self.word(i.a)),
-            Op::Callm => self.call_method(i),
-            Op::Ret => self.return_back(),
+            Op::Call => self.call(Ok(i.imm.cast_unsigned()), at),
+            Op::Callr => {
+                let callee = before(3, self.word(i.a));
+                self.call(callee, at)
+            }
+            Op::Callm => {
+                let callee = self.called_method(i, at);
+                self.call(callee, at)
+            }
+            Op::Ret => self.return_back(at),
             Op::Meth => self.tell_method(i),
             Op::Subt => self.test_type(i),
             Op::New => self.make_fixed(i),
@@ -120,6 +140,7 @@ impl<'a, S: Store> Machine<'a, S> {
             Op::Fault => self.fault(i),
             Op::Unc => self.uncaught(i),
             Op::Endp => Progress::Ends(Outcome::Done),
+            Op::Endt => self.end_thread(i),
             Op::Cat => self.join_texts(i),
             Op::Tchr => self.make_char(i),
             Op::Tsub => self.make_part(i),

@@ -1,26 +1,19 @@
-//! The machine that runs images. Its definitions (`specs/`) say what a machine is: its state, what each
-//! instruction does to it, the point between two turns, and a run.
+//! The machine that runs images: it passes points, chooses threads, carries out their instructions and collects the
+//! heap. The definitions of its states, steps and runs are those of m3_strides.
 #![tactic(auto)]
 
 mod acts;
 mod calls;
 mod cells;
+mod collections;
 mod inputs;
 mod machine;
-mod memory;
-mod near;
-mod outside;
-mod plain;
 mod points;
-mod progress;
+mod readers;
+mod running;
 mod runs;
 mod start;
-mod strides;
 mod texts;
 mod threading;
-mod types;
 
 pub use machine::Machine;
-pub use memory::Memory;
-pub use outside::Outside;
-pub use plain::{Halt, run_plain};

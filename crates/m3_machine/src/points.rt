@@ -1,74 +1,15 @@
-ghost use Rattle.std.specs.Prelude.{◌≡◌, true, map, length};
-ghost use Rattle.m3_sections.specs.Shapes.{shape_of};
-ghost use Rattle.m3_decoded.specs.Ready.{image_of};
+ghost use Rattle.std.specs.Prelude.{◌≡◌, ◌<◌, ◌^◌, true, false, Some, None, MatchOption};
+ghost use Rattle.m3_threads.specs.Going.{IsChoice, NoneGoes};
+ghost use Rattle.m3_strides.specs.State.{outside};
+ghost use Rattle.m3_strides.specs.Collecting.{Spoils};
+ghost use Rattle.m3_strides.specs.Points.{Collected_if, Chooses, Stops, Says_spent};
+ghost use Rattle.m3_machine.specs.Seen.{state_of, program_of, rest_of};
 
 use crate::machine::Machine;
-use crate::outside::Outside;
 use m3_base::{Entry, Outcome};
-use m3_decoded::Decoded;
-use m3_heap::{Steps, Store};
-use m3_roots::Room;
-use m3_threads::Threads;
-use std::marker::Brand;
-use std::sync::ledger::{Blank, Ledger};
-
-/// A collection whose steps are counted by a ledger of its own.
-fn collect_by<S: Store, L: Ledger>(
-    outside: &mut Outside<S>,
-    threads: &mut Threads,
-    image: &Decoded<'_>,
-    room: &mut Room,
-    blank: Blank,
-) -> bool
-    requires name { blank.name ≡ L.name }
-    requires parts { blank.parts ≡ L.parts }
-    requires whole { blank.parts ≡ 1 }
-    requires fitting { ∥ S.fits outside.old.heap.store (map shape_of (image_of image.now).program.types) ∥₁ }
-    requires words { length outside.old.globals.items ≡ (image_of image.now).program.globals.words }
-    ensures fitting { result ≡ true → ∥ S.fits outside.new.heap.store (map shape_of (image_of image.now).program.types) ∥₁ }
-    ensures words { length outside.new.globals.items ≡ length outside.old.globals.items }
-    ensures forks { threads.new.forks ≡ threads.old.forks }
-    ensures waits { threads.new.waits ≡ threads.old.waits }
-{
-    let mut steps = Steps::<L>::new(blank);
-    outside.collect(threads, image, room, &mut steps)
-}
-
-fn collect_now<S: Store>(
-    outside: &mut Outside<S>,
-    threads: &mut Threads,
-    image: &Decoded<'_>,
-    room: &mut Room,
-) -> bool
-    requires fitting { ∥ S.fits outside.old.heap.store (map shape_of (image_of image.now).program.types) ∥₁ }
-    requires words { length outside.old.globals.items ≡ (image_of image.now).program.globals.words }
-    ensures fitting { result ≡ true → ∥ S.fits outside.new.heap.store (map shape_of (image_of image.now).program.types) ∥₁ }
-    ensures words { length outside.new.globals.items ≡ length outside.old.globals.items }
-    ensures forks { threads.new.forks ≡ threads.old.forks }
-    ensures waits { threads.new.waits ≡ threads.old.waits }
-{
-    collect_by::<S, Brand>(outside, threads, image, room, Blank::new(1))
-}
+use m3_heap::Store;
 
 impl<'a, S: Store> Machine<'a, S> {
-    /// Collects the heap. False comes exactly where that ends in trap 9.
-    pub(crate) fn collect(&mut self) -> bool {
-        if self.stuck {
-            return false;
-        }
-        let done = collect_now(
-            &mut self.memory.outside,
-            &mut self.memory.threads,
-            &self.image,
-            &mut self.room,
-        );
-        self.stuck = !done;
-        if done {
-            self.collections = self.collections.wrapping_add(1);
-        }
-        done
-    }
-
     /// The running thread stands at the instruction that it has come to.
     pub(crate) fn stand(&mut self) {
         let Some(i) = self.image.fetch(self.pc()) else {
@@ -80,7 +21,10 @@ impl<'a, S: Store> Machine<'a, S> {
         }
     }
 
-    fn choose(&self, to: Option<u64>) -> Option<u64> {
+    /// The thread that goes, by what an entry names.
+    fn choose(&self, to: Option<u64>) -> Option<u64>
+        ensures { self.now.made < 2 ^ 62 → IsChoice self.now.memory.threads (outside (program_of self.now) (state_of self.now)) to self.now.running result }
+    {
         if !self.may_count() {
             return None;
         }
@@ -89,22 +33,47 @@ impl<'a, S: Store> Machine<'a, S> {
             .choose(to, self.running, &self.memory.outside)
     }
 
+    /// Whether any thread may go.
+    fn may_go_on(&self) -> bool
+        ensures some { self.now.made < 2 ^ 62 → result ≡ true → NoneGoes self.now.memory.threads (outside (program_of self.now) (state_of self.now)) → ⊥ }
+        ensures none { self.now.made < 2 ^ 62 → result ≡ false → NoneGoes self.now.memory.threads (outside (program_of self.now) (state_of self.now)) }
+    {
+        self.choose(None).is_some()
+    }
+
     /// How a run ends that may pass no point more.
-    pub(crate) fn spent(&self) -> Outcome {
-        match self.choose(None) {
-            Some(_) => Outcome::Spent,
-            None => Outcome::Deadlock,
+    pub(crate) fn spent(&self) -> Outcome
+        ensures { self.now.made < 2 ^ 62 → Says_spent (program_of self.now) (state_of self.now) result }
+    {
+        if self.may_go_on() {
+            Outcome::Spent
+        } else {
+            Outcome::Deadlock
         }
+    }
+
+    /// Collects the heap where an entry asks for it. False comes exactly where that ends in trap 9.
+    fn collect_if(&mut self, asked: bool) -> bool
+        ensures rest { rest_of self.new ≡ record (rest_of self.old) { stuck = self.new.stuck } }
+        ensures good { result ≡ true → Collected_if (program_of self.old) (state_of self.old) asked (Some (state_of self.new)) }
+        ensures bad { result ≡ false → Collected_if (program_of self.old) (state_of self.old) asked None × Spoils (state_of self.old) (state_of self.new) }
+    {
+        if asked { self.collect() } else { true }
     }
 
     /// Passes a point: an entry is taken, the heap is collected where it says so, and the thread that goes is
     /// chosen. Or the run ends here.
-    pub(crate) fn pass_point(&mut self, entry: Entry) -> Option<Outcome> {
-        if self.choose(None).is_none() {
+    pub(crate) fn pass_point(&mut self, entry: Entry) -> Option<Outcome>
+        ensures rest { rest_of self.new ≡ record (rest_of self.old) { stuck = self.new.stuck } }
+        ensures passes { self.old.made < 2 ^ 62 → MatchOption result
+            (Chooses (program_of self.old) entry (state_of self.old) (state_of self.new))
+            (Stops (program_of self.old) entry (state_of self.old) (state_of self.new)) }
+    {
+        if !self.may_go_on() {
             return Some(Outcome::Deadlock);
         }
-        self.points = self.points.wrapping_add(1);
-        if entry.collect && !self.collect() {
+        self.points = self.points.saturating_add(1);
+        if !self.collect_if(entry.collect) {
             return Some(Outcome::Trap(9));
         }
         match self.choose(entry.to) {

@@ -1,12 +1,13 @@
+ghost use Rattle.std.specs.Prelude.{◌≡◌, ◌≤◌, OnOk, OnErr};
+ghost use Rattle.m3_ports.specs.Counts.{Rose};
+
 use crate::machine::Machine;
-use crate::near::{Place, Stack};
-use crate::plain::Halt;
-use crate::progress::Progress;
-use crate::strides::{Pace, stride};
 use m3_base::{Entry, Outcome};
 use m3_heap::Store;
 use m3_isa::Op;
 use m3_ports::{Sink, SinkFailed};
+use m3_strides::near::{Place, Stack};
+use m3_strides::{Halt, Pace, Progress, stride};
 
 /// Past its last entry a schedule names no thread and asks for no collection.
 fn first_entry(entries: &[Entry]) -> Entry {
@@ -52,8 +53,8 @@ impl<'a, S: Store> Machine<'a, S> {
         regs.pc = at.pc;
         regs.fp = at.fp;
         self.set_regs(regs);
-        self.points = self.points.wrapping_add(points.wrapping_sub(pace.points));
-        self.instructions = self.instructions.wrapping_add(u128::from(count));
+        self.points = self.points.saturating_add(points.wrapping_sub(pace.points));
+        self.instructions = self.instructions.saturating_add(u128::from(count));
         (halt, count)
     }
 
@@ -69,7 +70,7 @@ impl<'a, S: Store> Machine<'a, S> {
                 self.stand();
                 return Progress::Rests;
             }
-            self.points = self.points.wrapping_add(1);
+            self.points = self.points.saturating_add(1);
             pace.points -= 1;
             pace.left = pace.limit;
             return Progress::Goes;
@@ -100,13 +101,17 @@ impl<'a, S: Store> Machine<'a, S> {
 
     /// Goes on to a point instruction at which the machine has to choose or to act, to the thread's end or to the
     /// run's.
-    fn turn<O: Sink>(&mut self, pace: &mut Pace, out: &mut O) -> Result<Progress, SinkFailed> {
+    fn turn<O: Sink>(&mut self, pace: &mut Pace, out: &mut O) -> Result<Progress, SinkFailed>
+        ensures rises { O.faults out.old ≤ O.faults out.new }
+        ensures kept { OnOk result (O.faults out.new ≡ O.faults out.old) }
+        ensures failed { OnErr result (Rose (O.faults out.old) (O.faults out.new)) }
+    {
         let mut fuel = u128::from(pace.points)
             .wrapping_mul(u128::from(pace.limit))
             .wrapping_add(u128::from(pace.limit));
         let mut progress = self.act(out)?;
         pace.left = pace.left.saturating_sub(1);
-        while fuel > 0 {
+        'acts: while fuel > 0 {
             if progress != Progress::Goes {
                 return Ok(progress);
             }
@@ -129,17 +134,21 @@ impl<'a, S: Store> Machine<'a, S> {
         Ok(Progress::trap(8))
     }
 
-    /// Runs on, with a schedule and so many points at most. SinkFailed comes only where a put failed; an outcome
-    /// says that the sink took all output.
+    /// Runs on, with a schedule and so many points at most. SinkFailed comes only where a put failed, and the sink's
+    /// count of faults rose; an outcome says that the sink took all output.
     pub fn run<O: Sink>(
         &mut self,
         schedule: &[Entry],
         points: u64,
         out: &mut O,
-    ) -> Result<Outcome, SinkFailed> {
+    ) -> Result<Outcome, SinkFailed>
+        ensures rises { O.faults out.old ≤ O.faults out.new }
+        ensures kept { OnOk result (O.faults out.new ≡ O.faults out.old) }
+        ensures failed { OnErr result (Rose (O.faults out.old) (O.faults out.new)) }
+    {
         let mut entries = schedule;
         let mut left = points;
-        while left > 0 {
+        'turns: while left > 0 {
             if let Some(outcome) = self.pass_point(first_entry(entries)) {
                 return Ok(outcome);
             }

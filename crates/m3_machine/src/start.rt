@@ -1,12 +1,11 @@
 ghost use Rattle.std.specs.Prelude.{◌≡◌, ◌≤◌, ◌<◌, [], false, length, IfOk};
 
 use crate::machine::Machine;
-use crate::memory::Memory;
-use crate::outside::Outside;
 use m3_base::NoMemory;
 use m3_decoded::Decoded;
 use m3_heap::{Closed, Store};
 use m3_image::ImageView;
+use m3_memory::{Memory, Outside};
 use m3_roots::Room;
 use m3_threads::Threads;
 use std::alloc::Global;

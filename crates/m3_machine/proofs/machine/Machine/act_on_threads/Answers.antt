@@ -1,12 +1,16 @@
-use Rattle.std.proofs.Common.{◌≡◌, ◌∙◌, arith, true, false, ap}
-use Rattle.std.proofs.Math.Logic.{∥∥₁_elim, ∥∥₁_prop}
+use Rattle.std.proofs.Common.{ap}
+use Rattle.m3_strides.specs.declared.progress.Progress.{Progress as Answer}
+use Rattle.m3_strides.specs.Progress.{became}
+use Rattle.m3_machine.specs.Seen.{state_of}
 use Rattle.m3_machine.proofs.machine.Machine.act_on_threads.Goals as goal
 
-pub invariant_of-self : goal.invariant_of-self
-invariant_of-self g c =
-    let m = c.args.self.now in record {
-      small = m.small;
-      counted = omega (arith, m.counted, c.act_of.ensures.counts);
-      words = c.act_of.ensures.words ∙ m.words;
-      fitting = λ e. ∥∥₁_elim (m.fitting e) ∥∥₁_prop (λ f. ∣ c.act_of.ensures.fitting _ f ∣₁);
+pub returns-clause-acts : goal.returns-clause-acts
+returns-clause-acts g c = λ few t running awake.
+    let left = state_of c.act_with_threads.new.self in
+    record {
+      done = c.act_with_threads.result;
+      left = left;
+      acts = c.act_with_threads.ensures.acts few t running awake;
+      others = c.act_with_threads.ensures.others;
+      became = ap (λ (a : Answer). became a left) c.told.ensures;
     }

@@ -1,5 +1,8 @@
-use Rattle.std.specs.Prelude.{ℕ}
+use Rattle.std.specs.Prelude.{ℕ, ◌≡◌}
 use Rattle.m3_machine.proofs.machine.Machine.run.Given as goal
 
-abbrev pub decreases-loop-left : goal.decreases-loop-left
-decreases-loop-left g l = l.left
+abbrev pub invariant-turns : goal.invariant-turns
+invariant-turns g l = g.O.Sink.faults l.out ≡ g.O.Sink.faults l.initial.out
+
+abbrev pub decreases-turns : goal.decreases-turns
+decreases-turns g l = l.left

@@ -1,6 +1,6 @@
 use Rattle.std.proofs.Common.{◌≡◌, ◌∙◌, arith, true, false, ap}
 use Rattle.std.proofs.Math.Logic.{∥∥₁_elim, ∥∥₁_prop}
-use Rattle.m3_machine.proofs.Keeping.{still-counted}
+use Rattle.m3_memory.proofs.Keeping.{still-counted}
 use Rattle.m3_machine.proofs.machine.Machine.set_word.Goals as goal
 
 pub invariant_of-self : goal.invariant_of-self

@@ -1,0 +1,3 @@
+pub mod Placing
+pub mod StackPuts
+pub mod Keeping

@@ -1,0 +1,4 @@
+pub mod Addresses
+pub mod Kept
+pub mod OutsideLaws
+pub mod MemoryLaws

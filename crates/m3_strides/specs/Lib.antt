@@ -1,0 +1,14 @@
+pub mod State
+pub mod Act
+pub mod Progress
+pub mod Calls
+pub mod Texts
+pub mod Collecting
+pub mod Making
+pub mod Acts
+pub mod NewTexts
+pub mod OnThreads
+pub mod Steps
+pub mod Plain
+pub mod Points
+pub mod Runs

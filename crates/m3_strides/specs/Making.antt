@@ -1,0 +1,65 @@
+-- New cells. A cell that doesn't fit has one collection first.
+use Rattle.std.specs.Prelude.{ℕ, ◌≡◌, ◌<◌, ◌≤◌, ◌==◌, if◌then◌else◌, List, ◌∷◌, ◌++◌, length, max, Option, None, Some, Result, Ok, Err}
+use Rattle.std.specs.Int.{cast_unsigned, w32}
+use Rattle.m3_base.specs.declared.outcomes.Outcome.{Outcome}
+use Rattle.m3_base.specs.declared.outcomes.Outcome.TheVariants.{HeapFull, Trap}
+use Rattle.m3_isa.specs.Effects.{answered}
+use Rattle.m3_isa.specs.declared.instructions.Instr.{Instr}
+use Rattle.m3_heap.specs.Cells.{Cell, AddsCell, new_cell}
+use Rattle.m3_heap.specs.Heap.{KeepsCounts}
+use Rattle.m3_threads.specs.declared.status.Thread.{Thread}
+use Rattle.m3_sections.specs.Parts.{Program, CellType}
+use Rattle.m3_strides.specs.State.{State, running_thread, with_regs}
+use Rattle.m3_strides.specs.Progress.{Progress, Goes, Ends}
+use Rattle.m3_strides.specs.Collecting.{Collects, Spoils}
+
+-- a cell with these words came to the heap, and nothing else is changed
+pub record Adds (cell : Cell) (old new : State) : Type 0 where
+  pub cells : AddsCell old.heap.cells cell new.heap.cells
+  pub counts : KeepsCounts old.heap new.heap
+  pub asked : new.heap.asked ≡ old.heap.asked
+  pub rest : new ≡ record old { heap = new.heap }
+
+-- a request of so many words was refused since they exceed the free ones, and it is remembered
+pub record Refuses (words : ℕ) (old new : State) : Type 0 where
+  pub full : old.heap.free < words
+  pub cells : new.heap.cells ≡ old.heap.cells
+  pub counts : KeepsCounts old.heap new.heap
+  pub asked : new.heap.asked ≡ words
+  pub rest : new ≡ record old { heap = new.heap }
+
+-- a request is met exactly where the words are free
+abbrev pub Allocates : ℕ → ℕ → State → Option ℕ → State → Type 0
+Allocates kind words s None u = Refuses words s u
+Allocates kind words s (Some start) u = (words ≤ s.heap.free) × Adds (new_cell start kind words) s u
+
+-- after one collection a cell was made; or there was no room even then; or the collection met trap 9
+pub data Makes_late (p : Program) (kind words : ℕ) (s : State) : Result ℕ Outcome → State → Type 0 where
+  made : (t u : State) (start : ℕ) → Collects p s t → Allocates kind words t (Some start) u → Makes_late p kind words s (Ok start) u
+  full : (t u : State) → Collects p s t → Refuses words t u → Makes_late p kind words s (Err HeapFull) u
+  stuck : (u : State) → Spoils s u → Makes_late p kind words s (Err (Trap 9)) u
+
+-- a cell was made at once; or its request was refused, and what follows is after one collection
+pub data Makes (p : Program) (kind words : ℕ) (s : State) : Result ℕ Outcome → State → Type 0 where
+  at_once : (start : ℕ) (u : State) → Allocates kind words s (Some start) u → Makes p kind words s (Ok start) u
+  late : (r u : State) (answer : Result ℕ Outcome) → Refuses words s r → Makes_late p kind words r answer u → Makes p kind words s answer u
+
+-- a cell of so many words, as it is when it is made, is among the cells
+abbrev pub HasNew : ℕ → ℕ → ℕ → State → Type 0
+HasNew kind words start s = (front : List Cell) × (back : List Cell) × (s.heap.cells ≡ front ++ new_cell start kind words ∷ back)
+
+-- ---- NEW
+
+-- the words of a cell of a fixed type, its header among them
+abbrev pub fixed_words : Option CellType → Result ℕ Outcome
+fixed_words None = Err (Trap 4)
+fixed_words (Some t) = if t.kind == 0 then Ok (max t.words 1) else Err (Trap 4)
+
+-- the thread goes on with a new cell in register a, as it stands once the cell is made; or the run ends
+abbrev pub GivesCell : Instr → Result ℕ Outcome → State → Progress → Type 0
+GivesCell i (Ok start) u progress = (t : Thread) → running_thread u ≡ Some t → progress ≡ Goes (with_regs u (answered t.regs i.a start))
+GivesCell i (Err outcome) u progress = progress ≡ Ends u outcome
+
+pub data Makes_fixed (p : Program) (i : Instr) (kind : ℕ) (s : State) (words : Result ℕ Outcome) : Progress → Type 0 where
+  not_fixed : (outcome : Outcome) → words ≡ Err outcome → Makes_fixed p i kind s words (Ends s outcome)
+  makes : (n : ℕ) (made : Result ℕ Outcome) (u : State) (progress : Progress) → words ≡ Ok n → Makes p kind n s made u → GivesCell i made u progress → Makes_fixed p i kind s words progress
