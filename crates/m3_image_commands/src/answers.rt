@@ -1,3 +1,7 @@
+ghost use Rattle.std.specs.Prelude.{◌≡◌, ◌≤◌, ◌++◌, [], OnOk, OnErr, codes};
+ghost use Rattle.m3_ports.specs.Counts.{Rose};
+ghost use Rattle.m3_image_commands.specs.Statuses.{Took, Tells};
+
 use m3_ports::{Sink, SinkFailed};
 use std::alloc::Global;
 
@@ -42,7 +46,10 @@ impl Refusal<'static> {
 
 impl Answer {
     /// Success, without a line.
-    pub fn silent(alloc: Global) -> Answer {
+    pub fn silent(alloc: Global) -> Answer
+        ensures status { result.status ≡ 0 }
+        ensures line { result.line.items ≡ [] }
+    {
         Answer {
             status: 0,
             line: Vec::new(alloc),
@@ -50,27 +57,60 @@ impl Answer {
     }
 }
 
-fn put_refusal<E: Sink>(err: &mut E, refusal: Refusal<'_>) -> Result<(), SinkFailed> {
-    err.put(refusal.front)?;
-    if !refusal.name.is_empty() {
-        err.put(refusal.name)?;
+// The name that a refusal speaks of, if it speaks of one.
+fn put_name<E: Sink>(err: &mut E, name: &[u8]) -> Result<(), SinkFailed>
+    ensures faults { E.faults err.old ≤ E.faults err.new }
+    ensures ok { OnOk result (Took (E.taken err.old, E.taken err.new) name.now) }
+    ensures failed { OnErr result (Rose (E.faults err.old) (E.faults err.new)) }
+{
+    if name.is_empty() {
+        return Ok(());
     }
+    err.put(name)
+}
+
+#[tactic(auto, using(crate::proofs::TellLemmas::rose_later))]
+fn put_refusal<E: Sink>(err: &mut E, refusal: Refusal<'_>) -> Result<(), SinkFailed>
+    ensures ok { OnOk result (Took (E.taken err.old, E.taken err.new)
+        (refusal.entry.front.now ++ refusal.entry.name.now ++ codes "\n")) }
+    ensures failed { OnErr result (Rose (E.faults err.old) (E.faults err.new)) }
+{
+    err.put(refusal.front)?;
+    put_name(err, refusal.name)?;
     err.put(b"\n")
 }
 
-/// Puts the line of an answer or of a refusal, and gives the status, or that of a write fault.
-pub fn tell<E: Sink>(err: &mut E, answer: Result<Answer, Refusal<'_>>) -> u8 {
-    let (status, told) = match answer {
-        Ok(answer) => {
-            if answer.line.is_empty() {
-                return answer.status;
-            }
-            (answer.status, err.put(&answer.line))
-        }
-        Err(refusal) => (refusal.status, put_refusal(err, refusal)),
-    };
+// The line of an answer, if it has one.
+fn put_line<E: Sink>(err: &mut E, line: &[u8]) -> Result<(), SinkFailed>
+    ensures ok { OnOk result (Took (E.taken err.old, E.taken err.new) line.now) }
+    ensures failed { OnErr result (Rose (E.faults err.old) (E.faults err.new)) }
+{
+    if line.is_empty() {
+        return Ok(());
+    }
+    err.put(line)
+}
+
+// The status, or that of a write fault where a line was not put.
+fn status_of(status: u8, told: Result<(), SinkFailed>) -> u8
+    ensures ok { OnOk told (result ≡ status) }
+    ensures failed { OnErr told (result ≡ 4) }
+{
     match told {
         Ok(()) => status,
         Err(_) => WRITE_FAULT,
+    }
+}
+
+/// Puts the line of an answer or of a refusal, and gives the status, or that of a write fault.
+pub fn tell<E: Sink>(err: &mut E, answer: Result<Answer, Refusal<'_>>) -> u8
+    ensures { Tells (record {
+      taken = (E.taken err.old, E.taken err.new);
+      faults = (E.faults err.old, E.faults err.new);
+    }) answer.entry result }
+{
+    match answer {
+        Ok(answer) => status_of(answer.status, put_line(err, &answer.line)),
+        Err(refusal) => status_of(refusal.status, put_refusal(err, refusal)),
     }
 }

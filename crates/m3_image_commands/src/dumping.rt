@@ -1,3 +1,7 @@
+ghost use Rattle.std.specs.Prelude.{◌≡◌, ℕ, List, [], IsOk};
+ghost use Rattle.m3_image.specs.Images.{read_of};
+ghost use Rattle.m3_image_commands.specs.ImageCommands.{Dumps, DumpsBytes};
+
 use crate::answers::{Answer, Refusal};
 use crate::running::{fetch_image, read_image};
 use m3_decoded::Decoded;
@@ -11,7 +15,12 @@ fn dump_view<O: Sink>(
     alloc: Global,
     image: ImageView<'_>,
     out: &mut O,
-) -> Result<Answer, Refusal<'static>> {
+) -> Result<Answer, Refusal<'static>>
+    ensures { (bytes : List ℕ) → IsOk (read_of bytes) → DumpsBytes bytes (record {
+      taken = (O.taken out.old, O.taken out.new);
+      faults = (O.faults out.old, O.faults out.new);
+    }) result }
+{
     let Ok(decoded) = Decoded::of(alloc, image) else {
         return Err(Refusal::NO_MEMORY);
     };
@@ -24,17 +33,42 @@ fn dump_view<O: Sink>(
     }
 }
 
-/// `dump IMAGE`: fetches the image, and puts its text on out. The bytes of the image go to `image`.
+/// The text of the image that some bytes are, put on out.
+fn dump_bytes<O: Sink>(alloc: Global, bytes: &[u8], out: &mut O) -> Result<Answer, Refusal<'static>>
+    ensures { DumpsBytes bytes.now (record {
+      taken = (O.taken out.old, O.taken out.new);
+      faults = (O.faults out.old, O.faults out.new);
+    }) result }
+{
+    match read_image(alloc, bytes) {
+        Ok(view) => dump_view(alloc, view, out),
+        Err(answer) => answer,
+    }
+}
+
+/// `dump IMAGE`: fetches the image, and puts its text on out. The bytes of the image go to `image`,
+/// which is to be empty before.
 pub fn dump_image<'a, F: Shelf, O: Sink>(
     alloc: Global,
     name: &'a str,
     shelf: &mut F,
     out: &mut O,
     image: &mut Vec<u8>,
-) -> Result<Answer, Refusal<'a>> {
-    fetch_image(alloc, name, shelf, image)?;
-    match read_image(alloc, image) {
-        Ok(view) => dump_view(alloc, view, out),
-        Err(answer) => answer,
+) -> Result<Answer, Refusal<'a>>
+    requires { image.old.items ≡ [] }
+    ensures { Dumps (record {
+      held = (F.held shelf.old, F.held shelf.new);
+      faults = (F.faults shelf.old, F.faults shelf.new);
+      store_faults = (F.store_faults shelf.old, F.store_faults shelf.new);
+      absences = (F.absences shelf.old, F.absences shelf.new);
+      excesses = (F.excesses shelf.old, F.excesses shelf.new);
+    }) (record {
+      taken = (O.taken out.old, O.taken out.new);
+      faults = (O.faults out.old, O.faults out.new);
+    }) name.now image.new.items result }
+{
+    match fetch_image(alloc, name, shelf, image) {
+        Ok(()) => dump_bytes(alloc, image, out),
+        Err(refusal) => Err(refusal),
     }
 }

@@ -1,3 +1,8 @@
+ghost use Rattle.std.specs.Prelude.{◌≡◌, ℕ, [], IfOk, OnOk};
+ghost use Rattle.std.specs.Option.{option_map};
+ghost use Rattle.m3_ports.specs.Files.{TakesFile};
+ghost use Rattle.m3_image_commands.specs.Statuses.{Causes, Fetches, IsGiven, Only, OfOptions, Shelving, Unfetched};
+
 use crate::answers::Refusal;
 use m3_command_line::RunOptions;
 use m3_ports::{Shelf, ShelfFault};
@@ -13,26 +18,53 @@ pub struct RunFiles {
     pub input: Vec<u8>,
 }
 
-/// Adds the bytes of a file to some, or says why not.
+// The refusal of a file that can't be fetched.
+fn refusal_of<'a>(fault: ShelfFault, name: &'a str) -> Refusal<'a>
+    ensures { (shelf : Shelving) (cap : ℕ) → Causes shelf fault name.now cap
+        → Unfetched shelf (Only name.now cap) result.status result.front.now result.name.now }
+{
+    let name = name.as_bytes();
+    match fault {
+        ShelfFault::Absent => Refusal {
+            status: 6,
+            front: b"absent ",
+            name,
+        },
+        ShelfFault::TooLong => Refusal {
+            status: 7,
+            front: b"too long ",
+            name,
+        },
+        ShelfFault::Failed => Refusal {
+            status: 3,
+            front: b"read fault ",
+            name,
+        },
+        ShelfFault::NoMemory => Refusal::NO_MEMORY,
+    }
+}
+
+/// Adds the bytes of a file to some, at most `cap`, or says why not.
 pub fn fetch<'a, F: Shelf>(
     alloc: Global,
     shelf: &mut F,
     name: &'a str,
     cap: u64,
     into: &mut Vec<u8>,
-) -> Result<(), Refusal<'a>> {
-    let (status, front): (u8, &'static [u8]) = match shelf.fetch(alloc, name, cap, into) {
-        Ok(()) => return Ok(()),
-        Err(ShelfFault::Absent) => (6, b"absent "),
-        Err(ShelfFault::TooLong) => (7, b"too long "),
-        Err(ShelfFault::Failed) => (3, b"read fault "),
-        Err(ShelfFault::NoMemory) => return Err(Refusal::NO_MEMORY),
-    };
-    Err(Refusal {
-        status,
-        front,
-        name: name.as_bytes(),
-    })
+) -> Result<(), Refusal<'a>>
+    ensures fetches { Fetches (record {
+      held = (F.held shelf.old, F.held shelf.new);
+      faults = (F.faults shelf.old, F.faults shelf.new);
+      store_faults = (F.store_faults shelf.old, F.store_faults shelf.new);
+      absences = (F.absences shelf.old, F.absences shelf.new);
+      excesses = (F.excesses shelf.old, F.excesses shelf.new);
+    }) (Only name.now cap) result }
+    ensures ok { OnOk result (TakesFile (F.held shelf.old) name.now cap into.old.items into.new.items) }
+{
+    match shelf.fetch(alloc, name, cap, into) {
+        Ok(()) => Ok(()),
+        Err(fault) => Err(refusal_of(fault, name)),
+    }
 }
 
 /// The same for a file that may not be named.
@@ -41,7 +73,17 @@ fn fetch_named<'a, F: Shelf>(
     shelf: &mut F,
     name: Option<&'a str>,
     into: &mut Vec<u8>,
-) -> Result<(), Refusal<'a>> {
+) -> Result<(), Refusal<'a>>
+    requires { into.old.items ≡ [] }
+    ensures fetches { Fetches (record {
+      held = (F.held shelf.old, F.held shelf.new);
+      faults = (F.faults shelf.old, F.faults shelf.new);
+      store_faults = (F.store_faults shelf.old, F.store_faults shelf.new);
+      absences = (F.absences shelf.old, F.absences shelf.new);
+      excesses = (F.excesses shelf.old, F.excesses shelf.new);
+    }) (OfOptions (option_map (λ n. n.now) name.entry) (option_map (λ n. n.now) name.entry)) result }
+    ensures ok { OnOk result (IsGiven (F.held shelf.old) (option_map (λ n. n.now) name.entry) into.new.items) }
+{
     match name {
         Some(name) => fetch(alloc, shelf, name, FILE_CAP, into),
         None => Ok(()),
@@ -53,10 +95,25 @@ pub fn fetch_run_files<'a, F: Shelf>(
     alloc: Global,
     shelf: &mut F,
     options: RunOptions<'a>,
-) -> Result<RunFiles, Refusal<'a>> {
-    let mut switches = Vec::new(alloc);
-    let mut input = Vec::new(alloc);
-    fetch_named(alloc, shelf, options.switches, &mut switches)?;
-    fetch_named(alloc, shelf, options.input, &mut input)?;
-    Ok(RunFiles { switches, input })
+) -> Result<RunFiles, Refusal<'a>>
+    ensures fetches { Fetches (record {
+      held = (F.held shelf.old, F.held shelf.new);
+      faults = (F.faults shelf.old, F.faults shelf.new);
+      store_faults = (F.store_faults shelf.old, F.store_faults shelf.new);
+      absences = (F.absences shelf.old, F.absences shelf.new);
+      excesses = (F.excesses shelf.old, F.excesses shelf.new);
+    }) (OfOptions (option_map (λ n. n.now) options.entry.switches) (option_map (λ n. n.now) options.entry.input)) result }
+    ensures switches { IfOk result (λ files. IsGiven (F.held shelf.old) (option_map (λ n. n.now) options.entry.switches) files.switches.items) }
+{
+    let mut files = RunFiles {
+        switches: Vec::new(alloc),
+        input: Vec::new(alloc),
+    };
+    if let Err(refusal) = fetch_named(alloc, shelf, options.switches, &mut files.switches) {
+        return Err(refusal);
+    }
+    match fetch_named(alloc, shelf, options.input, &mut files.input) {
+        Ok(()) => Ok(files),
+        Err(refusal) => Err(refusal),
+    }
 }

@@ -10,5 +10,4 @@ mod running;
 pub use answers::{Answer, Refusal, tell};
 pub use dumping::dump_image;
 pub use fetching::{RunFiles, fetch, fetch_run_files};
-pub use line::add_number;
 pub use running::{Run, run_bytes, run_image, schedule_of};

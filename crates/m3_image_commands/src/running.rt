@@ -1,9 +1,18 @@
+ghost use Rattle.std.specs.Prelude.{◌≡◌, [], IfOk, IfErr, OnOk, IsOk, IsErr, is_some};
+ghost use Rattle.std.specs.Option.{option_map};
+ghost use Rattle.m3_base.specs.Schedules.{IsSchedule};
+ghost use Rattle.m3_sections.specs.Reading.{seen};
+ghost use Rattle.m3_image.specs.Images.{read_of};
+ghost use Rattle.m3_image.specs.Views.{image_view};
+ghost use Rattle.m3_image_commands.specs.Statuses.{Fetches, IsGiven, IsRead, Only, RefusesBy, image_cap};
+ghost use Rattle.m3_image_commands.specs.ImageCommands.{Ends, IsNoSchedule, OfRun, Runs, RunsBytes, RunsImage};
+
 use crate::answers::{Answer, Refusal};
-use crate::fetching::{fetch, fetch_run_files};
-use crate::line::{LINE_ROOM, add, add_long_number, add_number, add_outcome, longest_name};
+use crate::fetching::{RunFiles, fetch, fetch_run_files};
+use crate::line::{LINE_ROOM, answer_of, longest_name};
 use m3_base::{Entry, ScheduleRefusal, read_schedule};
 use m3_command_line::{Limits, RunOptions};
-use m3_heap::{SemiSpace, Store};
+use m3_heap::SemiSpace;
 use m3_image::{ImageRefusal, ImageView};
 use m3_machine::Machine;
 use m3_ports::{Shelf, Sink};
@@ -26,7 +35,10 @@ pub struct Run<'a> {
 pub fn read_image<'a>(
     alloc: Global,
     bytes: &'a [u8],
-) -> Result<ImageView<'a>, Result<Answer, Refusal<'static>>> {
+) -> Result<ImageView<'a>, Result<Answer, Refusal<'static>>>
+    ensures ok { IfOk result (λ v. read_of bytes.now ≡ Ok (image_view v)) }
+    ensures err { IfErr result (λ e. RefusesBy 8 e × IsErr (read_of bytes.now)) }
+{
     match ImageView::read(bytes) {
         Ok(image) => Ok(image),
         Err(refusal) => Err(refuse(8, image_refusal_line(alloc, refusal))),
@@ -34,7 +46,9 @@ pub fn read_image<'a>(
 }
 
 /// A refusal with a line of its own, if there was memory for it.
-fn refuse(status: u8, line: Result<Vec<u8>, AllocError>) -> Result<Answer, Refusal<'static>> {
+fn refuse(status: u8, line: Result<Vec<u8>, AllocError>) -> Result<Answer, Refusal<'static>>
+    ensures { RefusesBy status result }
+{
     match line {
         Ok(line) => Ok(Answer { status, line }),
         Err(_) => Err(Refusal::NO_MEMORY),
@@ -55,25 +69,15 @@ fn schedule_refusal_line(alloc: Global, refusal: ScheduleRefusal) -> Result<Vec<
 pub fn schedule_of(
     alloc: Global,
     switches: &[u8],
-) -> Result<Vec<Entry>, Result<Answer, Refusal<'static>>> {
+) -> Result<Vec<Entry>, Result<Answer, Refusal<'static>>>
+    ensures ok { IfOk result (λ entries. IsSchedule switches.now entries.items) }
+    ensures err { IfErr result (λ e. RefusesBy 9 e × IfOk e (λ a. IsNoSchedule switches.now)) }
+{
     match read_schedule(alloc, switches) {
         Ok(schedule) => Ok(schedule),
         Err(ScheduleRefusal::NoMemory) => Err(Err(Refusal::NO_MEMORY)),
         Err(refusal) => Err(refuse(9, schedule_refusal_line(alloc, refusal))),
     }
-}
-
-/// Adds the counts of a run.
-fn add_counts<S: Store>(line: &mut Vec<u8>, machine: &Machine<'_, S>, collections: bool) {
-    add(line, b" points ");
-    add_number(line, machine.points());
-    add(line, b" instructions ");
-    add_long_number(line, machine.instructions());
-    if collections {
-        add(line, b" collections ");
-        add_number(line, machine.collections());
-    }
-    add(line, b"\n");
 }
 
 /// Runs an image, and says how that ended. All memory is taken before the first instruction.
@@ -82,9 +86,14 @@ fn run_view<O: Sink>(
     image: ImageView<'_>,
     run: Run<'_>,
     out: &mut O,
-) -> Result<Answer, Refusal<'static>> {
-    let room = LINE_ROOM.saturating_add(longest_name(&image));
-    let Ok(mut line) = Vec::with_capacity(alloc, room) else {
+) -> Result<Answer, Refusal<'static>>
+    ensures { Ends (image_view image.entry) run.entry.tells_collections (record {
+      taken = (O.taken out.old, O.taken out.new);
+      faults = (O.faults out.old, O.faults out.new);
+    }) result }
+{
+    let room = longest_name(&image) + LINE_ROOM;
+    let Ok(line) = Vec::with_capacity(alloc, room) else {
         return Err(Refusal::NO_MEMORY);
     };
     let Ok(store) = SemiSpace::new(alloc, run.limits.heap) else {
@@ -97,9 +106,8 @@ fn run_view<O: Sink>(
     };
     match machine.run(run.schedule, limits.points, out) {
         Ok(outcome) => {
-            let status = add_outcome(&mut line, machine.image(), outcome);
-            add_counts(&mut line, &machine, run.tells_collections);
-            Ok(Answer { status, line })
+            let tells = run.tells_collections;
+            Ok(answer_of(line, &image, &machine, outcome, tells))
         }
         Err(_) => Err(Refusal::WRITE_FAULT),
     }
@@ -111,7 +119,12 @@ pub fn run_bytes<O: Sink>(
     bytes: &[u8],
     run: Run<'_>,
     out: &mut O,
-) -> Result<Answer, Refusal<'static>> {
+) -> Result<Answer, Refusal<'static>>
+    ensures { RunsImage bytes.now run.entry.tells_collections (record {
+      taken = (O.taken out.old, O.taken out.new);
+      faults = (O.faults out.old, O.faults out.new);
+    }) result }
+{
     match read_image(alloc, bytes) {
         Ok(image) => run_view(alloc, image, run, out),
         Err(answer) => answer,
@@ -125,7 +138,12 @@ fn run_fetched<O: Sink>(
     switches: &[u8],
     run: Run<'_>,
     out: &mut O,
-) -> Result<Answer, Refusal<'static>> {
+) -> Result<Answer, Refusal<'static>>
+    ensures { RunsBytes bytes.now switches.now run.entry.tells_collections (record {
+      taken = (O.taken out.old, O.taken out.new);
+      faults = (O.faults out.old, O.faults out.new);
+    }) result }
+{
     let image = match read_image(alloc, bytes) {
         Ok(image) => image,
         Err(answer) => return answer,
@@ -143,7 +161,7 @@ fn run_fetched<O: Sink>(
 }
 
 /// `run IMAGE`: fetches the image, the switches and the input, and runs. The bytes of the image go
-/// to `image`.
+/// to `image`, which is to be empty before.
 pub fn run_image<'a, F: Shelf, O: Sink>(
     alloc: Global,
     name: &'a str,
@@ -151,9 +169,23 @@ pub fn run_image<'a, F: Shelf, O: Sink>(
     shelf: &mut F,
     out: &mut O,
     image: &mut Vec<u8>,
-) -> Result<Answer, Refusal<'a>> {
-    fetch_image(alloc, name, shelf, image)?;
-    let files = fetch_run_files(alloc, shelf, options)?;
+) -> Result<Answer, Refusal<'a>>
+    requires { image.old.items ≡ [] }
+    ensures { Runs (record {
+      held = (F.held shelf.old, F.held shelf.new);
+      faults = (F.faults shelf.old, F.faults shelf.new);
+      store_faults = (F.store_faults shelf.old, F.store_faults shelf.new);
+      absences = (F.absences shelf.old, F.absences shelf.new);
+      excesses = (F.excesses shelf.old, F.excesses shelf.new);
+    }) (record {
+      taken = (O.taken out.old, O.taken out.new);
+      faults = (O.faults out.old, O.faults out.new);
+    }) name.now (option_map (λ n. n.now) options.entry.switches) (option_map (λ n. n.now) options.entry.input) image.new.items result }
+{
+    let files = match fetch_all(alloc, name, options, shelf, image) {
+        Ok(files) => files,
+        Err(refusal) => return Err(refusal),
+    };
     let run = Run {
         limits: options.limits,
         schedule: &[],
@@ -163,12 +195,47 @@ pub fn run_image<'a, F: Shelf, O: Sink>(
     run_fetched(alloc, image, &files.switches, run, out)
 }
 
-/// Fetches an image.
+// Fetches an image, and then the files of a run's options.
+fn fetch_all<'a, F: Shelf>(
+    alloc: Global,
+    name: &'a str,
+    options: RunOptions<'a>,
+    shelf: &mut F,
+    image: &mut Vec<u8>,
+) -> Result<RunFiles, Refusal<'a>>
+    requires { image.old.items ≡ [] }
+    ensures fetches { Fetches (record {
+      held = (F.held shelf.old, F.held shelf.new);
+      faults = (F.faults shelf.old, F.faults shelf.new);
+      store_faults = (F.store_faults shelf.old, F.store_faults shelf.new);
+      absences = (F.absences shelf.old, F.absences shelf.new);
+      excesses = (F.excesses shelf.old, F.excesses shelf.new);
+    }) (OfRun name.now (option_map (λ n. n.now) options.entry.switches) (option_map (λ n. n.now) options.entry.input)) result }
+    ensures image { OnOk result (IsRead (F.held shelf.old) name.now image_cap image.new.items) }
+    ensures switches { IfOk result (λ files. IsGiven (F.held shelf.old) (option_map (λ n. n.now) options.entry.switches) files.switches.items) }
+{
+    match fetch_image(alloc, name, shelf, image) {
+        Ok(()) => fetch_run_files(alloc, shelf, options),
+        Err(refusal) => Err(refusal),
+    }
+}
+
+/// Fetches an image into an empty list.
 pub fn fetch_image<'a, F: Shelf>(
     alloc: Global,
     name: &'a str,
     shelf: &mut F,
     image: &mut Vec<u8>,
-) -> Result<(), Refusal<'a>> {
+) -> Result<(), Refusal<'a>>
+    requires { image.old.items ≡ [] }
+    ensures fetches { Fetches (record {
+      held = (F.held shelf.old, F.held shelf.new);
+      faults = (F.faults shelf.old, F.faults shelf.new);
+      store_faults = (F.store_faults shelf.old, F.store_faults shelf.new);
+      absences = (F.absences shelf.old, F.absences shelf.new);
+      excesses = (F.excesses shelf.old, F.excesses shelf.new);
+    }) (Only name.now image_cap) result }
+    ensures image { OnOk result (IsRead (F.held shelf.old) name.now image_cap image.new.items) }
+{
     fetch(alloc, shelf, name, IMAGE_CAP, image)
 }

@@ -74,6 +74,7 @@ impl Sink for MemSink {
 
         ensures faults { self.old.faults ≤ self.new.faults }
         ensures told { is_some (Some self.new.taken) ≡ is_some (Some self.old.taken) }
+        ensures kept { OnOk result (self.new.faults ≡ self.old.faults) }
         ensures ok { OnOk result (IfSome (Some self.old.taken) (λ bytes. Some self.new.taken ≡ Some (bytes ++ piece.now))) }
         ensures failed { OnErr result (Rose self.old.faults self.new.faults × IfSome (Some self.old.taken) (λ bytes. (part : List ℕ) × IsFront part piece.now × (Some self.new.taken ≡ Some (bytes ++ part)))) }
     {

@@ -1,0 +1,3 @@
+pub mod SourceCommands
+pub mod Texts
+pub mod Orders

@@ -1,4 +1,13 @@
 //! The commands.
+ghost use Rattle.std.specs.Prelude.{◌≡◌, false, [], None, Result, IfOk, IfErr, IsOk, is_some, map};
+ghost use Rattle.std.specs.Option.{option_map};
+ghost use Rattle.m3_image.specs.Images.{read_of};
+ghost use Rattle.m3_image_commands.specs.declared.answers.Answer.{Answer as AnswerValue};
+ghost use Rattle.m3_image_commands.specs.declared.answers.Refusal.{Refusal as RefusalValue};
+ghost use Rattle.m3_image_commands.specs.Statuses.{LacksMemory, LacksOutput, Tells};
+ghost use Rattle.m3_source_commands.specs.SourceCommands.{Builds, Execs, ExecsTexts, RefusesSources, Stores};
+ghost use Rattle.m3_source_commands.specs.Orders.{CarriesOut, Commands, order_of};
+
 use crate::compiling::compile;
 use crate::sources::{Sources, fetch_sources, views_of, views_of_bytes};
 use m3_base::{Entry, NoMemory, Source};
@@ -16,11 +25,29 @@ fn store_image<F: Shelf>(
     name: &str,
     shelf: &mut F,
     image: &[u8],
-) -> Result<Answer, Refusal<'static>> {
+) -> Result<Answer, Refusal<'static>>
+    ensures { Stores (record {
+      held = (F.held shelf.old, F.held shelf.new);
+      faults = (F.faults shelf.old, F.faults shelf.new);
+      store_faults = (F.store_faults shelf.old, F.store_faults shelf.new);
+      absences = (F.absences shelf.old, F.absences shelf.new);
+      excesses = (F.excesses shelf.old, F.excesses shelf.new);
+    }) name.now image.now result }
+{
     match shelf.store(alloc, name, image) {
         Ok(()) => Ok(Answer::silent(alloc)),
-        Err(ShelfFault::NoMemory) => Err(Refusal::NO_MEMORY),
-        Err(_) => Err(Refusal::WRITE_FAULT),
+        Err(fault) => Err(store_refusal(fault)),
+    }
+}
+
+/// The refusal of a store that failed so.
+fn store_refusal(fault: ShelfFault) -> Refusal<'static>
+    ensures no_memory { fault ≡ ShelfFault.NoMemory → LacksMemory result }
+    ensures others { (fault ≡ ShelfFault.NoMemory → ⊥) → LacksOutput result }
+{
+    match fault {
+        ShelfFault::NoMemory => Refusal::NO_MEMORY,
+        _ => Refusal::WRITE_FAULT,
     }
 }
 
@@ -30,7 +57,10 @@ fn compile_into(
     sources: Result<Vec<Source<'_>>, NoMemory>,
     switches: &[u8],
     image: &mut Vec<u8>,
-) -> Result<Vec<Entry>, Result<Answer, Refusal<'static>>> {
+) -> Result<Vec<Entry>, Result<Answer, Refusal<'static>>>
+    ensures ok { IfOk result (λ entries. IsOk (read_of image.new.items)) }
+    ensures err { IfErr result (RefusesSources switches.now) }
+{
     let Ok(sources) = sources else {
         return Err(Err(Refusal::NO_MEMORY));
     };
@@ -46,7 +76,15 @@ fn build_files<'a, F: Shelf>(
     files: &[&'a str],
     shelf: &mut F,
     image: &mut Vec<u8>,
-) -> Result<Answer, Refusal<'a>> {
+) -> Result<Answer, Refusal<'a>>
+    ensures { Builds (record {
+      held = (F.held shelf.old, F.held shelf.new);
+      faults = (F.faults shelf.old, F.faults shelf.new);
+      store_faults = (F.store_faults shelf.old, F.store_faults shelf.new);
+      absences = (F.absences shelf.old, F.absences shelf.new);
+      excesses = (F.excesses shelf.old, F.excesses shelf.new);
+    }) name.now (map (λ n. n.now) files.entry.now) image.new.items result }
+{
     let sources = fetch_sources(alloc, shelf, files)?;
     let views = views_of(alloc, &sources.names, &sources.texts);
     match compile_into(alloc, views, b"", image) {
@@ -63,9 +101,26 @@ fn exec_files<'a, F: Shelf, O: Sink>(
     shelf: &mut F,
     out: &mut O,
     image: &mut Vec<u8>,
-) -> Result<Answer, Refusal<'a>> {
-    let sources = fetch_sources(alloc, shelf, files)?;
-    let given = fetch_run_files(alloc, shelf, options)?;
+) -> Result<Answer, Refusal<'a>>
+    ensures { Execs (record {
+      held = (F.held shelf.old, F.held shelf.new);
+      faults = (F.faults shelf.old, F.faults shelf.new);
+      store_faults = (F.store_faults shelf.old, F.store_faults shelf.new);
+      absences = (F.absences shelf.old, F.absences shelf.new);
+      excesses = (F.excesses shelf.old, F.excesses shelf.new);
+    }) (record {
+      taken = (O.taken out.old, O.taken out.new);
+      faults = (O.faults out.old, O.faults out.new);
+    }) (map (λ n. n.now) files.entry.now) (option_map (λ n. n.now) options.entry.switches) (option_map (λ n. n.now) options.entry.input) image.new.items result }
+{
+    let sources = match fetch_sources(alloc, shelf, files) {
+        Ok(sources) => sources,
+        Err(refusal) => return Err(refusal),
+    };
+    let given = match fetch_run_files(alloc, shelf, options) {
+        Ok(given) => given,
+        Err(refusal) => return Err(refusal),
+    };
     exec_sources(alloc, &sources, &given, options, out, image)
 }
 
@@ -78,7 +133,12 @@ fn exec_sources<'a, O: Sink>(
     options: RunOptions<'a>,
     out: &mut O,
     image: &mut Vec<u8>,
-) -> Result<Answer, Refusal<'static>> {
+) -> Result<Answer, Refusal<'static>>
+    ensures { ExecsTexts image.new.items given.now.switches.items (is_some options.entry.switches) (record {
+      taken = (O.taken out.old, O.taken out.new);
+      faults = (O.faults out.old, O.faults out.new);
+    }) result }
+{
     let views = views_of(alloc, &sources.names, &sources.texts);
     match compile_into(alloc, views, &given.switches, image) {
         Ok(schedule) => {
@@ -95,12 +155,45 @@ fn exec_sources<'a, O: Sink>(
 }
 
 /// The options of a run where none was given.
-fn no_options() -> RunOptions<'static> {
+fn no_options() -> RunOptions<'static>
+    ensures { result.switches ≡ None }
+{
     RunOptions {
         switches: None,
         input: None,
         limits: Limits::usual(),
     }
+}
+
+/// The files of a run where none is named.
+fn no_files(alloc: Global) -> RunFiles
+    ensures { result.switches.items ≡ [] }
+{
+    RunFiles {
+        switches: Vec::new(alloc),
+        input: Vec::new(alloc),
+    }
+}
+
+/// Runs the program of one file, without options.
+fn exec_one<O: Sink>(
+    alloc: Global,
+    name: &str,
+    text: Vec<u8>,
+    out: &mut O,
+    image: &mut Vec<u8>,
+) -> Result<Answer, Refusal<'static>>
+    ensures { ExecsTexts image.new.items [] false (record {
+      taken = (O.taken out.old, O.taken out.new);
+      faults = (O.faults out.old, O.faults out.new);
+    }) result }
+{
+    let mut sources = Sources::new(alloc);
+    if sources.add(name, text).is_err() {
+        return Err(Refusal::NO_MEMORY);
+    }
+    let given = no_files(alloc);
+    exec_sources(alloc, &sources, &given, no_options(), out, image)
 }
 
 /// Runs the program of one file, without options: `exec FILE` where its text is there already. Output
@@ -112,16 +205,17 @@ pub fn exec_text<O: Sink, E: Sink>(
     out: &mut O,
     err: &mut E,
     image: &mut Vec<u8>,
-) -> u8 {
-    let mut sources = Sources::new(alloc);
-    if sources.add(name, text).is_err() {
-        return tell(err, Err(Refusal::NO_MEMORY));
-    }
-    let given = RunFiles {
-        switches: Vec::new(alloc),
-        input: Vec::new(alloc),
-    };
-    let answer = exec_sources(alloc, &sources, &given, no_options(), out, image);
+) -> u8
+    ensures { (answer : Result AnswerValue RefusalValue) × ExecsTexts image.new.items [] false (record {
+      taken = (O.taken out.old, O.taken out.new);
+      faults = (O.faults out.old, O.faults out.new);
+    }) answer
+        × Tells (record {
+          taken = (E.taken err.old, E.taken err.new);
+          faults = (E.faults err.old, E.faults err.new);
+        }) answer result }
+{
+    let answer = exec_one(alloc, name, text, out, image);
     tell(err, answer)
 }
 
@@ -131,7 +225,12 @@ fn bench<O: Sink>(
     number: u64,
     out: &mut O,
     image: &mut Vec<u8>,
-) -> Result<Answer, Refusal<'static>> {
+) -> Result<Answer, Refusal<'static>>
+    ensures { ExecsTexts image.new.items [] false (record {
+      taken = (O.taken out.old, O.taken out.new);
+      faults = (O.faults out.old, O.faults out.new);
+    }) result }
+{
     let Ok(workload) = make(alloc, number) else {
         return Err(Refusal::NO_MEMORY);
     };
@@ -156,7 +255,19 @@ fn carry_out<'a, F: Shelf, O: Sink>(
     shelf: &mut F,
     out: &mut O,
     image: &mut Vec<u8>,
-) -> Result<Answer, Refusal<'a>> {
+) -> Result<Answer, Refusal<'a>>
+    requires { image.old.items ≡ [] }
+    ensures { CarriesOut (order_of request.entry.now) (record {
+      held = (F.held shelf.old, F.held shelf.new);
+      faults = (F.faults shelf.old, F.faults shelf.new);
+      store_faults = (F.store_faults shelf.old, F.store_faults shelf.new);
+      absences = (F.absences shelf.old, F.absences shelf.new);
+      excesses = (F.excesses shelf.old, F.excesses shelf.new);
+    }) (record {
+      taken = (O.taken out.old, O.taken out.new);
+      faults = (O.faults out.old, O.faults out.new);
+    }) image.new.items result }
+{
     match request {
         Request::Build { image: name, files } => build_files(alloc, *name, files, shelf, image),
         Request::Run {
@@ -181,7 +292,22 @@ pub fn command<F: Shelf, O: Sink, E: Sink>(
     out: &mut O,
     err: &mut E,
     image: &mut Vec<u8>,
-) -> u8 {
+) -> u8
+    requires { image.old.items ≡ [] }
+    ensures { Commands (record {
+      held = (F.held shelf.old, F.held shelf.new);
+      faults = (F.faults shelf.old, F.faults shelf.new);
+      store_faults = (F.store_faults shelf.old, F.store_faults shelf.new);
+      absences = (F.absences shelf.old, F.absences shelf.new);
+      excesses = (F.excesses shelf.old, F.excesses shelf.new);
+    }) (record {
+      taken = (O.taken out.old, O.taken out.new);
+      faults = (O.faults out.old, O.faults out.new);
+    }) (record {
+      taken = (E.taken err.old, E.taken err.new);
+      faults = (E.faults err.old, E.faults err.new);
+    }) image.new.items result }
+{
     match read_words(alloc, words) {
         Ok(Some(request)) => {
             let answer = carry_out(alloc, &request, shelf, out, image);

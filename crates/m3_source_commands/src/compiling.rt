@@ -1,5 +1,7 @@
 //! From sources to the bytes of an image.
-ghost use Rattle.std.specs.Prelude.{◌≡◌, ◌<◌, true, length, All};
+ghost use Rattle.std.specs.Prelude.{◌≡◌, ◌<◌, ℕ, List, true, length, All, IfOk, IfErr, IsOk};
+ghost use Rattle.m3_image.specs.Images.{read_of};
+ghost use Rattle.m3_source_commands.specs.SourceCommands.{RefusesSources};
 
 use bumpalo::Bump;
 use bumpalo::collections::into_bump_slice;
@@ -30,7 +32,9 @@ fn refuse(
     alloc: Global,
     sources: &[Source<'_>],
     refused: Refused,
-) -> Result<Answer, Refusal<'static>> {
+) -> Result<Answer, Refusal<'static>>
+    ensures { (switches : List ℕ) → RefusesSources switches result }
+{
     match refused {
         Refused::NoMemory => Err(Refusal::NO_MEMORY),
         Refused::Rule(broken) => match rule_line(alloc, sources, broken) {
@@ -71,7 +75,9 @@ fn copies<'a>(
 }
 
 /// The image of a checked program, which goes to the arena.
-fn image_of<'a>(alloc: Global, arena: &'a Bump, core: Core<'a>) -> Result<Vec<u8>, NoMemory> {
+fn image_of<'a>(alloc: Global, arena: &'a Bump, core: Core<'a>) -> Result<Vec<u8>, NoMemory>
+    ensures { IfOk result (λ image. IsOk (read_of image.items)) }
+{
     let mut kept = Vec::new(arena);
     kept.push(core)?;
     match into_bump_slice(kept) {
@@ -80,13 +86,23 @@ fn image_of<'a>(alloc: Global, arena: &'a Bump, core: Core<'a>) -> Result<Vec<u8
     }
 }
 
+/// The schedule that the lines of a switch file say.
+fn schedule_in(alloc: Global, switches: &[u8]) -> Step<'static, Vec<Entry>>
+    ensures { IfErr result (RefusesSources switches.now) }
+{
+    schedule_of(alloc, switches)
+}
+
 /// The image of a program, and the schedule of a switch file, whose lines are read once the sources
 /// are accepted.
 pub fn compile(
     alloc: Global,
     sources: &[Source<'_>],
     switches: &[u8],
-) -> Step<'static, (Vec<u8>, Vec<Entry>)> {
+) -> Step<'static, (Vec<u8>, Vec<Entry>)>
+    ensures ok { IfOk result (λ built. IsOk (read_of built.0.items)) }
+    ensures err { IfErr result (RefusesSources switches.now) }
+{
     let owner = Bump::new(alloc);
     let arena = &owner;
     let Ok(copies) = copies(alloc, arena, sources) else {
@@ -99,7 +115,7 @@ pub fn compile(
         Ok(core) => core,
         Err(refused) => return Err(refuse(alloc, sources, refused)),
     };
-    let schedule = schedule_of(alloc, switches)?;
+    let schedule = schedule_in(alloc, switches)?;
     match image_of(alloc, arena, core) {
         Ok(image) => Ok((image, schedule)),
         Err(_) => Err(Err(Refusal::NO_MEMORY)),

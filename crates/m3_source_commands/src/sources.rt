@@ -1,4 +1,9 @@
 //! The FILEs of a command.
+ghost use Rattle.std.specs.Prelude.{◌≡◌, [], ◌∷◌, ◌++◌, OnOk, IfOk, map, min};
+ghost use Rattle.m3_image_commands.specs.Statuses.{Fetches, Only};
+ghost use Rattle.m3_source_commands.specs.SourceCommands.{OfFiles, source_cap};
+ghost use Rattle.m3_source_commands.specs.Texts.{texts_of, IsNext};
+
 use m3_base::{Bytes, NoMemory, Source};
 use m3_image_commands::{Refusal, fetch};
 use m3_ports::Shelf;
@@ -19,7 +24,9 @@ pub struct Sources<'a> {
 
 impl<'a> Sources<'a> {
     /// No file yet.
-    pub fn new(alloc: Global) -> Sources<'a> {
+    pub fn new(alloc: Global) -> Sources<'a>
+        ensures { result.texts.items ≡ [] }
+    {
         Sources {
             names: Vec::new(alloc),
             texts: Vec::new(alloc),
@@ -27,10 +34,39 @@ impl<'a> Sources<'a> {
     }
 
     /// Adds a file behind the others.
-    pub fn add(&mut self, name: &'a str, text: Vec<u8>) -> Result<(), NoMemory> {
+    pub fn add(&mut self, name: &'a str, text: Vec<u8>) -> Result<(), NoMemory>
+        ensures { OnOk result (self.new.texts.items ≡ self.old.texts.items ++ text ∷ []) }
+    {
         self.names.push(name)?;
         self.texts.push(text)?;
         Ok(())
+    }
+}
+
+/// Fetches a FILE behind the others, within its cap and what is left for all, and gives what is left
+/// then.
+fn fetch_next<'a, F: Shelf>(
+    alloc: Global,
+    shelf: &mut F,
+    name: &'a str,
+    left: u64,
+    sources: &mut Sources<'a>,
+) -> Result<u64, Refusal<'a>>
+    ensures fetches { Fetches (record {
+      held = (F.held shelf.old, F.held shelf.new);
+      faults = (F.faults shelf.old, F.faults shelf.new);
+      store_faults = (F.store_faults shelf.old, F.store_faults shelf.new);
+      absences = (F.absences shelf.old, F.absences shelf.new);
+      excesses = (F.excesses shelf.old, F.excesses shelf.new);
+    }) (Only name.now (min left source_cap)) result }
+    ensures read { IfOk result (IsNext (F.held shelf.old) name.now left (texts_of sources.old) (texts_of sources.new)) }
+{
+    let mut text = Vec::new(alloc);
+    fetch(alloc, shelf, name, left.min(SOURCE_CAP), &mut text)?;
+    let rest = left.saturating_sub(text.len() as u64);
+    match sources.add(name, text) {
+        Ok(()) => Ok(rest),
+        Err(_) => Err(Refusal::NO_MEMORY),
     }
 }
 
@@ -39,15 +75,24 @@ pub fn fetch_sources<'a, F: Shelf>(
     alloc: Global,
     shelf: &mut F,
     files: &[&'a str],
-) -> Result<Sources<'a>, Refusal<'a>> {
+) -> Result<Sources<'a>, Refusal<'a>>
+    ensures { Fetches (record {
+      held = (F.held shelf.old, F.held shelf.new);
+      faults = (F.faults shelf.old, F.faults shelf.new);
+      store_faults = (F.store_faults shelf.old, F.store_faults shelf.new);
+      absences = (F.absences shelf.old, F.absences shelf.new);
+      excesses = (F.excesses shelf.old, F.excesses shelf.new);
+    }) (OfFiles (F.held shelf.old) (map (λ n. n.now) files.entry.now)) result }
+{
     let mut sources = Sources::new(alloc);
     let mut left = SOURCES_CAP;
-    for name in files {
-        let mut text = Vec::new(alloc);
-        fetch(alloc, shelf, *name, left.min(SOURCE_CAP), &mut text)?;
-        left = left.saturating_sub(text.len() as u64);
-        if sources.add(*name, text).is_err() {
-            return Err(Refusal::NO_MEMORY);
+    'files: for place in 0..files.len() {
+        let Some(name) = files.get(place) else {
+            break;
+        };
+        match fetch_next(alloc, shelf, *name, left, &mut sources) {
+            Ok(rest) => left = rest,
+            Err(refusal) => return Err(refusal),
         }
     }
     Ok(sources)

@@ -48,6 +48,7 @@ impl<S: Sink + Drop> Gathered<S> {
         ensures nothing { self.new.waiting ≡ [] }
         ensures faults { self.old.faults ≤ self.new.faults }
         ensures told { is_some self.new.told ≡ is_some self.old.told }
+        ensures kept { OnOk result (self.new.faults ≡ self.old.faults) }
         ensures ok { OnOk result (IfSome self.old.told (λ bytes. self.new.told ≡ Some (bytes ++ self.old.waiting))) }
         ensures failed { OnErr result (Rose self.old.faults self.new.faults) }
     {

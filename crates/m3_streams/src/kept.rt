@@ -1,4 +1,4 @@
-ghost use Rattle.std.specs.Prelude.{◌≡◌, ◌≤◌, ℕ, [], None, OnErr};
+ghost use Rattle.std.specs.Prelude.{◌≡◌, ◌≤◌, ℕ, [], None, OnOk, OnErr};
 ghost use Rattle.m3_ports.specs.Counts.{Rose};
 
 use m3_base::NoMemory;
@@ -34,6 +34,7 @@ impl<S: Sink + Drop> Kept<S> {
     pub fn give(&mut self) -> Result<(), SinkFailed>
         ensures nothing { self.new.bytes.items ≡ [] }
         ensures faults { S.faults self.old.to ≤ S.faults self.new.to }
+        ensures kept { OnOk result (S.faults self.new.to ≡ S.faults self.old.to) }
         ensures failed { OnErr result (Rose (S.faults self.old.to) (S.faults self.new.to)) }
     {
         let result = self.to.put(self.bytes.as_slice());

@@ -10,7 +10,9 @@ use Rattle.m3_base.specs.declared.outcomes.Outcome.TheVariants.{Done, Fault}
 use Rattle.m3_ports.specs.Files.{Files, IsNotHeld, IsHeldOver}
 use Rattle.m3_build.specs.Terms.{Term, outcome_of}
 use Rattle.m3_build.specs.PlainForm.{IsPlain}
-use Rattle.m3c.specs.Command.{Call, CountRose, IsSilent, IsRead, Ran, Answers, IsOther, end_status, Promises, file_cap}
+use Rattle.m3_image_commands.specs.Statuses.{CountRose}
+use Rattle.m3_source_commands.specs.Orders.{Commands}
+use Rattle.m3c.specs.Command.{Call, IsSilent, IsRead, Ran, Answers, AnswersOther, of_words, of_text, IsOther, end_status, Promises, file_cap}
 
 or_parts : (a b : Bool) → (a || b) ≡ true → (a ≡ true) ⊎ (b ≡ true)
 or_parts true b e = inl refl
@@ -28,18 +30,18 @@ some_none x e = cc
 held_text : (told : Option Files) (files : Files) (name text : List ℕ) → told ≡ Some files → IfSome told (λ f. get f name ≡ Some text) → get files name ≡ Some text
 held_text told files name text e h = subst (λ o. IfSome o (λ f. get f name ≡ Some text)) e h
 
-same_text : (call : Call) (files : Files) (name text name' text' : List ℕ) → call.file ≡ Some name → call.held ≡ Some files → get files name ≡ Some text → IsRead call name' text' → text ≡ text'
+same_text : (call : Call) (files : Files) (name text name' text' : List ℕ) → call.file ≡ Some name → call.shelf.held.0 ≡ Some files → get files name ≡ Some text → IsRead call name' text' → text ≡ text'
 same_text call files name text name' text' f h g r =
     let n : name' ≡ name = some_same name' name (sym r.named ∙ f) in
-    let g' = held_text call.held files name' text' h r.held in
+    let g' = held_text call.shelf.held.0 files name' text' h r.held in
     some_same text text' (sym g ∙ ap (λ x. get files x) (sym n) ∙ g')
 
-same_run : (call : Call) (files : Files) (name text : List ℕ) (puts : List Term) (outcome : Outcome) → call.file ≡ Some name → call.held ≡ Some files → get files name ≡ Some text → IsPlain text puts → Ran call outcome → outcome ≡ outcome_of puts
+same_run : (call : Call) (files : Files) (name text : List ℕ) (puts : List Term) (outcome : Outcome) → call.file ≡ Some name → call.shelf.held.0 ≡ Some files → get files name ≡ Some text → IsPlain text puts → Ran call outcome → outcome ≡ outcome_of puts
 same_run call files name text puts outcome f h g p r =
     let t = same_text call files name text r.name r.text f h g r.read in
     sym r.ends ∙ ap outcome_of (sym (r.only puts (subst (λ x. IsPlain x puts) t p)))
 
-module _ (call : Call) (status : ℕ) (table : Answers call status) (files : Files) (name text : List ℕ) (puts : List Term) (f : call.file ≡ Some name) (h : call.held ≡ Some files) (g : get files name ≡ Some text) (short : length text ≤ file_cap) (p : IsPlain text puts) (no_fault : CountRose call.faults → ⊥) (no_out : CountRose call.out_faults → ⊥) (no_err : CountRose call.err_faults → ⊥) where
+module _ (call : Call) (status : ℕ) (table : Answers call status) (files : Files) (name text : List ℕ) (puts : List Term) (f : call.file ≡ Some name) (h : call.shelf.held.0 ≡ Some files) (g : get files name ≡ Some text) (short : length text ≤ file_cap) (p : IsPlain text puts) (no_fault : CountRose call.shelf.faults → ⊥) (no_out : CountRose call.out.faults → ⊥) (no_err : CountRose call.err.faults → ⊥) where
   abbrev Complete : Type 0
   Complete = ((status ≡ end_status (outcome_of puts)) × Ran call (outcome_of puts)) ⊎ ((status ≡ 5) × IsSilent call)
 
@@ -58,7 +60,7 @@ module _ (call : Call) (status : ℕ) (table : Answers call status) (files : Fil
   at_4 : status ≡ 4 → Complete
   at_4 e = absurd (no_rise (table.write_fault e))
     where
-      no_rise : CountRose call.out_faults ⊎ CountRose call.err_faults → ⊥
+      no_rise : CountRose call.out.faults ⊎ CountRose call.err.faults → ⊥
       no_rise (inl r) = no_out r
       no_rise (inr r) = no_err r
 
@@ -97,14 +99,21 @@ promised call status table = record {
 }
 
 -- another command says nothing of the plain form
-not_plain : (call : Call) (files : Files) (name text : List ℕ) (puts : List Term) → call.file ≡ Some name → call.held ≡ Some files → get files name ≡ Some text → IsPlain text puts → IsOther call.file call.held → ⊥
+not_plain : (call : Call) (files : Files) (name text : List ℕ) (puts : List Term) → call.file ≡ Some name → call.shelf.held.0 ≡ Some files → get files name ≡ Some text → IsPlain text puts → IsOther call.file call.shelf.held.0 → ⊥
 not_plain call files name text puts f h g p (inl none) = some_none name (sym f ∙ none)
 not_plain call files name text puts f h g p (inr n) =
     let same : text ≡ n.text = same_text call files name text n.name n.text f h g (record { named = n.named; short = n.short; held = n.told }) in
     n.other puts (subst (λ x. IsPlain x puts) same p)
 
-pub other_promised : (call : Call) (status : ℕ) → IsOther call.file call.held → Promises call status
-other_promised call status other = record {
-  table = inr other;
-  complete = λ files name text puts f h g short p a b c. absurd (not_plain call files name text puts f h g p other);
+is_other : (call : Call) (status : ℕ) → AnswersOther call status → IsOther call.file call.shelf.held.0
+is_other call status (of_words s none commands) = inl none
+is_other call status (of_text name s result named text carried told) = inr text
+
+pub other_promised : (call : Call) (status : ℕ) → AnswersOther call status → Promises call status
+other_promised call status answers = record {
+  table = inr answers;
+  complete = λ files name text puts f h g short p a b c. absurd (not_plain call files name text puts f h g p (is_other call status answers));
 }
+
+pub words_promised : (call : Call) (status : ℕ) → call.file ≡ None → Commands call.shelf call.out call.err call.image status → Promises call status
+words_promised call status none commands = other_promised call status (of_words status none commands)

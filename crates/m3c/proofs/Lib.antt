@@ -4,3 +4,4 @@ pub mod Loops
 pub mod Ends
 pub mod Rows
 pub mod Completes
+pub mod OtherTexts

@@ -12,7 +12,8 @@ use Rattle.m3_isa.specs.declared.instructions.Instr.{Instr}
 use Rattle.m3_build.specs.Terms.{Term, Value, Gives, Overflows, value_of, ended_by, outcome_of, output_of, points_of}
 use Rattle.m3_build.specs.Machine.{State, Ends, run, start}
 use Rattle.m3c.specs.declared.machine.Ended.{Ended}
-use Rattle.m3c.specs.Command.{Call, CountRose, Took, IsSilent, Says, IsRead, report, Ran, Refuses, NotPlain, Answers}
+use Rattle.m3_image_commands.specs.Statuses.{Putting, CountRose, Took}
+use Rattle.m3c.specs.Command.{Call, IsSilent, Says, IsRead, report, Ran, Refuses, NotPlain, Answers}
 use Rattle.m3c.specs.Compiled.{Compiles}
 use Rattle.m3c.proofs.Loops.{same_end}
 
@@ -41,16 +42,16 @@ ended_plainly text code lines outcome points instructions out b f =
 
 -- ---- rows of one file
 
-pub read_text : (call : Call) (name text before after bytes : List ℕ) → call.file ≡ Some name → after ≡ before ++ bytes → before ≡ [] → text ≡ after → length bytes ≤ 1048576 → IfSome call.held (λ files. get files name ≡ Some bytes) → IsRead call name text
+pub read_text : (call : Call) (name text before after bytes : List ℕ) → call.file ≡ Some name → after ≡ before ++ bytes → before ≡ [] → text ≡ after → length bytes ≤ 1048576 → IfSome call.shelf.held.0 (λ files. get files name ≡ Some bytes) → IsRead call name text
 read_text call name text before after bytes named e empty same short held =
     let t : bytes ≡ text = sym (same ∙ e ∙ ap (λ b. b ++ bytes) empty) in
     record {
       named = named;
       short = subst (λ b. length b ≤ 1048576) t short;
-      held = subst (λ b. IfSome call.held (λ files. get files name ≡ Some b)) t held;
+      held = subst (λ b. IfSome call.shelf.held.0 (λ files. get files name ≡ Some b)) t held;
     }
 
-pub row_write_fault : (call : Call) → CountRose call.out_faults ⊎ CountRose call.err_faults → Answers call 4
+pub row_write_fault : (call : Call) → CountRose call.out.faults ⊎ CountRose call.err.faults → Answers call 4
 row_write_fault call row = record {
   known = refl;
   done = λ e. absurd (omega arith);
@@ -113,7 +114,7 @@ not_plain_text held name text before after bytes e empty same short told other =
 
 -- ---- a run
 
-ran : (call : Call) (name text line : List ℕ) (code : List Instr) (lines : List ℕ) (ended : Ended) → IsRead call name text → Compiles text code lines → Finished code lines ended.outcome ended.points ended.instructions call.out → Says call (report name ended.outcome ended.points ended.instructions) → Ran call ended.outcome
+ran : (call : Call) (name text line : List ℕ) (code : List Instr) (lines : List ℕ) (ended : Ended) → IsRead call name text → Compiles text code lines → Finished code lines ended.outcome ended.points ended.instructions call.out.taken → Says call (report name ended.outcome ended.points ended.instructions) → Ran call ended.outcome
 ran call name text line code lines ended read b f says =
     let same = same_end b.built.last f.0 (outcome_of b.puts) ended.outcome (sym b.built.ends ∙ f.1) in
     let points : ended.points ≡ points_of b.puts = f.2 ∙ ap (λ (s : State). s.points) (sym same.0) ∙ b.built.points in
@@ -130,15 +131,15 @@ ran call name text line code lines ended read b f says =
       code = code;
       lines = lines;
       built = b.built;
-      output = subst (λ o. Took call.out o) output f.4;
+      output = subst (λ o. Took call.out.taken o) output f.4;
       says = subst (λ n. Says call (report name ended.outcome (points_of b.puts) n)) instructions (subst (λ n. Says call (report name ended.outcome n ended.instructions)) points says);
     }
 
-pub row_ran : (call : Call) (name text : List ℕ) (code : List Instr) (lines : List ℕ) (ended : Ended) (status : ℕ) → IsRead call name text → Compiles text code lines → Finished code lines ended.outcome ended.points ended.instructions call.out → Says call (report name ended.outcome ended.points ended.instructions)
+pub row_ran : (call : Call) (name text : List ℕ) (code : List Instr) (lines : List ℕ) (ended : Ended) (status : ℕ) → IsRead call name text → Compiles text code lines → Finished code lines ended.outcome ended.points ended.instructions call.out.taken → Says call (report name ended.outcome ended.points ended.instructions)
     → (ended.outcome ≡ Done → status ≡ 0) → ((at : ℕ) → ended.outcome ≡ Fault Overflow 0 at → status ≡ 10) → Answers call status
 row_ran call name text code lines ended status read b f says done fault =
     let row = ran call name text [] code lines ended read b f says in
-    elim (ended_plainly text code lines ended.outcome ended.points ended.instructions call.out b f) [
+    elim (ended_plainly text code lines ended.outcome ended.points ended.instructions call.out.taken b f) [
       | inl e ↦ subst (λ s. Answers call s) (sym (done e)) (row_done call (subst (λ o. Ran call o) e row))
       | inr e ↦ subst (λ s. Answers call s) (sym (fault e.0 e.1)) (row_fault call (e.0, subst (λ o. Ran call o) e.1 row))
     ]
@@ -151,20 +152,20 @@ says_on line text err e t = subst (λ l. Took err l) (same_line line text e) t
     same_line : (line text : List ℕ) → Some line ≡ Some ([] ++ text) → line ≡ text
     same_line line text e = cc
 
-abbrev pub told : Call → Option (List ℕ) → Option (List ℕ) × Option (List ℕ) → ℕ × ℕ → Call
-told a file err err_faults = record a { file = file; err = err; err_faults = err_faults }
+abbrev pub told : Call → Option (List ℕ) → Option (List ℕ) × Option (List ℕ) → ℕ × ℕ → List ℕ → Call
+told a file err err_faults image = record a { file = file; err = record { taken = err; faults = err_faults }; image = image }
 
-module _ (a : Call) (line : List ℕ) (file : Option (List ℕ)) (err : Option (List ℕ) × Option (List ℕ)) (err_faults : ℕ × ℕ) (same : file ≡ a.file) (from : a.err ≡ (Some [], Some line)) (none : a.err_faults ≡ (0, 0)) (took : Took err line) where
-  say : (text : List ℕ) → Took a.err text → Took err text
+module _ (a : Call) (line : List ℕ) (file : Option (List ℕ)) (err : Option (List ℕ) × Option (List ℕ)) (err_faults : ℕ × ℕ) (image : List ℕ) (same : file ≡ a.file) (from : a.err.taken ≡ (Some [], Some line)) (none : a.err.faults ≡ (0, 0)) (took : Took err line) where
+  say : (text : List ℕ) → Took a.err.taken text → Took err text
   say text t = says_on line text err (subst (λ e. Took e text) from t) took
 
-  refuse_on : (cause : List ℕ) (Holds : List ℕ → Type 0) → Refuses a cause Holds → Refuses (told a file err err_faults) cause Holds
+  refuse_on : (cause : List ℕ) (Holds : List ℕ → Type 0) → Refuses a cause Holds → Refuses (told a file err err_faults image) cause Holds
   refuse_on cause Holds r = record { name = r.name; named = same ∙ r.named; holds = r.holds; silent = r.silent; says = say _ r.says }
 
-  read_on : (name text : List ℕ) → IsRead a name text → IsRead (told a file err err_faults) name text
+  read_on : (name text : List ℕ) → IsRead a name text → IsRead (told a file err err_faults image) name text
   read_on name text r = record { named = same ∙ r.named; short = r.short; held = r.held }
 
-  ran_on : (outcome : Outcome) → Ran a outcome → Ran (told a file err err_faults) outcome
+  ran_on : (outcome : Outcome) → Ran a outcome → Ran (told a file err err_faults image) outcome
   ran_on outcome r = record {
     name = r.name;
     text = r.text;
@@ -180,18 +181,18 @@ module _ (a : Call) (line : List ℕ) (file : Option (List ℕ)) (err : Option (
     says = say _ r.says;
   }
 
-  none_rose : CountRose a.err_faults → ⊥
+  none_rose : CountRose a.err.faults → ⊥
   none_rose r = zero_rose (subst CountRose none r)
     where
       zero_rose : Rose 0 0 → ⊥
       zero_rose (inl h) = omega arith
       zero_rose (inr h) = omega arith
 
-  out_rose : CountRose a.out_faults ⊎ CountRose a.err_faults → CountRose a.out_faults
+  out_rose : CountRose a.out.faults ⊎ CountRose a.err.faults → CountRose a.out.faults
   out_rose (inl r) = r
   out_rose (inr r) = absurd (none_rose r)
 
-  pub answers_on : (status : ℕ) → Answers a status → Answers (told a file err err_faults) status
+  pub answers_on : (status : ℕ) → Answers a status → Answers (told a file err err_faults image) status
   answers_on status r = record {
     known = r.known;
     done = λ e. ran_on Done (r.done e);
@@ -204,8 +205,8 @@ module _ (a : Call) (line : List ℕ) (file : Option (List ℕ)) (err : Option (
   }
 
 -- the command's last step: the line goes to err, or the put fails
-pub told_or_failed : (a : Call) (line : List ℕ) (file : Option (List ℕ)) (err : Option (List ℕ) × Option (List ℕ)) (err_faults : ℕ × ℕ) (status result : ℕ) (line' : List ℕ) → file ≡ a.file → a.err ≡ (Some [], Some line) → a.err_faults ≡ (0, 0) → line' ≡ line → Answers a status → ((result ≡ status) × Took err line') ⊎ ((result ≡ 4) × CountRose err_faults) → Answers (told a file err err_faults) result
-told_or_failed a line file err err_faults status result line' same from none l answers (inl t) =
-    subst (λ s. Answers (told a file err err_faults) s) (sym t.0) (answers_on a line file err err_faults same from none (subst (λ x. Took err x) l t.1) status answers)
-told_or_failed a line file err err_faults status result line' same from none l answers (inr f) =
-    subst (λ s. Answers (told a file err err_faults) s) (sym f.0) (row_write_fault (told a file err err_faults) (inr f.1))
+pub told_or_failed : (a : Call) (line : List ℕ) (file : Option (List ℕ)) (err : Option (List ℕ) × Option (List ℕ)) (err_faults : ℕ × ℕ) (image : List ℕ) (status result : ℕ) (line' : List ℕ) → file ≡ a.file → a.err.taken ≡ (Some [], Some line) → a.err.faults ≡ (0, 0) → line' ≡ line → Answers a status → ((result ≡ status) × Took err line') ⊎ ((result ≡ 4) × CountRose err_faults) → Answers (told a file err err_faults image) result
+told_or_failed a line file err err_faults image status result line' same from none l answers (inl t) =
+    subst (λ s. Answers (told a file err err_faults image) s) (sym t.0) (answers_on a line file err err_faults image same from none (subst (λ x. Took err x) l t.1) status answers)
+told_or_failed a line file err err_faults image status result line' same from none l answers (inr f) =
+    subst (λ s. Answers (told a file err err_faults image) s) (sym f.0) (row_write_fault (told a file err err_faults image) (inr f.1))

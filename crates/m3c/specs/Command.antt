@@ -1,6 +1,6 @@
 -- What the command answers: a row for each status, over what the words say, what the shelf tells that it
 -- holds, which counts rose, and what the sinks took.
-use Rattle.std.specs.Prelude.{ℕ, ◌≡◌, ◌≤◌, ◌==◌, ◌&&◌, ◌⊎◌, Bool, false, not, if◌then◌else◌, Option, None, Some, IfSome, List, [], ◌∷◌, ◌++◌, length, codes, decimal, IsTrue}
+use Rattle.std.specs.Prelude.{ℕ, ◌≡◌, ◌≤◌, ◌==◌, ◌&&◌, ◌⊎◌, Bool, false, not, if◌then◌else◌, Option, None, Some, IfSome, Result, List, [], ◌∷◌, ◌++◌, length, codes, decimal, IsTrue}
 use Rattle.std.specs.List.{list_any}
 use Rattle.std.specs.Str.{bytes_eq}
 use Rattle.std.specs.FinMap.{get}
@@ -8,12 +8,16 @@ use Rattle.m3_base.specs.declared.outcomes.FaultKind.TheVariants.{Overflow}
 use Rattle.m3_base.specs.declared.outcomes.Outcome.{Outcome}
 use Rattle.m3_base.specs.declared.outcomes.Outcome.TheVariants.{Done, Fault}
 use Rattle.m3_base.specs.Faults.{name_of_fault}
-use Rattle.m3_ports.specs.Counts.{Rose}
 use Rattle.m3_ports.specs.Files.{Files, IsNotHeld, IsHeldOver}
 use Rattle.m3_isa.specs.declared.instructions.Instr.{Instr}
 use Rattle.m3_build.specs.Terms.{Term, output_of, points_of, outcome_of}
 use Rattle.m3_build.specs.PlainForm.{IsPlain}
 use Rattle.m3_build.specs.Machine.{Puts}
+use Rattle.m3_image_commands.specs.declared.answers.Answer.{Answer}
+use Rattle.m3_image_commands.specs.declared.answers.Refusal.{Refusal}
+use Rattle.m3_image_commands.specs.Statuses.{Shelving, Putting, Tells}
+pub use Rattle.m3_image_commands.specs.Statuses.{CountRose, Took}
+use Rattle.m3_source_commands.specs.Orders.{exec, CarriesOut, Commands}
 
 -- ---- the words
 
@@ -35,40 +39,28 @@ file_cap = 1048576
 
 -- ---- what happened outside
 
--- the file that the words name, what the shelf tells that it holds, and pairs of what was before the call
--- and after it: three counts of the shelf, and for out and err what they tell that they took and the
--- counts of their faults
+-- the file that the words name, what happened on the shelf and in the sinks, and the bytes that the command
+-- leaves as its image
 pub record Call : Type 0 where
   pub file : Option (List ℕ)
-  pub held : Option Files
-  pub faults : ℕ × ℕ
-  pub absences : ℕ × ℕ
-  pub excesses : ℕ × ℕ
-  pub out : Option (List ℕ) × Option (List ℕ)
-  pub out_faults : ℕ × ℕ
-  pub err : Option (List ℕ) × Option (List ℕ)
-  pub err_faults : ℕ × ℕ
-
-abbrev pub CountRose : ℕ × ℕ → Type 0
-CountRose count = Rose count.0 count.1
-
--- a sink took these bytes, where it tells them
-abbrev pub Took : Option (List ℕ) × Option (List ℕ) → List ℕ → Type 0
-Took taken bytes = IfSome taken.0 (λ before. taken.1 ≡ Some (before ++ bytes))
+  pub shelf : Shelving
+  pub out : Putting
+  pub err : Putting
+  pub image : List ℕ
 
 -- out has what it had
 abbrev pub IsSilent : Call → Type 0
-IsSilent call = call.out.1 ≡ call.out.0
+IsSilent call = call.out.taken.1 ≡ call.out.taken.0
 
 -- err took one line
 abbrev pub Says : Call → List ℕ → Type 0
-Says call line = Took call.err (line ++ codes "\n")
+Says call line = Took call.err.taken (line ++ codes "\n")
 
 -- the words name this file, which was read: these are its bytes, where the shelf tells them
 pub record IsRead (call : Call) (name text : List ℕ) : Type 0 where
   pub named : call.file ≡ Some name
   pub short : length text ≤ file_cap
-  pub held : IfSome call.held (λ files. get files name ≡ Some text)
+  pub held : IfSome call.shelf.held.0 (λ files. get files name ≡ Some text)
 
 -- ---- a run
 
@@ -96,7 +88,7 @@ pub record Ran (call : Call) (outcome : Outcome) : Type 0 where
   pub code : List Instr
   pub lines : List ℕ
   pub built : Puts puts code lines
-  pub output : Took call.out (output_of puts)
+  pub output : Took call.out.taken (output_of puts)
   pub says : Says call (report name outcome (points_of puts) built.last.instructions)
 
 -- ---- the table
@@ -118,8 +110,7 @@ pub record NotPlain (file : Option (List ℕ)) (held : Option Files) : Type 0 wh
   pub told : IfSome held (λ files. get files name ≡ Some text)
   pub other : (puts : List Term) → IsPlain text puts → ⊥
 
--- the words are another command than exec FILE with a text in the plain form: what it answers isn't said
--- here
+-- the words are another command than exec FILE with a text in the plain form
 abbrev pub IsOther : Option (List ℕ) → Option Files → Type 0
 IsOther file held = (file ≡ None) ⊎ NotPlain file held
 
@@ -127,11 +118,11 @@ IsOther file held = (file ≡ None) ⊎ NotPlain file held
 pub record Answers (call : Call) (status : ℕ) : Type 0 where
   pub known : IsTrue (list_any (λ s. s == status) (0 ∷ 3 ∷ 4 ∷ 5 ∷ 6 ∷ 7 ∷ 10 ∷ []))
   pub done : status ≡ 0 → Ran call Done
-  pub read_fault : status ≡ 3 → Refuses call (codes "read fault") (λ name. CountRose call.faults)
-  pub write_fault : status ≡ 4 → CountRose call.out_faults ⊎ CountRose call.err_faults
+  pub read_fault : status ≡ 3 → Refuses call (codes "read fault") (λ name. CountRose call.shelf.faults)
+  pub write_fault : status ≡ 4 → CountRose call.out.faults ⊎ CountRose call.err.faults
   pub no_memory : status ≡ 5 → IsSilent call × Says call (codes "out of memory")
-  pub absent : status ≡ 6 → Refuses call (codes "absent") (λ name. CountRose call.absences × IfSome call.held (λ files. IsNotHeld files name))
-  pub too_long : status ≡ 7 → Refuses call (codes "too long") (λ name. CountRose call.excesses × IfSome call.held (λ files. IsHeldOver files name file_cap))
+  pub absent : status ≡ 6 → Refuses call (codes "absent") (λ name. CountRose call.shelf.absences × IfSome call.shelf.held.0 (λ files. IsNotHeld files name))
+  pub too_long : status ≡ 7 → Refuses call (codes "too long") (λ name. CountRose call.shelf.excesses × IfSome call.shelf.held.0 (λ files. IsHeldOver files name file_cap))
   pub fault : status ≡ 10 → (line : ℕ) × Ran call (Fault Overflow 0 line)
 
 -- the status of an end that the plain form has: Done, or a fault
@@ -143,11 +134,17 @@ end_status _ = 10
 -- rises, is run to the end of its puts, or memory ran out before any output
 abbrev pub IsComplete : Call → ℕ → Type 0
 IsComplete call status =
-    (files : Files) (name text : List ℕ) (puts : List Term) → call.file ≡ Some name → call.held ≡ Some files → get files name ≡ Some text → length text ≤ file_cap → IsPlain text puts
-    → ¬ CountRose call.faults → ¬ CountRose call.out_faults → ¬ CountRose call.err_faults
+    (files : Files) (name text : List ℕ) (puts : List Term) → call.file ≡ Some name → call.shelf.held.0 ≡ Some files → get files name ≡ Some text → length text ≤ file_cap → IsPlain text puts
+    → ¬ CountRose call.shelf.faults → ¬ CountRose call.out.faults → ¬ CountRose call.err.faults
     → ((status ≡ end_status (outcome_of puts)) × Ran call (outcome_of puts)) ⊎ ((status ≡ 5) × IsSilent call)
+
+-- any other command than exec FILE; or exec FILE with a text that isn't in the plain form
+pub data AnswersOther (call : Call) : ℕ → Type 0 where
+  of_words : (status : ℕ) → call.file ≡ None → Commands call.shelf call.out call.err call.image status → AnswersOther call status
+  of_text : (name : List ℕ) (status : ℕ) (result : Result Answer Refusal) → call.file ≡ Some name → NotPlain call.file call.shelf.held.0
+      → CarriesOut (exec (name ∷ []) None None) call.shelf call.out call.image result → Tells call.err result status → AnswersOther call status
 
 -- the table, and completeness
 pub record Promises (call : Call) (status : ℕ) : Type 0 where
-  pub table : Answers call status ⊎ IsOther call.file call.held
+  pub table : Answers call status ⊎ AnswersOther call status
   pub complete : IsComplete call status

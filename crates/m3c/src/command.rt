@@ -1,18 +1,21 @@
 // The command: its words, its files and its answer.
 
-ghost use Rattle.std.specs.Prelude.{◌≡◌, ◌+◌, ◌≤◌, ◌++◌, [], ◌⊎◌, ℕ, List, Option, Some, None, Result, length, codes, map, string_bytes, vec_len, vec_capacity, IfOk, MatchOption, MatchResult, IsErrOf};
+ghost use Rattle.std.specs.Prelude.{◌≡◌, ◌+◌, ◌≤◌, ◌++◌, [], ◌⊎◌, ℕ, List, Option, Some, None, Result, length, codes, map, string_bytes, vec_len, vec_capacity, IfOk, IfErr, MatchOption, MatchResult, IsErrOf};
 ghost use Rattle.m3_base.specs.declared.outcomes.Outcome.TheVariants.{Done, Fault};
 ghost use Rattle.m3_base.specs.declared.outcomes.FaultKind.TheVariants.{Overflow};
 ghost use Rattle.m3_ports.specs.Counts.{Rose};
 ghost use Rattle.m3_ports.specs.declared.shelves.ShelfFault.TheVariants.{Absent, TooLong, Failed, NoMemory};
 ghost use Rattle.m3_build.specs.Terms.{Term};
 ghost use Rattle.m3_build.specs.PlainForm.{IsPlain};
-ghost use Rattle.m3c.specs.Command.{file_of, is_name, Took, Answers, IsOther, NotPlain, Promises};
+ghost use Rattle.m3_image_commands.specs.Statuses.{Took};
+ghost use Rattle.m3_source_commands.specs.Orders.{Commands};
+ghost use Rattle.m3c.specs.Command.{file_of, is_name, Answers, IsOther, NotPlain, Promises};
 ghost use Rattle.m3c.specs.Compiled.{Compiles, refusal, refusal_status};
 
 use crate::machine::run;
 use crate::report::{LINE_ROOM, add, add_report};
 use crate::stack::Stack;
+use m3_base::NoMemory;
 use m3_build::{PlainCode, PlainRefused, build_plain, read_plain};
 use m3_ports::{Shelf, ShelfFault, Sink};
 use m3_source_commands::{command, exec_text};
@@ -49,14 +52,16 @@ pub fn m3c<F: Shelf, O: Sink, E: Sink>(
     requires { image.old.items ≡ [] }
     ensures promises { Promises (record {
       file = file_of (map string_bytes words.items);
-      held = F.held shelf.old;
-      faults = (F.faults shelf.old, F.faults shelf.new);
-      absences = (F.absences shelf.old, F.absences shelf.new);
-      excesses = (F.excesses shelf.old, F.excesses shelf.new);
-      out = (O.taken out.old, O.taken out.new);
-      out_faults = (O.faults out.old, O.faults out.new);
-      err = (E.taken err.old, E.taken err.new);
-      err_faults = (E.faults err.old, E.faults err.new);
+      shelf = record {
+        held = (F.held shelf.old, F.held shelf.new);
+        faults = (F.faults shelf.old, F.faults shelf.new);
+        store_faults = (F.store_faults shelf.old, F.store_faults shelf.new);
+        absences = (F.absences shelf.old, F.absences shelf.new);
+        excesses = (F.excesses shelf.old, F.excesses shelf.new);
+      };
+      out = record { taken = (O.taken out.old, O.taken out.new); faults = (O.faults out.old, O.faults out.new) };
+      err = record { taken = (E.taken err.old, E.taken err.new); faults = (E.faults err.old, E.faults err.new) };
+      image = image.new.items;
     }) result }
     ensures held { (file_of (map string_bytes words.items) ≡ None) ⊎ (F.held shelf.new ≡ F.held shelf.old) }
     ensures image { (image.new.items ≡ []) ⊎ IsOther (file_of (map string_bytes words.items)) (F.held shelf.old) }
@@ -75,14 +80,35 @@ fn other_command<F: Shelf, O: Sink, E: Sink>(
     out: &mut O,
     err: &mut E,
     image: &mut Vec<u8>,
-) -> u8 {
+) -> u8
+    requires { image.old.items ≡ [] }
+    ensures { Commands (record {
+      held = (F.held shelf.old, F.held shelf.new);
+      faults = (F.faults shelf.old, F.faults shelf.new);
+      store_faults = (F.store_faults shelf.old, F.store_faults shelf.new);
+      absences = (F.absences shelf.old, F.absences shelf.new);
+      excesses = (F.excesses shelf.old, F.excesses shelf.new);
+    }) (record {
+      taken = (O.taken out.old, O.taken out.new);
+      faults = (O.faults out.old, O.faults out.new);
+    }) (record {
+      taken = (E.taken err.old, E.taken err.new);
+      faults = (E.faults err.old, E.faults err.new);
+    }) image.new.items result }
+{
+    match texts_of(alloc, words) {
+        Ok(texts) => command(alloc, &texts, shelf, out, err, image),
+        Err(NoMemory) => tell(err, NO_MEMORY, b"out of memory\n"),
+    }
+}
+
+// The words as the commands take them.
+fn texts_of<'w>(alloc: Global, words: &'w [String]) -> Result<Vec<&'w str>, NoMemory> {
     let mut texts = Vec::new(alloc);
     for word in words {
-        if texts.push(word.as_str()).is_err() {
-            return tell(err, NO_MEMORY, b"out of memory\n");
-        }
+        texts.push(word.as_str())?;
     }
-    command(alloc, &texts, shelf, out, err, image)
+    Ok(texts)
 }
 
 // `exec FILE`: a text in the plain form by the generator that is proved, every other by the compiler.
@@ -97,14 +123,16 @@ fn exec_file<F: Shelf, O: Sink, E: Sink>(
     requires { image.old.items ≡ [] }
     ensures promises { Promises (record {
       file = Some name.now;
-      held = F.held shelf.old;
-      faults = (F.faults shelf.old, F.faults shelf.new);
-      absences = (F.absences shelf.old, F.absences shelf.new);
-      excesses = (F.excesses shelf.old, F.excesses shelf.new);
-      out = (O.taken out.old, O.taken out.new);
-      out_faults = (O.faults out.old, O.faults out.new);
-      err = (E.taken err.old, E.taken err.new);
-      err_faults = (E.faults err.old, E.faults err.new);
+      shelf = record {
+        held = (F.held shelf.old, F.held shelf.new);
+        faults = (F.faults shelf.old, F.faults shelf.new);
+        store_faults = (F.store_faults shelf.old, F.store_faults shelf.new);
+        absences = (F.absences shelf.old, F.absences shelf.new);
+        excesses = (F.excesses shelf.old, F.excesses shelf.new);
+      };
+      out = record { taken = (O.taken out.old, O.taken out.new); faults = (O.faults out.old, O.faults out.new) };
+      err = record { taken = (E.taken err.old, E.taken err.new); faults = (E.faults err.old, E.faults err.new) };
+      image = image.new.items;
     }) result }
     ensures held { F.held shelf.new ≡ F.held shelf.old }
     ensures image { (image.new.items ≡ []) ⊎ IsOther (Some name.now) (F.held shelf.old) }
@@ -164,16 +192,19 @@ fn execute<F: Shelf, O: Sink>(
     requires room { length name.now + 128 ≤ vec_capacity line.old }
     ensures answers { MatchResult result (λ status. Answers (record {
       file = Some name.now;
-      held = F.held shelf.old;
-      faults = (F.faults shelf.old, F.faults shelf.new);
-      absences = (F.absences shelf.old, F.absences shelf.new);
-      excesses = (F.excesses shelf.old, F.excesses shelf.new);
-      out = (O.taken out.old, O.taken out.new);
-      out_faults = (O.faults out.old, O.faults out.new);
-      err = (Some [], Some line.new.items);
-      err_faults = (0, 0);
+      shelf = record {
+        held = (F.held shelf.old, F.held shelf.new);
+        faults = (F.faults shelf.old, F.faults shelf.new);
+        store_faults = (F.store_faults shelf.old, F.store_faults shelf.new);
+        absences = (F.absences shelf.old, F.absences shelf.new);
+        excesses = (F.excesses shelf.old, F.excesses shelf.new);
+      };
+      out = record { taken = (O.taken out.old, O.taken out.new); faults = (O.faults out.old, O.faults out.new) };
+      err = record { taken = (Some [], Some line.new.items); faults = (0, 0) };
+      image = [];
     }) status) (λ text. NotPlain (Some name.now) (F.held shelf.old)) }
     ensures held { F.held shelf.new ≡ F.held shelf.old }
+    ensures silent { IfErr result (λ text. (O.taken out.new ≡ O.taken out.old) × (O.faults out.new ≡ O.faults out.old)) }
 {
     let mut text = Vec::new(alloc);
     if let Err(fault) = shelf.fetch(alloc, name, FILE_CAP, &mut text) {

@@ -1,0 +1,4 @@
+pub mod TellLemmas
+pub mod LineLemmas
+pub mod FetchLemmas
+pub mod RunLemmas

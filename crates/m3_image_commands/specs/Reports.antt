@@ -1,0 +1,70 @@
+-- The line that says how a run ended: the ending, the points passed and the instructions executed, and where
+-- switches were given the collections made.
+use Rattle.std.specs.Prelude.{ℕ, ◌≡◌, Bool, true, false, Option, None, Some, List, [], ◌∷◌, ◌++◌, length, max, codes, decimal, slice_get}
+use Rattle.m3_base.specs.declared.outcomes.Outcome.{Outcome}
+use Rattle.m3_base.specs.declared.outcomes.Outcome.TheVariants.{Done, Fault, Uncaught, Deadlock, ThreadsFull, Spent, HeapFull, StackFull, Trap}
+use Rattle.m3_base.specs.Faults.{name_of_fault}
+use Rattle.m3_sections.specs.Parts.{Image}
+
+-- the status of each outcome
+abbrev pub end_status : Outcome → ℕ
+end_status Done = 0
+end_status (Fault kind file line) = 10
+end_status (Uncaught exception) = 11
+end_status Deadlock = 12
+end_status ThreadsFull = 13
+end_status Spent = 14
+end_status HeapFull = 15
+end_status StackFull = 16
+end_status (Trap n) = 17
+
+-- a name, or nothing where there is none
+abbrev pub name_bytes : Option (List ℕ) → List ℕ
+name_bytes None = []
+name_bytes (Some name) = name
+
+-- the outcome in words, with the names that the image has for files and exceptions
+abbrev pub ending : Image → Outcome → List ℕ
+ending i Done = codes "done"
+ending i (Fault kind file line) =
+    codes "fault " ++ name_of_fault kind ++ codes " " ++ name_bytes (slice_get i.program.files file) ++ codes ":" ++ decimal line
+ending i (Uncaught exception) = codes "uncaught " ++ name_bytes (slice_get i.program.exceptions exception)
+ending i Deadlock = codes "deadlock"
+ending i ThreadsFull = codes "threads full"
+ending i Spent = codes "spent"
+ending i HeapFull = codes "heap full"
+ending i StackFull = codes "stack full"
+ending i (Trap n) = codes "trap " ++ decimal n
+
+-- the counts behind it
+abbrev pub with_counts : List ℕ → ℕ → ℕ → List ℕ
+with_counts line points instructions =
+    line ++ codes " points " ++ decimal points ++ codes " instructions " ++ decimal instructions
+
+abbrev pub with_collections : Bool → List ℕ → ℕ → List ℕ
+with_collections false line collections = line
+with_collections true line collections = line ++ codes " collections " ++ decimal collections
+
+-- the line, which tells the collections or doesn't
+abbrev pub report : Image → Bool → Outcome → ℕ → ℕ → ℕ → List ℕ
+report i tells outcome points instructions collections =
+    with_collections tells (with_counts (ending i outcome) points instructions) collections ++ codes "\n"
+
+-- a run of an image ended: the status and the line are those of one outcome
+pub record Ended (i : Image) (tells : Bool) (status : ℕ) (line : List ℕ) : Type 0 where
+  pub outcome : Outcome
+  pub points : ℕ
+  pub instructions : ℕ
+  pub collections : ℕ
+  pub by_status : status ≡ end_status outcome
+  pub by_line : line ≡ report i tells outcome points instructions collections
+
+-- ---- the room that the line needs
+
+-- the bytes of the longest of some names, or so many
+abbrev pub longest : ℕ → List (List ℕ) → ℕ
+longest least [] = least
+longest least (name ∷ names) = longest (max least (length name)) names
+
+abbrev pub longest_name : Image → ℕ
+longest_name i = longest (longest 0 i.program.files) i.program.exceptions

@@ -1,0 +1,145 @@
+-- From the parts of a command over sources to what it answers.
+use Rattle.std.proofs.Common.{◌≡◌, ℕ, ◌≤◌, ◌<◌, Bool, true, false, List, [], ◌∷◌, ◌++◌, Option, refl, sym, ap, ◌∙◌, subst, inl, inr, ◌⊎◌, arith}
+use Rattle.std.specs.Prelude.{Result, Ok, Err, IfOk, IfErr, IsOk, IsErr, MatchResult, is_some, None, Some, IfSome}
+use Rattle.std.specs.Option.{option_map}
+use Rattle.std.specs.FinMap.{insert}
+use Rattle.std.proofs.lemmas.Bool.{false≢true}
+use Rattle.m3_ports.specs.Counts.{Rose}
+use Rattle.m3_ports.specs.Files.{Files, LeavesFront}
+use Rattle.m3_ports.specs.declared.shelves.ShelfFault.{ShelfFault}
+use Rattle.m3_ports.specs.declared.shelves.ShelfFault.TheVariants.{Absent, TooLong, Failed, NoMemory}
+use Rattle.m3_base.specs.Schedules.{IsFirstBadLine, HasTooMany, lines_of}
+use Rattle.m3_image.specs.Images.{read_of}
+use Rattle.m3_image_commands.specs.declared.answers.Answer.{Answer}
+use Rattle.m3_image_commands.specs.declared.answers.Refusal.{Refusal}
+use Rattle.m3_image_commands.specs.Statuses.{Shelving, Putting, StoresNothing, StoresFront, PutsNothing, RefusesBy, Fetches, IsGiven, LacksMemory, LacksOutput}
+use Rattle.m3_image_commands.proofs.FetchLemmas.{Follows, Rises, joined}
+use Rattle.m3_image_commands.specs.ImageCommands.{ImageAnswer, image_refused, ended, RunsImage, IsNoSchedule}
+use Rattle.m3_source_commands.specs.Orders.{Order, CarriesOut}
+use Rattle.m3_source_commands.specs.SourceCommands.{OfFiles, RefusesSources, Stores, BuildAnswer, not_built, stored, Builds, ExecAnswer, not_run, no_schedule, run_ended, ExecsTexts, OfExec, Execs}
+
+pub never_both : {A E : Type 0} (r : Result A E) → IsOk r → IsErr r → ⊥
+never_both (Ok x) h e = false≢true e
+never_both (Err x) h e = false≢true h
+
+-- ---- refusals
+
+refuses_schedule : (switches : List ℕ) (result : Result Answer Refusal) → RefusesBy 9 result → IfOk result (λ a. IsNoSchedule switches) → RefusesSources switches result
+refuses_schedule switches (Ok a) h n = inr (h, n)
+refuses_schedule switches (Err r) h n = h
+
+pub schedule_refused : {A : Type 0} (switches : List ℕ) (result : Result A (Result Answer Refusal)) → IfErr result (λ e. RefusesBy 9 e × IfOk e (λ a. IsNoSchedule switches)) → IfErr result (RefusesSources switches)
+schedule_refused switches (Ok x) h = h
+schedule_refused switches (Err e) h = refuses_schedule switches e h.0 h.1
+
+nothing_in : (good rest : List (List ℕ)) (line : List ℕ) → [] ≡ good ++ line ∷ rest → ⊥
+nothing_in [] rest line e = cc
+nothing_in (g ∷ good) rest line e = cc
+
+-- the empty text is a schedule
+is_schedule : IsNoSchedule [] → ⊥
+unfolding lines_of
+is_schedule (inl b) = nothing_in b.1.good b.1.rest b.1.bad b.1.lines
+is_schedule (inr m) = nothing_in m.good m.rest m.next m.lines
+
+-- ---- build
+
+failed_other : Failed ≡ NoMemory → ⊥
+failed_other e = cc
+
+pub stores_refused : {A : Type 0} (shelf : Shelving) (name bytes : List ℕ) (r : Refusal) (fault : ShelfFault) (result : Result A ShelfFault) → result ≡ Err fault → (result ≡ Err Absent → ⊥) → (result ≡ Err TooLong → ⊥) → (result ≡ Err Failed → StoresFront shelf name bytes) → (result ≡ Err NoMemory → StoresNothing shelf)
+    → (fault ≡ NoMemory → LacksMemory r) → ((fault ≡ NoMemory → ⊥) → LacksOutput r) → (LacksMemory r × StoresNothing shelf) ⊎ (LacksOutput r × StoresFront shelf name bytes)
+stores_refused shelf name bytes r Absent result e a t f k m o = absurd (a e)
+stores_refused shelf name bytes r TooLong result e a t f k m o = absurd (t e)
+stores_refused shelf name bytes r Failed result e a t f k m o = inr (o failed_other, f e)
+stores_refused shelf name bytes r NoMemory result e a t f k m o = inl (m refl, k e)
+
+rose_on : (a b b' c : ℕ) → a ≤ b → b ≡ b' → Rose b' c → Rose a c
+rose_on a b b' c h e (inl l) = inl (omega arith)
+rose_on a b b' c h e (inr m) = inr m
+
+-- a store behind fetches
+module _ (a b : Shelving) (f : Follows a b) (k : Rises a) (name bytes : List ℕ) where
+  before : b.held.0 ≡ a.held.0
+  before = sym f.held ∙ k.held
+
+  front_on : StoresFront b name bytes → StoresFront (joined a b) name bytes
+  front_on (rose, left) = (
+    rose_on a.store_faults.0 a.store_faults.1 b.store_faults.0 b.store_faults.1 k.store_faults f.store_faults rose,
+    subst (λ (o : Option Files). IfSome o (λ old. IfSome b.held.1 (λ new. LeavesFront old new name bytes))) before left,
+  )
+
+  refused_on : (r : Refusal) → (LacksMemory r × StoresNothing b) ⊎ (LacksOutput r × StoresFront b name bytes) → (LacksMemory r × StoresNothing (joined a b)) ⊎ (LacksOutput r × StoresFront (joined a b) name bytes)
+  refused_on r (inl l) = inl (l.0, l.1 ∙ before)
+  refused_on r (inr l) = inr (l.0, front_on l.1)
+
+  pub stores_on : (result : Result Answer Refusal) → Stores b name bytes result → Stores (joined a b) name bytes result
+  stores_on (Ok x) h = (h.0, h.1, h.2 ∙ ap (λ (o : Option Files). option_map (λ files. insert files name bytes) o) before)
+  stores_on (Err r) h = refused_on r h
+
+module _ (shelf : Shelving) (name : List ℕ) (files : List (List ℕ)) (image : List ℕ) where
+  pub builds_refused : (result : Result Answer Refusal) → RefusesSources [] result → StoresNothing shelf → Builds shelf name files image result
+  builds_refused (Ok a) (inl one) s = subst (λ x. BuildAnswer shelf name image x a.line.items) (sym one) (not_built a.line.items s)
+  builds_refused (Ok a) (inr nine) s = absurd (is_schedule nine.1)
+  builds_refused (Err r) h s = inr (inl (h, s))
+
+  builds_image : (result : Result Answer Refusal) → Stores shelf name image result → IsOk (read_of image) → Builds shelf name files image result
+  builds_image (Ok a) h ok =
+      subst (λ x. BuildAnswer shelf name image x a.line.items) (sym h.0) (subst (λ l. BuildAnswer shelf name image 0 l) (sym h.1) (stored ok h.2))
+  builds_image (Err r) h ok = inr h
+
+  pub builds_stored : (bytes : List ℕ) (result : Result Answer Refusal) → bytes ≡ image → Stores shelf name bytes result → IsOk (read_of image) → Builds shelf name files image result
+  builds_stored bytes result e h ok = builds_image result (subst (λ (b : List ℕ). Stores shelf name b result) e h) ok
+
+  pub builds_unfetched : {A : Type 0} (r : Refusal) → Fetches {A = A} shelf (OfFiles shelf.held.0 files) (Err r) → Builds shelf name files image (Err r)
+  builds_unfetched r f = inl (f.unfetched, f.held)
+
+-- ---- exec
+
+module _ (image switches : List ℕ) (tells : Bool) (out : Putting) where
+  pub execs_refused : (result : Result Answer Refusal) → RefusesSources switches result → PutsNothing out → ExecsTexts image switches tells out result
+  execs_refused (Ok a) (inl one) p = subst (λ x. ExecAnswer image switches tells out x a.line.items) (sym one) (not_run a.line.items p)
+  execs_refused (Ok a) (inr nine) p = no_schedule a.status a.line.items (nine.0, nine.1, p)
+  execs_refused (Err r) h p = inl (h, p)
+
+  answer_ran : (status : ℕ) (line : List ℕ) → IsOk (read_of image) → ImageAnswer image tells out status line → ExecAnswer image switches tells out status line
+  answer_ran status line ok (image_refused l e p) = absurd (never_both (read_of image) ok e)
+  answer_ran status line ok (ended i s l e r) = run_ended i s l e r
+
+  runs_answer : (result : Result Answer Refusal) → IsOk (read_of image) → RunsImage image tells out result → ExecsTexts image switches tells out result
+  runs_answer (Ok a) ok h = answer_ran a.status a.line.items ok h
+  runs_answer (Err r) ok h = h
+
+  pub execs_ran : (bytes : List ℕ) (told : Bool) (result : Result Answer Refusal) → bytes ≡ image → told ≡ tells → IsOk (read_of image) → RunsImage bytes told out result → ExecsTexts image switches tells out result
+  execs_ran bytes told result b t ok h =
+      runs_answer result ok (subst (λ x. RunsImage image x out result) t (subst (λ (x : List ℕ). RunsImage x told out result) b h))
+
+-- the same bytes before and after
+given_now : (a b : Option Files) (name : Option (List ℕ)) (text : List ℕ) → a ≡ b → IsGiven a name text → IsGiven b name text
+given_now a b name text e h = subst (λ (o : Option Files). IsGiven o name text) e h
+
+module _ (shelf : Shelving) (out : Putting) (files : List (List ℕ)) (switches input : Option (List ℕ)) (image : List ℕ) where
+  pub execs_fetched : (result : Result Answer Refusal) (held : Option Files) (text : List ℕ) → held ≡ shelf.held.0 → StoresNothing shelf → IsGiven held switches text → ExecsTexts image text (is_some switches) out result → Execs shelf out files switches input image result
+  execs_fetched (Ok a) held text e s g h = record { held = s; answer = (text, given_now held shelf.held.0 switches text e g, h); refusal = tt }
+  execs_fetched (Err r) held text e s g h = record { held = s; answer = tt; refusal = inr h }
+
+  pub execs_told : (result : Result Answer Refusal) (held : Option Files) (text : List ℕ) (told : Bool) → told ≡ is_some switches → held ≡ shelf.held.0 → StoresNothing shelf → IsGiven held switches text → ExecsTexts image text told out result → Execs shelf out files switches input image result
+  execs_told result held text told t e s g h = execs_fetched result held text e s g (subst (λ (x : Bool). ExecsTexts image text x out result) t h)
+
+  pub execs_unfetched : {A : Type 0} (r : Refusal) → PutsNothing out → Fetches {A = A} shelf (OfExec shelf.held.0 files switches input) (Err r) → Execs shelf out files switches input image (Err r)
+  execs_unfetched r p f = record { held = f.held; answer = tt; refusal = inl (f.unfetched, p) }
+
+-- without switches
+pub execs_plain : (image : List ℕ) (out : Putting) (result : Result Answer Refusal) (text : List ℕ) (told : Bool) → text ≡ [] → told ≡ false → ExecsTexts image text told out result → ExecsTexts image [] false out result
+execs_plain image out result text told e t h =
+    subst (λ (x : Bool). ExecsTexts image [] x out result) t (subst (λ (x : List ℕ). ExecsTexts image x told out result) e h)
+
+-- the files as they were handed on
+pub builds_of : (shelf : Shelving) (name : List ℕ) (files given : List (List ℕ)) (image : List ℕ) (result : Result Answer Refusal) → given ≡ files → Builds shelf name given image result → Builds shelf name files image result
+builds_of shelf name files given image result e h = subst (λ (f : List (List ℕ)). Builds shelf name f image result) e h
+
+pub execs_of : (shelf : Shelving) (out : Putting) (files given : List (List ℕ)) (switches input : Option (List ℕ)) (image : List ℕ) (result : Result Answer Refusal) → given ≡ files → Execs shelf out given switches input image result → Execs shelf out files switches input image result
+execs_of shelf out files given switches input image result e h = subst (λ (f : List (List ℕ)). Execs shelf out f switches input image result) e h
+
+pub carried : (order done : Order) (shelf : Shelving) (out : Putting) (image : List ℕ) (result : Result Answer Refusal) → order ≡ done → CarriesOut done shelf out image result → CarriesOut order shelf out image result
+carried order done shelf out image result e h = subst (λ (o : Order). CarriesOut o shelf out image result) (sym e) h

@@ -1,0 +1,31 @@
+use Rattle.std.proofs.Common.{refl, ap, map}
+use Rattle.m3_image_commands.specs.Statuses.{Shelving}
+use Rattle.m3_source_commands.specs.Orders.{order_of}
+use Rattle.m3_source_commands.proofs.OrderLemmas.{builds_of, execs_of, carried}
+use Rattle.m3_source_commands.proofs.commands.carry_out.Goals as goal
+
+pub returns-in-Build : goal.returns-in-Build
+returns-in-Build g c =
+    let shelf : Shelving = record {
+      held = (g.F.Shelf.held c.args.shelf.now, g.F.Shelf.held c.build_files.new.shelf);
+      faults = (g.F.Shelf.faults c.args.shelf.now, g.F.Shelf.faults c.build_files.new.shelf);
+      store_faults = (g.F.Shelf.store_faults c.args.shelf.now, g.F.Shelf.store_faults c.build_files.new.shelf);
+      absences = (g.F.Shelf.absences c.args.shelf.now, g.F.Shelf.absences c.build_files.new.shelf);
+      excesses = (g.F.Shelf.excesses c.args.shelf.now, g.F.Shelf.excesses c.build_files.new.shelf);
+    } in
+    carried _ _ _ _ _ _ (ap order_of c.in-Build.is)
+    (builds_of shelf _ _ _ _ c.build_files.result (ap (λ files. map (λ n. n.now) files) c.deref.ensures.value) c.build_files.ensures, refl)
+
+pub returns-in-Run : goal.returns-in-Run
+returns-in-Run g c = carried _ _ _ _ _ _ (ap order_of c.in-Run.is) c.run_image.ensures
+
+pub returns-in-Exec : goal.returns-in-Exec
+returns-in-Exec g c =
+    carried _ _ _ _ _ _ (ap order_of c.in-Exec.is)
+    (execs_of _ _ _ _ _ _ _ c.exec_files.result (ap (λ files. map (λ n. n.now) files) c.deref-in-Exec.ensures.value) c.exec_files.ensures)
+
+pub returns-in-Dump : goal.returns-in-Dump
+returns-in-Dump g c = carried _ _ _ _ _ _ (ap order_of c.in-Dump.is) c.dump_image.ensures
+
+pub returns-in-Bench : goal.returns-in-Bench
+returns-in-Bench g c = carried _ _ _ _ _ _ (ap order_of c.in-Bench.is) (c.bench.ensures, refl)

@@ -1,0 +1,12 @@
+use Rattle.std.proofs.Common.{refl}
+use Rattle.m3_source_commands.specs.Orders.{order_of, usage, no_words, carried_out}
+use Rattle.m3_source_commands.proofs.commands.command.Goals as goal
+
+pub returns-in-Ok-Some : goal.returns-in-Ok-Some
+returns-in-Ok-Some g c = carried_out (order_of c.in-Ok-Some.request) c.carry_out-answer.result _ c.carry_out-answer.ensures c.tell.ensures
+
+pub returns-in-Ok-None : goal.returns-in-Ok-None
+returns-in-Ok-None g c = usage _ refl refl c.tell-in-Ok-None.ensures
+
+pub returns-in-Err : goal.returns-in-Err
+returns-in-Err g c = no_words _ refl refl c.tell-in-Err.ensures
