@@ -1,8 +1,9 @@
-use crate::arithmetic::{checked, combined, holds};
+use crate::arithmetic::{combined, holds};
 use crate::machine::{Machine, Stop};
 use crate::memory::{CONSTANTS, GLOBALS, Word};
 use m3_base::Pos;
 use m3_mid::{CheckedOperator, End, MemoryWord, MidOp, Operand, Relation};
+use m3_mid_meaning::checked_value;
 
 impl<'a> Machine<'a> {
     /// Carries out the next operation, or the end of a block.
@@ -110,7 +111,7 @@ impl<'a> Machine<'a> {
         right: Operand,
         pos: Pos,
     ) -> Result<(), Stop> {
-        match checked(operator, self.number(left)?, self.number(right)?) {
+        match checked_value(operator, self.number(left)?, self.number(right)?) {
             Ok(number) => self.set_number(to, number),
             Err(kind) => Err(Stop::Fault(kind, pos)),
         }

@@ -3,8 +3,8 @@ use crate::operands::Text;
 use m3_mid::{AccessMark, Block, ForMark, Kind, Proc, Slot};
 use std::fmt;
 
-/// A procedure: a line with its start and how many formals it has, one for its temporaries and one for
-/// its slots with their kinds, then its blocks, and a line for each FOR that is marked.
+/// A procedure: a line with its start and how many formals it has, one for its temporaries and one
+/// for its slots with their kinds, then its blocks, and a line for each FOR that is marked.
 impl fmt::Display for Text<&Proc<'_>> {
     fn fmt<W: fmt::Write>(&self, f: &mut fmt::Formatter<W>) -> fmt::Result {
         let Proc { start, formals, .. } = *self.0;
@@ -72,7 +72,8 @@ impl fmt::Display for Text<&[ForMark<'_>]> {
     }
 }
 
-/// Each access as its block and the place of its operation there, its array and the words of an element.
+/// Each access as its block and the place of its operation there, its array and the words of an
+/// element.
 impl fmt::Display for Text<&[AccessMark]> {
     fn fmt<W: fmt::Write>(&self, f: &mut fmt::Formatter<W>) -> fmt::Result {
         for access in self.0 {

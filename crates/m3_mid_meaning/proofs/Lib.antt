@@ -1,0 +1,4 @@
+pub mod Shifts
+pub mod Longer
+pub mod Layouts
+pub mod Stepwise

@@ -1,0 +1,12 @@
+pub mod Meaning
+pub mod Runs
+pub mod Laws
+pub mod Points
+pub mod Actions
+pub mod Operations
+pub mod States
+pub mod Memory
+pub mod Layouts
+pub mod Words
+pub mod Numbers
+pub mod Machinery
