@@ -5,8 +5,8 @@ use m3_base::NoMemory;
 use m3_core::{Actual, BuiltinCall, Routine};
 use m3_types::{TypeId, TypeNode};
 
-/// Judges the actuals of a call of a procedure or method of a type, and whether it gives a result where
-/// the call has one.
+/// Judges the actuals of a call of a procedure or method of a type, and whether it gives a result
+/// where the call has one.
 #[cycle(expressions)]
 pub fn judge_actuals<'a>(
     judge: &mut Judge<'_, 'a>,

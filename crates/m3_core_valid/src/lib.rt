@@ -1,5 +1,5 @@
-//! Whether a checked tree is well formed: each place, type and number in it stands for something of the
-//! kind that its node is defined for, and each call has the actuals that it needs.
+//! Whether a checked tree is well formed: each place, type and number in it stands for something of
+//! the kind that its node is defined for, and each call has the actuals that it needs.
 #![tactic(auto)]
 
 mod calls;

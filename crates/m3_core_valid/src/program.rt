@@ -6,10 +6,10 @@ use m3_core::{Core, ExcDef, ProcDef, Value, ValueId, VarDef, VarKind};
 use m3_types::TypeNode;
 use std::alloc::Global;
 
-/// Whether a checked tree is well formed: each variable, field, method, procedure, exception, text and
-/// constant that a node names is there and of the kind that the node is defined for, each type is a type
-/// of the program, and each call and constructor has what it needs, each once. That the types of the
-/// parts fit each other isn't judged.
+/// Whether a checked tree is well formed: each variable, field, method, procedure, exception, text
+/// and constant that a node names is there and of the kind that the node is defined for, each type
+/// is a type of the program, and each call and constructor has what it needs, each once. That the
+/// types of the parts fit each other isn't judged.
 pub fn is_well_formed(alloc: Global, core: &Core<'_>) -> Result<bool, NoMemory> {
     let mut judge = Judge::new(alloc, core);
     judge_globals(&mut judge, core.globals)?;
