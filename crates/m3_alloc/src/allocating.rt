@@ -10,8 +10,8 @@ use m3_mid::{Actual, MidOp};
 use m3_tables::Location;
 use std::alloc::Global;
 
-/// A procedure whose temporaries have places, in registers 0 to 11 or in words of the frame. The frame of what
-/// it calls begins at the word `body`, and `frame` are all words that it uses.
+/// A procedure whose temporaries have places, in registers 0 to 11 or in words of the frame. The
+/// frame of what it calls begins at the word `body`, and `frame` are all words that it uses.
 #[derive(Drop)]
 pub struct Placed<'a> {
     pub derived: Derived<'a>,
@@ -91,9 +91,9 @@ fn live_at_start(alloc: Global, d: &Derived, live: &LiveSets) -> Result<Vec<u32>
     Ok(temps)
 }
 
-/// Gives each temporary a place. Those that are live together have different places; those that no call's row
-/// names and that aren't live across a call have a register, unless each of registers 0 to 11 is that of one
-/// that is live together with it.
+/// Gives each temporary a place. Those that are live together have different places; those that no
+/// call's row names and that aren't live across a call have a register, unless each of registers 0
+/// to 11 is that of one that is live together with it.
 pub fn allocate<'a>(alloc: Global, d: &Derived<'a>) -> Result<Placed<'a>, NoMemory> {
     let order = block_order(alloc, &d.proc)?;
     let live = live_with(alloc, &d.proc, &order, d.uses)?;

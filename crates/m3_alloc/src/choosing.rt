@@ -187,8 +187,8 @@ impl Wishes {
     }
 }
 
-/// The temporaries in the order in which they choose: those of the deepest loops first, and of those that
-/// which is live first.
+/// The temporaries in the order in which they choose: those of the deepest loops first, and of
+/// those that which is live first.
 fn queue_of(
     alloc: Global,
     wishes: &Wishes,

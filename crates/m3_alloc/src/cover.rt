@@ -2,8 +2,8 @@ use m3_base::NoMemory;
 use m3_flow::{Groups, LiveSets};
 use std::alloc::Global;
 
-/// Which of 64 words or registers are taken at which places: a binary tree over the places, in which a stretch of places is
-/// marked and asked for in logarithmic time.
+/// Which of 64 words or registers are taken at which places: a binary tree over the places, in
+/// which a stretch of places is marked and asked for in logarithmic time.
 #[derive(Drop)]
 pub(crate) struct Cover {
     leaves: usize,

@@ -103,8 +103,8 @@ fn is_home(d: &Derived, counts: &Counts, temp: u32, slot: u32) -> bool {
     }
 }
 
-/// For each temporary that a procedure loads at its start from a formal which nothing else names: the slot of
-/// that formal.
+/// For each temporary that a procedure loads at its start from a formal which nothing else names:
+/// the slot of that formal.
 pub(crate) fn homes_of(alloc: Global, d: &Derived) -> Result<Vec<Option<u32>>, NoMemory> {
     let mut homes = vec![in alloc; None; d.proc.temps.len()]?;
     let mut counts = Counts {

@@ -48,7 +48,8 @@ struct Words {
 }
 
 impl Words {
-    /// A word for a temporary, the first that is free wherever it is live; none where they are all taken.
+    /// A word for a temporary, the first that is free wherever it is live; none where they are all
+    /// taken.
     fn take(
         &mut self,
         alloc: Global,
@@ -75,8 +76,9 @@ impl Words {
     }
 }
 
-/// Gives words, from one on, to the temporaries that want a slot and have none yet, as long as few enough words
-/// do, and gives the word behind them. Two temporaries share a word where they aren't live together.
+/// Gives words, from one on, to the temporaries that want a slot and have none yet, as long as few
+/// enough words do, and gives the word behind them. Two temporaries share a word where they aren't
+/// live together.
 pub(crate) fn share_words(
     alloc: Global,
     live: &LiveSets,

@@ -25,7 +25,8 @@ impl Words {
     }
 }
 
-/// The first place at which each temporary that wants a slot is live or set, and the place behind the last.
+/// The first place at which each temporary that wants a slot is live or set, and the place behind
+/// the last.
 #[derive(Drop)]
 struct Hulls {
     froms: Vec<u32>,
@@ -69,8 +70,9 @@ fn hulls_of(alloc: Global, live: &LiveSets, needs: &Needs) -> Result<Hulls, NoMe
     Ok(hulls)
 }
 
-/// Gives slots to the temporaries that want one and still have none, from a word on, and gives the word behind
-/// them. Two temporaries share a word where one begins to live behind the last place of the other.
+/// Gives slots to the temporaries that want one and still have none, from a word on, and gives the
+/// word behind them. Two temporaries share a word where one begins to live behind the last place of
+/// the other.
 pub(crate) fn give_slots(
     alloc: Global,
     live: &LiveSets,

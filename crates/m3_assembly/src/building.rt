@@ -14,8 +14,8 @@ use m3_image_writer::ImageParts;
 use m3_storage::Storage;
 use std::alloc::Global;
 
-/// The image of a checked program, of version 2 (docs/MACHINE.md). The program stands in the arena, and
-/// what is known of where it keeps its things goes there too.
+/// The image of a checked program, of version 2 (docs/MACHINE.md). The program stands in the arena,
+/// and what is known of where it keeps its things goes there too.
 pub fn build<'a>(alloc: Global, arena: &'a Bump, core: &'a Core<'a>) -> Result<Vec<u8>, NoMemory>
     ensures { IfOk result (λ image. IsOk (read_of image.items)) }
 {

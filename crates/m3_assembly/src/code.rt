@@ -12,7 +12,8 @@ use m3_table_writer::RowPlain;
 use m3_tables::Location;
 use std::alloc::Global;
 
-/// The code of an image with its procedures, the rows of its points, and where variables are at them.
+/// The code of an image with its procedures, the rows of its points, and where variables are at
+/// them.
 #[derive(Drop)]
 pub struct Code {
     pub code: Vec<Instr>,
@@ -72,8 +73,8 @@ impl Code {
         Ok(())
     }
 
-    /// Procedure 0: calls the module bodies in order, and ends the program. A body that is left by an
-    /// exception ends it as uncaught.
+    /// Procedure 0: calls the module bodies in order, and ends the program. A body that is left by
+    /// an exception ends it as uncaught.
     fn add_start(&mut self, alloc: Global, order: &[u32]) -> Result<(), NoMemory> {
         let uncaught = place_number(order.len().saturating_mul(2).saturating_add(1))?;
         for number in order {
@@ -89,8 +90,8 @@ impl Code {
         self.close(0, 3, 3)
     }
 
-    /// Procedure 1: a new thread calls `apply` of its closure, and ends with what that gives. Word 2 of its
-    /// frame is the thread's cell.
+    /// Procedure 1: a new thread calls `apply` of its closure, and ends with what that gives. Word
+    /// 2 of its frame is the thread's cell.
     fn add_thread(&mut self, alloc: Global) -> Result<(), NoMemory> {
         let first = self.next()?;
         let mut row = empty_row(alloc, first);

@@ -1,4 +1,5 @@
-//! The image of a checked program: its procedures lowered, with rows and places, and all its sections.
+//! The image of a checked program: its procedures lowered, with rows and places, and all its
+//! sections.
 #![tactic(auto)]
 
 mod building;

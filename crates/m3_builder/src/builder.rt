@@ -8,16 +8,16 @@ use m3_storage::{Storage, number_of};
 use m3_types::TypeId;
 use std::alloc::Global;
 
-/// What holds at every place in a scope: which one it is, None where no scope around shows variables, and
-/// the block that goes on where an exception is raised.
+/// What holds at every place in a scope: which one it is, None where no scope around shows
+/// variables, and the block that goes on where an exception is raised.
 #[derive(Clone, Copy)]
 pub struct Around {
     pub scope: Option<u32>,
     pub raised: u32,
 }
 
-/// A scope that shows variables: the one around it, and what it shows beside that one's. All that is shown
-/// at its points is one row, which is made at the first of them.
+/// A scope that shows variables: the one around it, and what it shows beside that one's. All that
+/// is shown at its points is one row, which is made at the first of them.
 #[derive(Clone, Copy)]
 struct Scope<'m> {
     outer: Option<u32>,
@@ -27,9 +27,17 @@ struct Scope<'m> {
 
 /// The slots of a value that is held there for a while, from the first to before the last.
 #[derive(Clone, Copy)]
-pub struct Buffer {
-    pub first: u32,
-    pub end: u32,
+pub(crate) struct Buffer {
+    pub(crate) first: u32,
+    pub(crate) end: u32,
+}
+
+/// A temporary that holds the address of a part of a value, and the buffer of that value, by its
+/// place among the buffers.
+#[derive(Clone, Copy)]
+struct Part {
+    temp: u32,
+    buffer: u32,
 }
 
 /// A procedure in the making. Blocks are sealed when their code is known; one that is reached from
@@ -54,6 +62,8 @@ pub struct Builder<'m, 's> {
     scopes: Vec<Scope<'m>>,
     /// The values that slots hold for a while, by their slots.
     buffers: Vec<Buffer>,
+    /// The addresses of parts of these values, by their temporaries.
+    parts: Vec<Part>,
     /// How many slots hold variables; those behind them hold values for a while.
     pub named_slots: u32,
     /// The temporaries in which an exception travels.
@@ -86,6 +96,7 @@ impl<'m, 's> Builder<'m, 's> {
             stages: Vec::new(alloc),
             scopes: Vec::new(alloc),
             buffers: Vec::new(alloc),
+            parts: Vec::new(alloc),
             named_slots: storage.room(number).slots,
             raised: Raised {
                 exception: 0,
@@ -192,15 +203,6 @@ impl<'m, 's> Builder<'m, 's> {
         self.stages.pop().unwrap_or(Value::Nothing)
     }
 
-    /// The stage that was kept so many stages before the last.
-    pub fn stage_below(&self, depth: usize) -> Value {
-        let place = self.stages.len().checked_sub(depth.saturating_add(1));
-        match place.and_then(|place| self.stages.get(place)) {
-            Some(stage) => *stage,
-            None => Value::Nothing,
-        }
-    }
-
     /// The stage that was kept last.
     pub fn top_stage(&self) -> Value {
         match self.stages.last() {
@@ -238,9 +240,41 @@ impl<'m, 's> Builder<'m, 's> {
         }
     }
 
-    /// The slots of the value of which a slot holds a part for a while, found by halving; None where it
-    /// holds none.
-    pub fn buffer_of(&self, slot: u32) -> Option<Buffer> {
+    /// A new temporary is to hold the address of a part of what is at a place.
+    pub fn part_of(&mut self, temp: u32, place: Place) {
+        let Some(buffer) = self.buffer_at(place) else {
+            return;
+        };
+        if self.parts.push(Part { temp, buffer }).is_err() {
+            self.has_failed = true;
+        }
+    }
+
+    /// The slots of the value of which a place is a part, where slots hold that value for a while.
+    pub(crate) fn buffer_of(&self, place: Place) -> Option<Buffer> {
+        let buffer = self.buffer_at(place)?;
+        self.buffers.get(buffer as usize).copied()
+    }
+
+    /// Whether a place is in slots that hold a value for a while.
+    pub fn is_buffer(&self, place: Place) -> bool {
+        match place.at {
+            Location::Slots(slot) => self.buffer_with(slot).is_some(),
+            Location::Temps(_) | Location::Globals(_) | Location::Address { .. } => false,
+        }
+    }
+
+    /// The buffer of the value of which a place is a part.
+    fn buffer_at(&self, place: Place) -> Option<u32> {
+        match place.at {
+            Location::Slots(slot) => self.buffer_with(slot),
+            Location::Address { temp, .. } => self.buffer_behind(temp),
+            Location::Temps(_) | Location::Globals(_) => None,
+        }
+    }
+
+    /// The buffer that has a slot, found by halving.
+    fn buffer_with(&self, slot: u32) -> Option<u32> {
         let mut low = 0usize;
         let mut high = self.buffers.len();
         for _ in 0..usize::BITS {
@@ -250,11 +284,26 @@ impl<'m, 's> Builder<'m, 's> {
                 _ => high = middle,
             }
         }
-        let buffer = self.buffers.get(low).copied()?;
-        if buffer.first <= slot && slot < buffer.end {
-            Some(buffer)
-        } else {
-            None
+        match self.buffers.get(low) {
+            Some(buffer) if buffer.first <= slot && slot < buffer.end => u32::try_from(low).ok(),
+            _ => None,
+        }
+    }
+
+    /// The buffer into which the address in a temporary leads, found by halving.
+    fn buffer_behind(&self, temp: u32) -> Option<u32> {
+        let mut low = 0usize;
+        let mut high = self.parts.len();
+        for _ in 0..usize::BITS {
+            let middle = low.saturating_add(high.saturating_sub(low) / 2);
+            match self.parts.get(middle) {
+                Some(part) if part.temp <= temp => low = middle,
+                _ => high = middle,
+            }
+        }
+        match self.parts.get(low) {
+            Some(part) if part.temp == temp => Some(part.buffer),
+            _ => None,
         }
     }
 
@@ -286,14 +335,6 @@ impl<'m, 's> Builder<'m, 's> {
     fn add_numbers(&mut self, count: u64) {
         for _ in 0..count {
             self.slot(Kind::Number, true);
-        }
-    }
-
-    /// Whether a place is in slots that hold a value for a while.
-    pub fn is_buffer(&self, place: Place) -> bool {
-        match place.at {
-            Location::Slots(first) => first >= self.named_slots,
-            Location::Temps(_) | Location::Globals(_) | Location::Address { .. } => false,
         }
     }
 

@@ -165,14 +165,10 @@ pub fn slots_of(place: Place) -> Option<u32> {
     }
 }
 
-/// Clears the slots of the value of which a place has a part, where slots hold it for a while: nobody
-/// wants it any more.
+/// Clears the slots of the value of which a place is a part, where slots hold it for a while:
+/// nobody wants it any more.
 pub fn cleared_value<'m>(b: &mut Builder<'m, '_>, place: Place, rest: Pending<'m>) -> Pending<'m> {
-    let buffer = match slots_of(place) {
-        Some(slot) => b.buffer_of(slot),
-        None => None,
-    };
-    match buffer {
+    match b.buffer_of(place) {
         Some(buffer) => clear(b, buffer.first, buffer.end, rest),
         None => rest,
     }

@@ -9,7 +9,7 @@ mod pending;
 mod places;
 mod values;
 
-pub use builder::{Around, Buffer, Builder};
+pub use builder::{Around, Builder};
 pub use copies::{
     clear, cleared_value, copy_row, copy_words, load_words, set, slots_of, store_words, zero_words,
 };

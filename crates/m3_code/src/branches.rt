@@ -40,8 +40,8 @@ impl<'a> Emitter<'a> {
         self.put_goto(other, next)
     }
 
-    /// Goes on at one of two blocks. Where one of them follows, one branch does, if there is one that
-    /// is taken in the other case.
+    /// Goes on at one of two blocks. Where one of them follows, one branch does, if there is one
+    /// that is taken in the other case.
     pub fn put_if(
         &mut self,
         relation: Relation,

@@ -3,14 +3,14 @@ use crate::exprs::CoreExpr;
 use m3_base::Pos;
 use m3_types::TypeId;
 
-/// An actual, in the order of evaluation: as written, and behind these the defaults. `formal` is the
-/// place of its formal in the signature, from 0, and `kind` the formal's type.
+/// An actual, in the order of evaluation: as written, and behind these the defaults. `formal` is
+/// the place of its formal in the signature, from 0, and `kind` the formal's type.
 #[cycle(expressions)]
 #[derive(Clone, Copy)]
 pub enum Actual<'a> {
-    /// The value goes into a new variable: a VALUE formal, or what a READONLY formal then stands for.
-    /// Where a VALUE formal is an open array and the value ends in a read, the place that is read
-    /// stays fixed until the array is copied.
+    /// The value goes into a new variable: a VALUE formal, or what a READONLY formal then stands
+    /// for. Where a VALUE formal is an open array and the value ends in a read, the place that is
+    /// read stays fixed until the array is copied.
     Value {
         formal: u32,
         kind: TypeId,
@@ -27,9 +27,9 @@ pub enum Actual<'a> {
 }
 
 /// A call of a routine of a built-in interface, or of a predeclared function that computes from
-/// values alone. The actuals stand in the order of the formals, and `order` names them in the order of
-/// evaluation. Each check comes right behind the parts that it needs. `kind` is none where the routine
-/// gives no result.
+/// values alone. The actuals stand in the order of the formals, and `order` names them in the order
+/// of evaluation. Each check comes right behind the parts that it needs. `kind` is none where the
+/// routine gives no result.
 #[cycle(expressions)]
 #[derive(Clone, Copy)]
 pub struct BuiltinCall<'a> {

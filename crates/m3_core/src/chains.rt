@@ -3,9 +3,9 @@ use crate::exprs::CoreExpr;
 use m3_base::Pos;
 use m3_types::TypeId;
 
-/// A base with the steps that follow it in a row, each made of what stands before it: a place, which
-/// names a variable or a part of one, or a value. Its place is that of its first token, where every
-/// NIL that a step meets is reported. The chain gives what its last step gives.
+/// A base with the steps that follow it in a row, each made of what stands before it: a place,
+/// which names a variable or a part of one, or a value. Its place is that of its first token, where
+/// every NIL that a step meets is reported. The chain gives what its last step gives.
 #[cycle(expressions)]
 #[derive(Clone, Copy)]
 pub struct Chain<'a> {
@@ -32,7 +32,8 @@ pub enum Base<'a> {
         variable: u32,
         kind: TypeId,
     },
-    /// The place that a VAR or READONLY formal, or a name that WITH binds to a designator, stands for.
+    /// The place that a VAR or READONLY formal, or a name that WITH binds to a designator, stands
+    /// for.
     Alias {
         level: u32,
         variable: u32,
@@ -41,8 +42,9 @@ pub enum Base<'a> {
     /// What a chain in parentheses gives, a place or a value.
     Inner(&'a Chain<'a>),
     /// The place of `count` elements of an array from element `start` on, as an open array
-    /// (SUBARRAY): fixes the array's place, evaluates start and count, and then faults with Subarray at
-    /// the chain's place where one of them is below 0 or their sum passes the array's elements.
+    /// (SUBARRAY): fixes the array's place, evaluates start and count, and then faults with
+    /// Subarray at the chain's place where one of them is below 0 or their sum passes the array's
+    /// elements.
     Subarray {
         array: &'a Chain<'a>,
         start: &'a CoreExpr<'a>,
@@ -81,15 +83,15 @@ pub enum Step<'a> {
         field: u32,
         kind: TypeId,
     },
-    /// The place of an element of an array place: evaluates the index, and then faults with Index at
-    /// the index's place where the array has no such element.
+    /// The place of an element of an array place: evaluates the index, and then faults with Index
+    /// at the index's place where the array has no such element.
     Element {
         index: &'a CoreExpr<'a>,
         kind: TypeId,
     },
-    /// The call of a procedure value: faults with Nil, evaluates the actuals in order, copies the open
-    /// arrays that go to VALUE formals in the order of formals (each a point), and then passes the
-    /// call's point. Its result is a value.
+    /// The call of a procedure value: faults with Nil, evaluates the actuals in order, copies the
+    /// open arrays that go to VALUE formals in the order of formals (each a point), and then passes
+    /// the call's point. Its result is a value.
     Call {
         actuals: &'a [Actual<'a>],
         kind: Option<TypeId>,

@@ -66,9 +66,9 @@ pub enum CoreExpr<'a> {
         kind: TypeId,
         elements: &'a [SetElement<'a>],
     },
-    /// The array of the elements in order. Where `is_filled`, the last stands for all that follow it.
-    /// Rows of an open array type have one shape: it faults with Shape at the first that differs,
-    /// right behind its evaluation.
+    /// The array of the elements in order. Where `is_filled`, the last stands for all that follow
+    /// it. Rows of an open array type have one shape: it faults with Shape at the first that
+    /// differs, right behind its evaluation.
     ArrayOf {
         pos: Pos,
         kind: TypeId,
@@ -81,9 +81,9 @@ pub enum CoreExpr<'a> {
         kind: TypeId,
         fields: &'a [FieldValue<'a>],
     },
-    /// A new cell of type `made`: evaluates the sizes of its open dimensions (each faults with Size at
-    /// its place where it is below 0), or the bindings, passes the point, makes the cell with its
-    /// defaults, and stores the bindings.
+    /// A new cell of type `made`: evaluates the sizes of its open dimensions (each faults with Size
+    /// at its place where it is below 0), or the bindings, passes the point, makes the cell with
+    /// its defaults, and stores the bindings.
     New {
         pos: Pos,
         kind: TypeId,
@@ -163,7 +163,8 @@ pub struct Operation<'a> {
     pub kind: TypeId,
 }
 
-/// The operators between two operands. Those on integers fault with Overflow or DivZero at their place.
+/// The operators between two operands. Those on integers fault with Overflow or DivZero at their
+/// place.
 #[derive(Clone, Copy, PartialEq, Eq)]
 pub enum Operator {
     /// Evaluates the right operand only where the left one is FALSE.
@@ -179,8 +180,8 @@ pub enum Operator {
     Difference,
     Intersection,
     SymmetricDifference,
-    /// Passes a point and makes a new text; faults with Nil at the operand that is NIL, the left one
-    /// before the right one is evaluated.
+    /// Passes a point and makes a new text; faults with Nil at the operand that is NIL, the left
+    /// one before the right one is evaluated.
     Concatenate,
     /// Whether the left operand is a member of the set on the right.
     In,

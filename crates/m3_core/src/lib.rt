@@ -1,5 +1,5 @@
-//! The checked tree of a program: names are resolved to places, each node has its type, defaults are
-//! filled in, each dereference, conversion and check is a node, and LOCK is written out.
+//! The checked tree of a program: names are resolved to places, each node has its type, defaults
+//! are filled in, each dereference, conversion and check is a node, and LOCK is written out.
 #![tactic(auto)]
 
 mod calls;

@@ -10,7 +10,8 @@ use m3_types::TypeId;
 #[derive(Clone, Copy)]
 pub enum CoreStmt<'a> {
     /// Fixes the target, evaluates the value with its checks, compares the shapes where
-    /// `checks_shape` (Shape at the value's place), and writes. Values are copied as if wholly read first.
+    /// `checks_shape` (Shape at the value's place), and writes. Values are copied as if wholly read
+    /// first.
     Assign {
         pos: Pos,
         target: &'a Chain<'a>,
@@ -27,16 +28,16 @@ pub enum CoreStmt<'a> {
         pos: Pos,
         call: &'a BuiltinCall<'a>,
     },
-    /// INC or DEC: fixes the target, evaluates the amount (1 where none is written), reads, computes
-    /// (Overflow at `pos`), checks the target's type (Range at `pos`), and writes.
+    /// INC or DEC: fixes the target, evaluates the amount (1 where none is written), reads,
+    /// computes (Overflow at `pos`), checks the target's type (Range at `pos`), and writes.
     Change {
         pos: Pos,
         is_decrement: bool,
         target: &'a Chain<'a>,
         amount: Option<&'a CoreExpr<'a>>,
     },
-    /// Makes the variables with their defaults, stores the initial values in order, and runs the body.
-    /// The block of a module itself makes none.
+    /// Makes the variables with their defaults, stores the initial values in order, and runs the
+    /// body. The block of a module itself makes none.
     Block {
         pos: Pos,
         variables: &'a [u32],
@@ -95,15 +96,16 @@ pub enum CoreStmt<'a> {
         pos: Pos,
         value: Option<&'a CoreExpr<'a>>,
     },
-    /// The first handler of an exception that leaves the body runs; the ELSE handles every other way
-    /// of leaving it too, RETURN and EXIT included.
+    /// The first handler of an exception that leaves the body runs; the ELSE handles every other
+    /// way of leaving it too, RETURN and EXIT included.
     TryExcept {
         pos: Pos,
         body: &'a [CoreStmt<'a>],
         handlers: &'a [Handler<'a>],
         otherwise: Option<&'a [CoreStmt<'a>]>,
     },
-    /// `last` runs whatever way the body ends; if it ends otherwise than normally, that counts instead.
+    /// `last` runs whatever way the body ends; if it ends otherwise than normally, that counts
+    /// instead.
     TryFinally {
         pos: Pos,
         body: &'a [CoreStmt<'a>],

@@ -16,7 +16,7 @@ pub enum Value<'a> {
     Set(&'a [i64]),
     /// The fields of a record, in order.
     Record(&'a [ValueId]),
-    /// An array of the given number of elements: those listed, of which the last stands for all that
-    /// follow it.
+    /// An array of the given number of elements: those listed, of which the last stands for all
+    /// that follow it.
     Array(&'a [ValueId], u64),
 }

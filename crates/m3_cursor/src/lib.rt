@@ -1,4 +1,5 @@
-//! A reader of the tokens of a file that keeps its first error, and the names that stand among them.
+//! A reader of the tokens of a file that keeps its first error, and the names that stand among
+//! them.
 #![tactic(auto)]
 
 mod kinds;

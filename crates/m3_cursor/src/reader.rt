@@ -23,9 +23,9 @@ pub struct Stop {
     pub left: usize,
 }
 
-/// Reads the tokens of a file from the first to the last. It keeps the first error, and stands at the end
-/// of the tokens from then on, where nothing more is taken; so whoever reads goes on as if nothing had
-/// happened, and asks at the end by `stop`.
+/// Reads the tokens of a file from the first to the last. It keeps the first error, and stands at
+/// the end of the tokens from then on, where nothing more is taken; so whoever reads goes on as if
+/// nothing had happened, and asks at the end by `stop`.
 pub struct Reader<'t, 'a> {
     alloc: Global,
     arena: &'a Bump,
@@ -222,7 +222,8 @@ impl<'t, 'a> Reader<'t, 'a> {
         self.rest = &[];
     }
 
-    /// Refuses the token here, which may not stand here, or the end of the file, which comes too early.
+    /// Refuses the token here, which may not stand here, or the end of the file, which comes too
+    /// early.
     pub fn unexpected(&mut self)
         ensures follows { Follows self.old self.new }
         ensures stopped { IsSome self.new.stop }
@@ -238,8 +239,8 @@ impl<'t, 'a> Reader<'t, 'a> {
         self.fail(Why::TooDeep);
     }
 
-    /// The room inside a construct that the token here opens, given the room around it: how many constructs
-    /// may still open. None where there is no room, and the token lies too deep.
+    /// The room inside a construct that the token here opens, given the room around it: how many
+    /// constructs may still open. None where there is no room, and the token lies too deep.
     pub fn inside(&mut self, room: u32) -> Option<u32>
         ensures follows { Follows self.old self.new }
         ensures less { IfSome result (λ r. r + 1 ≡ room) }

@@ -18,7 +18,8 @@ pub(crate) struct ActiveSet {
     pub(crate) list: Vec<Active>,
     /// By temporary, its place in the list.
     spots: Vec<u32>,
-    /// What begins to be live at each place, as pairs of a temporary and the place behind its stretch.
+    /// What begins to be live at each place, as pairs of a temporary and the place behind its
+    /// stretch.
     begins: Groups,
     /// What is live no more from each place on.
     ends: Groups,

@@ -1,5 +1,6 @@
-//! From middle code to what a collector has to know at each point: which temporaries are tidy pointers, and
-//! from which tidy pointers each derived pointer comes (Diwan, Moss and Hudson, PLDI 1992).
+//! From middle code to what a collector has to know at each point: which temporaries are tidy
+//! pointers, and from which tidy pointers each derived pointer comes (Diwan, Moss and Hudson, PLDI
+//! 1992).
 #![tactic(auto)]
 
 mod active;

@@ -37,8 +37,9 @@ fn with_rows<'a>(
     })
 }
 
-/// What a collector has to know of a procedure at each of its points: which temporaries hold references, and
-/// from which ones each derived pointer comes, copies of which are kept where they would be lost.
+/// What a collector has to know of a procedure at each of its points: which temporaries hold
+/// references, and from which ones each derived pointer comes, copies of which are kept where they
+/// would be lost.
 pub fn derive<'a>(alloc: Global, arena: &'a Bump, p: &Proc<'a>) -> Result<Derived<'a>, NoMemory> {
     let based = find_bases(alloc, arena, p)?;
     with_rows(alloc, arena, based)

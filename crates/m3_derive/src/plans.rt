@@ -2,8 +2,8 @@ use m3_bases::Derivation;
 use m3_flow::RowUse;
 use m3_mid::Proc;
 
-/// The row of a point: its operation, and the tidy and the derived temporaries that it names. It names every
-/// slot of Kind Tidy, the formals by reference, and what it passes to a callee beside.
+/// The row of a point: its operation, and the tidy and the derived temporaries that it names. It
+/// names every slot of Kind Tidy, the formals by reference, and what it passes to a callee beside.
 #[derive(Clone, Copy)]
 pub struct RowPlan<'a> {
     pub block: u32,

@@ -144,7 +144,8 @@ impl<'a> Rows<'a> {
     }
 }
 
-/// Goes through the points of a procedure in the order in which its blocks lie, and adds the row of each.
+/// Goes through the points of a procedure in the order in which its blocks lie, and adds the row of
+/// each.
 #[derive(Drop)]
 struct Pass<'a> {
     rows: Rows<'a>,

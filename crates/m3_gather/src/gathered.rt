@@ -49,7 +49,8 @@ pub struct Gathered<'a> {
     pub bindings: IndexMap<EntityId, Bound<'a>>,
 }
 
-/// The walk: what it found, and the unit that it is in. Where memory is wanting it goes on to its end.
+/// The walk: what it found, and the unit that it is in. Where memory is wanting it goes on to its
+/// end.
 #[derive(Drop)]
 pub(crate) struct Gatherer<'p, 'a> {
     pub program: &'p Program<'a>,

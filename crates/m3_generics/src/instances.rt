@@ -11,10 +11,10 @@ pub const MOST_TOKENS: u64 = 2_000_000;
 
 const PHASE: u8 = 3;
 
-/// The units of a program with each instance of a generic written out in the place of its head, which
-/// imports the actuals under the names of the formals, and without the generic units. The places in
-/// an instance are those of its generic's file; its own place, its name and its exports are those of
-/// its head. The instance shares the generic's trees.
+/// The units of a program with each instance of a generic written out in the place of its head,
+/// which imports the actuals under the names of the formals, and without the generic units. The
+/// places in an instance are those of its generic's file; its own place, its name and its exports
+/// are those of its head. The instance shares the generic's trees.
 ///
 /// Refuses by the least of rules 15 to 18: an unknown generic, a wrong number of actuals, an actual
 /// that is no interface, and, where none of these is broken, too many tokens in all.
@@ -206,7 +206,8 @@ fn written_out<'a>(
     }
 }
 
-/// The imports of an instance: each actual under the name of its formal, and then the generic's own.
+/// The imports of an instance: each actual under the name of its formal, and then the generic's
+/// own.
 fn imports_of<'a>(
     arena: &'a Bump,
     actuals: &'a [Name<'a>],

@@ -22,8 +22,8 @@ struct Draft {
     last: Told,
 }
 
-/// The section of the tables with these rows: each sixteenth row tells all its tidy places, another row
-/// that says the same as the one before is a single byte, and any other tells the change.
+/// The section of the tables with these rows: each sixteenth row tells all its tidy places, another
+/// row that says the same as the one before is a single byte, and any other tells the change.
 pub fn table_section(alloc: Global, rows: &[RowPlain]) -> Result<Vec<u8>, NoMemory> {
     let mut draft = Draft {
         directory: Vec::new(alloc),

@@ -8,7 +8,8 @@ use std::alloc::Global;
 /// Where the constants of an image begin (docs/MACHINE.md).
 const FIRST_CONSTANT: u64 = 1 << 50;
 
-/// The words of a program's constants: the cells of its texts, and the values of its records and arrays.
+/// The words of a program's constants: the cells of its texts, and the values of its records and
+/// arrays.
 #[derive(Drop)]
 pub struct Constants {
     pub words: Vec<u64>,
@@ -197,13 +198,31 @@ fn open_record(
     };
     for (place, field) in fields.iter().enumerate().rev() {
         if let Some(value) = parts.get(place) {
-            tasks.push(Task::Value {
-                value: *value,
-                kind: field.kind,
-            })?;
+            push_value(storage, *value, field.kind, tasks)?;
         }
     }
     Ok(())
+}
+
+/// Keeps a value that is still to be written. One without words is passed over, since its parts may
+/// be as many as 2 to the depth of its type.
+fn push_value(
+    storage: &Storage,
+    value: ValueId,
+    kind: TypeId,
+    tasks: &mut Vec<Task>,
+) -> Result<(), NoMemory> {
+    if has_words(storage, kind) {
+        tasks.push(Task::Value { value, kind })?;
+    }
+    Ok(())
+}
+
+fn has_words(storage: &Storage, kind: TypeId) -> bool {
+    match storage.node(kind) {
+        TypeNode::OpenArray(_) => true,
+        _ => storage.words(kind) > 0,
+    }
 }
 
 fn open_array(
@@ -225,10 +244,7 @@ fn open_array(
         })?;
     }
     for value in parts.iter().rev() {
-        tasks.push(Task::Value {
-            value: *value,
-            kind: element,
-        })?;
+        push_value(storage, *value, element, tasks)?;
     }
     Ok(())
 }

@@ -17,8 +17,8 @@ fn form_of(storage: &Storage, variable: &VarDef) -> u8 {
     }
 }
 
-/// The variables that an image shows: the global ones, and then those of each procedure, with what is
-/// shown of them at its points.
+/// The variables that an image shows: the global ones, and then those of each procedure, with what
+/// is shown of them at its points.
 pub fn var_parts(
     alloc: Global,
     storage: &Storage,

@@ -1,7 +1,7 @@
 use crate::calls::{emit_call, emit_method};
 use crate::exprs::{emit_value, fetch};
 use m3_base::Pos;
-use m3_builder::{Around, Builder, Location, Pending, Place, Value, cleared_value};
+use m3_builder::{Around, Builder, Pending, Place, Value, cleared_value};
 use m3_core::{ArrayLimit, Base, Chain, CoreExpr, Step};
 use m3_plans::plan_chain;
 use m3_shapes::{check_index, check_subarray, indexed, known_distance, limit_of, subarray_address};
@@ -24,49 +24,11 @@ pub fn emit_chain<'m>(
         let before = b.pop_stage();
         if let Some(step) = chain.steps.get(place) {
             let kind = kind_before(chain, place);
-            if matches!(step, Step::Read { .. }) && is_at_address(before) {
-                code = clear_read(b, chain, place, code);
-            }
             code = emit_step(b, around, step, chain.pos, kind, before, after, code);
         }
         after = before;
     }
     emit_base(b, around, chain, after, code)
-}
-
-/// Whether a place is told by its address.
-fn is_at_address(value: Value) -> bool {
-    match value {
-        Value::At(place) => matches!(place.at, Location::Address { .. }),
-        _ => false,
-    }
-}
-
-/// Clears the value that slots hold for a while, of which the step at a place reads a part whose place
-/// was found by an index.
-fn clear_read<'m>(
-    b: &mut Builder<'m, '_>,
-    chain: &Chain,
-    place: usize,
-    rest: Pending<'m>,
-) -> Pending<'m> {
-    let mut held = None;
-    for depth in 0..place {
-        let step = chain
-            .steps
-            .get(place.saturating_sub(depth).saturating_sub(1));
-        let (Some(Step::Field { .. } | Step::Element { .. }), Value::At(at)) = (
-            step,
-            b.stage_below(depth),
-        ) else {
-            break;
-        };
-        held = Some(at);
-    }
-    match held {
-        Some(at) => cleared_value(b, at, rest),
-        None => rest,
-    }
 }
 
 #[cycle(expressions)]

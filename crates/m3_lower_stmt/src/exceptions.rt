@@ -58,8 +58,8 @@ pub fn try_except<'m>(
     code
 }
 
-/// Makes the block where an exception arrives that leaves statements: what the slots that were taken for
-/// these hold is wanted by nobody any more.
+/// Makes the block where an exception arrives that leaves statements: what the slots that were
+/// taken for these hold is wanted by nobody any more.
 fn land<'m>(b: &mut Builder<'m, '_>, raised: u32, first: u32, code: Pending<'m>) {
     let end = b.slot_count();
     let code = if first < end {

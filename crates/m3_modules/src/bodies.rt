@@ -30,7 +30,8 @@ fn judge_body(linker: &mut Linker<'_>, place: usize) {
     }
 }
 
-/// Makes a procedure of the module that is read the body of a head. Refuses a second body (rule 33).
+/// Makes a procedure of the module that is read the body of a head. Refuses a second body (rule
+/// 33).
 pub fn join_body(linker: &mut Linker<'_>, head: EntityId, mine: EntityId, body: &Entity<'_>) {
     if !has_body(body) {
         return;

@@ -296,8 +296,8 @@ fn is_exportable(linker: &Linker<'_>, unit: u32, name: &[u8]) -> bool {
     }
 }
 
-/// Makes a declaration of an exported interface visible in the module, or joins it with the module's
-/// procedure of that name; any other name that is there already is refused (rule 24).
+/// Makes a declaration of an exported interface visible in the module, or joins it with the
+/// module's procedure of that name; any other name that is there already is refused (rule 24).
 fn show_exported<'a>(
     linker: &mut Linker<'a>,
     interface: u32,
@@ -344,7 +344,8 @@ fn is_built_in(linker: &Linker<'_>, place: usize) -> bool {
     }
 }
 
-/// The module that exports Main: refuses a second one (rule 27), and a program without one (rule 26).
+/// The module that exports Main: refuses a second one (rule 27), and a program without one (rule
+/// 26).
 pub fn main_module(linker: &mut Linker<'_>) -> Option<u32> {
     match main_interface(linker) {
         Some(main) => exporter(linker, main),

@@ -120,8 +120,8 @@ fn declare_variables<'a>(
     Ok(())
 }
 
-/// Declares the formals of a procedure in the innermost scope. What their names break is judged where
-/// the signature is walked.
+/// Declares the formals of a procedure in the innermost scope. What their names break is judged
+/// where the signature is walked.
 pub fn declare_formals<'a>(
     linker: &mut Linker<'a>,
     declaration: &'a Decl<'a>,
@@ -198,8 +198,8 @@ pub fn walk_variables<'a>(
 }
 
 /// The names in the revelations of one row, the row's place among the unit's declarations being
-/// given. A revelation stands in the outermost scope (rule 34) and reveals an opaque type of a given
-/// unit (rule 35).
+/// given. A revelation stands in the outermost scope (rule 34) and reveals an opaque type of a
+/// given unit (rule 35).
 pub fn walk_reveals<'a>(
     linker: &mut Linker<'a>,
     declaration: usize,

@@ -48,7 +48,8 @@ pub fn walk_expression<'a>(linker: &mut Linker<'a>, value: &Expr<'a>) -> Result<
     }
 }
 
-/// The name that a chain of selectors begins with, and behind it a name of the interface that it may be.
+/// The name that a chain of selectors begins with, and behind it a name of the interface that it
+/// may be.
 fn walk_first<'a>(
     linker: &mut Linker<'a>,
     name: Name<'a>,

@@ -6,8 +6,8 @@ use m3_sizes::SizedTypes;
 use m3_types::{Secret, TypeId, TypeNode};
 use std::alloc::Global;
 
-/// The number of the types of heap cells: 0 is a text and 1 a thread, and types that are the same have
-/// one number. A type's number is above that of its parent.
+/// The number of the types of heap cells: 0 is a text and 1 a thread, and types that are the same
+/// have one number. A type's number is above that of its parent.
 #[derive(Drop)]
 pub struct Cells {
     /// The number of each type's cells, by the type's place.
@@ -81,8 +81,8 @@ impl Cells {
         Ok(())
     }
 
-    /// The number of the cells of a reference type, or of the copies of an open array type; none where
-    /// its values aren't all cells of one type.
+    /// The number of the cells of a reference type, or of the copies of an open array type; none
+    /// where its values aren't all cells of one type.
     pub fn number(&self, types: &SizedTypes, t: TypeId) -> Option<u32> {
         let shown = unveiled(types, t);
         match node_of(types, shown) {
@@ -100,8 +100,8 @@ impl Cells {
         self.types.as_slice()
     }
 
-    /// The number of a type's parent: that of ROOT for MUTEX, for Condition and for an object type whose
-    /// parent is ROOT; none for ROOT itself and for every type that is no object type.
+    /// The number of a type's parent: that of ROOT for MUTEX, for Condition and for an object type
+    /// whose parent is ROOT; none for ROOT itself and for every type that is no object type.
     pub fn parent(&self, types: &SizedTypes, t: TypeId) -> Option<u32> {
         match node_of(types, t) {
             TypeNode::Object(_, _, _, _, _) => match parent_of(types, t) {

@@ -1,5 +1,5 @@
-//! How values of a type are kept, where the fields and methods of objects stand, and the numbers of the
-//! types of heap cells.
+//! How values of a type are kept, where the fields and methods of objects stand, and the numbers of
+//! the types of heap cells.
 #![tactic(auto)]
 
 mod cells;

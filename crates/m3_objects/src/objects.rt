@@ -40,7 +40,8 @@ pub fn unveiled(types: &SizedTypes, t: TypeId) -> TypeId {
     }
 }
 
-/// The type above an object type, ROOT's own cells having none; behind an opaque type the revealed one.
+/// The type above an object type, ROOT's own cells having none; behind an opaque type the revealed
+/// one.
 pub fn parent_of(types: &SizedTypes, t: TypeId) -> Option<TypeId> {
     match node_of(types, t) {
         TypeNode::Object(_, parent, _, _, _) => Some(unveiled(types, parent)),

@@ -4,8 +4,8 @@ use m3_base::Pos;
 use m3_syntax::{Arm, Block, CaseBranch, Decl, Handler, Name, Stmt, TypeBranch, Unit, UnitKind};
 
 /// The place of the first closing name that differs from the name that it closes, among those of a
-/// unit's procedures and of the unit itself, or None where there is none. Nested at most as deep as the
-/// constructs of a file, since it goes down the tree.
+/// unit's procedures and of the unit itself, or None where there is none. Nested at most as deep as
+/// the constructs of a file, since it goes down the tree.
 pub fn first_wrong_closing(unit: &Unit) -> Option<Pos> {
     match in_kind(&unit.kind) {
         Some(pos) => Some(pos),

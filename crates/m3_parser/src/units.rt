@@ -33,11 +33,12 @@ const NESTING_TOO_DEEP: u16 = 13;
 /// The rule that token 500,001 breaks.
 const TOO_MANY_TOKENS: u16 = 14;
 
-/// The unit of a file (the report, section 2.5), given its tokens. Its names and texts borrow those of
-/// the tokens, and its tree stands in the arena.
+/// The unit of a file (the report, section 2.5), given its tokens. Its names and texts borrow those
+/// of the tokens, and its tree stands in the arena.
 ///
 /// An `Err` is the first broken rule of 10 to 14: of phase 2, with its place, and with the file of
-/// `lexed.end` as its unit. Rule 12 is judged only where no other is broken. Want of memory is the other
+/// `lexed.end` as its unit. Rule 12 is judged only where no other is broken. Want of memory is the
+/// other
 /// `Err`.
 pub fn parse<'a>(alloc: Global, arena: &'a Bump, lexed: &Lexed<'a>) -> Result<Unit<'a>, Refused>
     ensures tokens { IfOk result (λ unit. unit.tokens ≡ length lexed.now.tokens.items) }
@@ -78,8 +79,8 @@ fn refusal_of(lexed: &Lexed<'_>, stop: Stop) -> Refused
     }
 }
 
-/// The refusal of the first token, which may not stand there, or of the end of the file, which comes too
-/// early.
+/// The refusal of the first token, which may not stand there, or of the end of the file, which
+/// comes too early.
 fn unexpected(end: Pos, rest: &[Token<'_>]) -> Refused
     ensures { result ≡ Rule (spec.unexpected end rest.now) }
 {

@@ -6,8 +6,8 @@ use crate::settings::{Found, Level, Setting, Want, level_of};
 use m3_cursor::{Reader, begins_expression, operator_of};
 use m3_syntax::{Expr, Operation, Operator, PrefixSign, Sign, Word};
 
-/// An expression (the report, section 2.6). `room` is that of what surrounds it: the expression itself
-/// opens one construct.
+/// An expression (the report, section 2.6). `room` is that of what surrounds it: the expression
+/// itself opens one construct.
 #[cycle(expressions)]
 pub fn expression<'a>(reader: &mut Reader<'_, 'a>, room: u32) -> &'a Expr<'a>
     ensures { Follows reader.old reader.new }
@@ -34,8 +34,9 @@ pub fn phrase<'a>(reader: &mut Reader<'_, 'a>, room: u32, want: Want) -> Found<'
     operations(reader, setting, Level::Disjunction)
 }
 
-/// The expression that begins a statement. `room` is that inside the statement. The actuals of calls on
-/// the whole of it lie in the statement alone, since such a call may be the statement itself.
+/// The expression that begins a statement. `room` is that inside the statement. The actuals of
+/// calls on the whole of it lie in the statement alone, since such a call may be the statement
+/// itself.
 pub fn statement_head<'a>(reader: &mut Reader<'_, 'a>, room: u32) -> Expr<'a>
     ensures { Follows reader.old reader.new }
 {

@@ -22,7 +22,8 @@ pub fn fields<'a>(reader: &mut Reader<'_, 'a>, room: u32) -> &'a [Field<'a>]
     reader.row(fields)
 }
 
-/// The methods behind METHODS, if that is here, with semicolons between them and maybe behind the last.
+/// The methods behind METHODS, if that is here, with semicolons between them and maybe behind the
+/// last.
 #[cycle(expressions)]
 pub fn methods<'a>(reader: &mut Reader<'_, 'a>, room: u32) -> &'a [Method<'a>]
     ensures { Follows reader.old reader.new }
@@ -48,8 +49,8 @@ pub fn methods<'a>(reader: &mut Reader<'_, 'a>, room: u32) -> &'a [Method<'a>]
     reader.row(methods)
 }
 
-/// The overrides behind OVERRIDES, if that is here, with semicolons between them and maybe behind the
-/// last.
+/// The overrides behind OVERRIDES, if that is here, with semicolons between them and maybe behind
+/// the last.
 #[cycle(expressions)]
 pub fn overrides<'a>(reader: &mut Reader<'_, 'a>, room: u32) -> &'a [Override<'a>]
     ensures { Follows reader.old reader.new }

@@ -22,8 +22,8 @@ pub fn operand<'a>(reader: &mut Reader<'_, 'a>, setting: Setting) -> Found<'a>
     Found::Value(selected(reader, setting, constructor))
 }
 
-/// An operand up to the brace of a constructor, or a type. Behind a name it may be an object type of which
-/// that is the parent.
+/// An operand up to the brace of a constructor, or a type. Behind a name it may be an object type
+/// of which that is the parent.
 #[cycle(expressions)]
 fn without_brace<'a>(reader: &mut Reader<'_, 'a>, setting: Setting) -> Found<'a>
     requires { setting.room ≤ setting.calls }
@@ -46,8 +46,8 @@ fn without_brace<'a>(reader: &mut Reader<'_, 'a>, setting: Setting) -> Found<'a>
     }
 }
 
-/// Whether an object type follows the name of its parent. Behind the text of BRANDED the word OBJECT
-/// begins what is branded.
+/// Whether an object type follows the name of its parent. Behind the text of BRANDED the word
+/// OBJECT begins what is branded.
 fn goes_on_as_object(reader: &Reader<'_, '_>, want: Want) -> bool {
     reader.is_word(Word::Branded) || (reader.is_word(Word::Object) && want != Want::Brand)
 }
@@ -230,8 +230,8 @@ fn binding<'a>(reader: &mut Reader<'_, 'a>) -> Option<Name<'a>>
     Some(name)
 }
 
-/// A name that begins an actual or an element where no construct can be opened any more: it needs none
-/// yet, as it may stand before `:=`. What goes on with it lies too deep.
+/// A name that begins an actual or an element where no construct can be opened any more: it needs
+/// none yet, as it may stand before `:=`. What goes on with it lies too deep.
 fn lone_name<'a>(reader: &mut Reader<'_, 'a>, room: u32) -> Option<Name<'a>>
     ensures { Follows reader.old reader.new }
 {
@@ -272,7 +272,8 @@ fn constructor<'a>(reader: &mut Reader<'_, 'a>, setting: Setting, head: Found<'a
     }
 }
 
-/// The elements behind an opening brace, up to and with the closing one, and whether `..` ends them.
+/// The elements behind an opening brace, up to and with the closing one, and whether `..` ends
+/// them.
 #[cycle(expressions)]
 fn elements<'a>(reader: &mut Reader<'_, 'a>, room: u32) -> (&'a [Element<'a>], bool)
     ensures { Follows reader.old reader.new }

@@ -25,8 +25,8 @@ pub enum Want {
 pub struct Setting {
     /// How many constructs may still open in it.
     pub room: u32,
-    /// The same for the actuals of calls on the whole of it: one more where it begins a statement, since
-    /// such a call may be the statement itself.
+    /// The same for the actuals of calls on the whole of it: one more where it begins a statement,
+    /// since such a call may be the statement itself.
     pub calls: u32,
     pub want: Want,
 }

@@ -99,6 +99,7 @@ fn part_of(
     }
     let address = address_kind(b, array);
     let temp = b.temp(address);
+    b.part_of(temp, array);
     Place {
         at: Location::Address { temp, offset: 0 },
         base: array.base,

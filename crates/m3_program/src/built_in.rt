@@ -5,7 +5,8 @@ use m3_parser::parse;
 use m3_syntax::Unit;
 use std::alloc::Global;
 
-/// The built-in interfaces, by their text. MAIN has nothing; a module that exports it is the program's.
+/// The built-in interfaces, by their text. MAIN has nothing; a module that exports it is the
+/// program's.
 const TEXTS: [&[u8]; 5] = [
     b"INTERFACE Main; END Main.",
     b"INTERFACE IO;

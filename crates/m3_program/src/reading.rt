@@ -11,8 +11,8 @@ use m3_scopes::Program;
 use m3_syntax::{Lexed, Unit};
 use std::alloc::Global;
 
-/// The linked program of some sources, whose trees stand in the arena. Each step is taken only where
-/// no source broke a rule of the steps before; the least broken rule of a step is the answer.
+/// The linked program of some sources, whose trees stand in the arena. Each step is taken only
+/// where no source broke a rule of the steps before; the least broken rule of a step is the answer.
 pub fn read_program<'a>(
     alloc: Global,
     arena: &'a Bump,

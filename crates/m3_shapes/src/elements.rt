@@ -20,6 +20,7 @@ pub fn plan_element<'m>(
     }
     let address = address_kind(b, array);
     let temp = b.temp(address);
+    b.part_of(temp, array);
     let dims = array.dims.saturating_sub(1);
     Place {
         at: Location::Address { temp, offset: 0 },

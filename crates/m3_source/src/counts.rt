@@ -2,8 +2,9 @@ use crate::frames::value_words;
 use m3_sizes::SizedTypes;
 use m3_types::TypeId;
 
-/// What stands in a procedure's body: its nodes, the words of the values that its calls, constructors
-/// and bindings handle, its points, the words of its constants, and the types of cells that it makes.
+/// What stands in a procedure's body: its nodes, the words of the values that its calls,
+/// constructors and bindings handle, its points, the words of its constants, and the types of cells
+/// that it makes.
 #[derive(Drop)]
 pub struct Counts<'c, 'a> {
     pub types: &'c SizedTypes<'a>,

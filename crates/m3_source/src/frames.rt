@@ -100,9 +100,9 @@ pub fn sizes_of(core: &Core, parts: &[u64], proc: &ProcDef) -> Sizes {
     }
 }
 
-/// The words that a frame of a procedure may have: 32, those of its variables, 4 for each node of its
-/// checked tree, and twice those of each value that a call, a constructor, an actual or a binding of NEW
-/// handles.
+/// The words that a frame of a procedure may have: 32, those of its variables, 4 for each node of
+/// its checked tree, and twice those of each value that a call, a constructor, an actual or a
+/// binding of NEW handles.
 pub fn frame_words(core: &Core, proc: u32) -> u64 {
     match core.procs.get(proc as usize) {
         Some(proc) => sizes_of(core, &[], proc).frame,

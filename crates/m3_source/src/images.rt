@@ -5,9 +5,9 @@ use m3_core::{Core, ProcDef, VarDef, VarKind};
 use m3_types::{TypeId, TypeNode};
 use std::alloc::Global;
 
-/// The size of a program, by which its image is bounded: for each procedure its frame's words once and
-/// once more for each point, the words of its constants, and the parts of the cells that it makes; for
-/// each type of cells its pointers and methods; and the bytes of texts and names.
+/// The size of a program, by which its image is bounded: for each procedure its frame's words once
+/// and once more for each point, the words of its constants, and the parts of the cells that it
+/// makes; for each type of cells its pointers and methods; and the bytes of texts and names.
 pub fn image_size(alloc: Global, core: &Core) -> Result<u128, NoMemory> {
     let measures = Measures::of(alloc, &core.types)?;
     let parts = measures.cell_parts(alloc, &core.types)?;

@@ -1,5 +1,5 @@
-//! How large a checked program is: the words of each procedure's frame, and the size of its image, by
-//! which the limits are judged.
+//! How large a checked program is: the words of each procedure's frame, and the size of its image,
+//! by which the limits are judged.
 #![tactic(auto)]
 
 mod counts;

@@ -3,8 +3,9 @@ use m3_sizes::SizedTypes;
 use m3_types::{Field, Secret, TypeId, TypeNode};
 use std::alloc::Global;
 
-/// What is counted of a type, in itself: the parts and the pointers of a value of it (of an open array,
-/// of an element), and, of an object type, those of all its fields and its methods, ancestors included.
+/// What is counted of a type, in itself: the parts and the pointers of a value of it (of an open
+/// array, of an element), and, of an object type, those of all its fields and its methods,
+/// ancestors included.
 #[derive(Clone, Copy, Debug, PartialEq, Eq)]
 pub struct Measure {
     pub parts: u64,
@@ -69,8 +70,8 @@ fn unveiled(types: &SizedTypes, t: TypeId) -> TypeId {
 }
 
 impl Measures {
-    /// The measures of some types. What a type is made of, and its parent, come before it, by a list of
-    /// what waits.
+    /// The measures of some types. What a type is made of, and its parent, come before it, by a
+    /// list of what waits.
     pub fn of(alloc: Global, types: &SizedTypes) -> Result<Measures, NoMemory> {
         let count = types.graph.nodes.len();
         let mut measures = Measures {

@@ -11,8 +11,8 @@ pub fn begins_block(word: Word) -> bool {
     matches!(word, Word::Begin) || begins_declaration(word)
 }
 
-/// The block that begins here (the report, section 2.3.13 "Block statement"). `room` is that of what
-/// surrounds it.
+/// The block that begins here (the report, section 2.3.13 "Block statement"). `room` is that of
+/// what surrounds it.
 #[cycle(statements)]
 pub fn block<'a>(reader: &mut Reader<'_, 'a>, room: u32) -> Block<'a>
     ensures { Follows reader.old reader.new }

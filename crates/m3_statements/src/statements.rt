@@ -101,8 +101,8 @@ fn missing_statement<'a>(reader: &mut Reader<'_, 'a>, pos: Pos) -> Stmt<'a>
     Stmt::Eval { pos, value }
 }
 
-/// The statement that begins here with PROCEDURE: a block that begins with a procedure, or an expression
-/// that begins with a procedure type. A parenthesis tells which.
+/// The statement that begins here with PROCEDURE: a block that begins with a procedure, or an
+/// expression that begins with a procedure type. A parenthesis tells which.
 #[cycle(statements)]
 fn block_or_call<'a>(reader: &mut Reader<'_, 'a>, room: u32) -> Stmt<'a>
     ensures { Follows reader.old reader.new }

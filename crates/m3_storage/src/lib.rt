@@ -1,5 +1,5 @@
-//! Where a program keeps its things: the words of its variables, the fields and methods of its objects,
-//! and the numbers of the types of its heap cells.
+//! Where a program keeps its things: the words of its variables, the fields and methods of its
+//! objects, and the numbers of the types of its heap cells.
 #![tactic(auto)]
 
 mod defaults;

@@ -5,14 +5,15 @@ use m3_sizes::SizedTypes;
 use m3_types::{TypeId, TypeNode};
 use std::alloc::Global;
 
-/// Where a variable of a procedure is kept: in temporaries or in slots in a row, from the one that is
-/// named.
+/// Where a variable of a procedure is kept: in temporaries or in slots in a row, from the one that
+/// is named.
 ///
-/// A variable has the words of its value. What a VAR or READONLY formal stands for is kept in slots as
-/// its address, the tidy pointer that the address was made from (0 where it is none of the heap), and
-/// the sizes of an open array. What WITH binds to a place is kept so too where temporaries hold it;
-/// slots hold the tidy pointer, the distance from it to the address, and the sizes. A variable of an open
-/// array type, which WITH makes of a value, is kept as such an alias of that value.
+/// A variable has the words of its value. What a VAR or READONLY formal stands for is kept in slots
+/// as its address, the tidy pointer that the address was made from (0 where it is none of the
+/// heap), and the sizes of an open array. What WITH binds to a place is kept so too where
+/// temporaries hold it; slots hold the tidy pointer, the distance from it to the address, and the
+/// sizes. A variable of an open array type, which WITH makes of a value, is kept as such an alias
+/// of that value.
 #[derive(Clone, Copy, Debug, PartialEq, Eq)]
 pub enum VarPlace {
     Temps(u32),
@@ -102,7 +103,8 @@ fn needs_slots(types: &SizedTypes, variable: &VarDef, marks: Marks) -> bool {
 /// How many slots and temporaries the variables of a procedure take.
 #[derive(Clone, Copy, Debug, PartialEq, Eq)]
 pub struct Room {
-    /// The slots of the formals' words, with the one for the address of a result of two words or more.
+    /// The slots of the formals' words, with the one for the address of a result of two words or
+    /// more.
     pub formals: u32,
     pub slots: u32,
     pub temps: u32,
@@ -123,8 +125,8 @@ fn further(at: u32, words: u64) -> Result<u32, NoMemory> {
     }
 }
 
-/// Gives each variable of a procedure its place, and tells the room that they take. The words of the
-/// formals come first, in order, also where the formal itself is then kept in temporaries.
+/// Gives each variable of a procedure its place, and tells the room that they take. The words of
+/// the formals come first, in order, also where the formal itself is then kept in temporaries.
 pub fn place_all(
     types: &SizedTypes,
     proc: &ProcDef,
@@ -189,7 +191,8 @@ pub fn marks_at(marks: &[Marks], variable: usize) -> Marks {
     }
 }
 
-/// The first word of each global variable, counted from the start of the globals, and the words of all.
+/// The first word of each global variable, counted from the start of the globals, and the words of
+/// all.
 pub fn place_globals(alloc: Global, core: &Core) -> Result<(Vec<u32>, u32), NoMemory> {
     let mut places = Vec::new(alloc);
     let mut next = 4u32;
@@ -200,8 +203,8 @@ pub fn place_globals(alloc: Global, core: &Core) -> Result<(Vec<u32>, u32), NoMe
     Ok((places, next))
 }
 
-/// How many of the variables of a procedure are shown at points: those of an ordinal or reference type,
-/// with their place among these, or none.
+/// How many of the variables of a procedure are shown at points: those of an ordinal or reference
+/// type, with their place among these, or none.
 pub fn shown_places(
     types: &SizedTypes,
     proc: &ProcDef,
@@ -232,8 +235,8 @@ fn note_shown(
     Ok(())
 }
 
-/// Whether the value of a variable is shown: it is of an ordinal or reference type, stands for no place,
-/// and isn't the hidden name of a LOCK.
+/// Whether the value of a variable is shown: it is of an ordinal or reference type, stands for no
+/// place, and isn't the hidden name of a LOCK.
 pub fn is_shown(types: &SizedTypes, variable: &VarDef) -> bool {
     match variable.kind {
         VarKind::Variable(t) | VarKind::ByValue(t) => {
