@@ -3,7 +3,8 @@
 
 mod lines;
 mod names;
-mod text;
+mod rows;
+mod words;
 
 pub use lines::dump;
 pub use names::name_of;

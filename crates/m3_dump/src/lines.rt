@@ -1,150 +1,168 @@
+//! The lines of procedures, instructions and variables, and the whole text.
+ghost use Rattle.std.specs.Prelude.{◌≡◌, ◌++◌, ◌+◌, ◌≤◌, length, IfOk, OnOk};
+ghost use Rattle.m3_decoded.specs.Ready.{image_of};
+ghost use Rattle.m3_sections.specs.PartViews.{variable_of, pairs_of, variables_list};
+ghost use Rattle.std.specs.List.{flat_map};
+ghost use Rattle.m3_dump.specs.Texts.{proc_line, instruction_line, owner_word, form_word, global_word, span_word, variable_words, variable_line, Adds, CodeText, ProcsText, IsDump};
+
 use crate::names::name_of;
-use crate::text::Text;
+use crate::rows::put_row_at;
+use crate::words::{put, put_number, put_number_word, put_place, put_signed_word};
 use m3_base::NoMemory;
 use m3_decoded::Decoded;
-use m3_image::{ProcPart, VarView};
+use m3_image::{Pairs, ProcPart, VarView};
 use m3_isa::Instr;
-use m3_tables::{Derivation, Numbers, Row, WayView};
 use std::alloc::Global;
 
 /// The text of an image. For each procedure a line with its body and frame; for each of its instructions a
 /// line with its number, its name and its fields; behind a point instruction the row of that point: the tidy
 /// places, the arguments, the places that the caller describes, and the derived words with the bases of
 /// each way. Then a line for each variable.
-pub fn dump(alloc: Global, image: &Decoded<'_>) -> Result<Vec<u8>, NoMemory> {
-    let mut text = Text::new(alloc);
-    let mut number = 0;
-    for proc in image.image().procs() {
-        put_proc(&mut text, number, &proc);
-        put_code(alloc, &mut text, image, &proc);
-        number = u64::wrapping_add(number, 1);
-    }
-    for variable in image.image().variables() {
-        put_variable(&mut text, &variable);
-    }
-    text.whole()
+pub fn dump(alloc: Global, image: &Decoded<'_>) -> Result<Vec<u8>, NoMemory>
+    ensures { IfOk result (λ text. IsDump (image_of image.now) text.items) }
+{
+    let mut text = Vec::new(alloc);
+    put_procs(alloc, &mut text, image)?;
+    put_variables(&mut text, image)?;
+    Ok(text)
 }
 
-fn put_proc(text: &mut Text, number: u64, proc: &ProcPart) {
-    text.put(b"proc");
-    text.number_word(number);
-    text.put(b" body");
-    text.number_word(proc.body as u64);
-    text.put(b" frame");
-    text.number_word(proc.frame as u64);
-    text.put(b"\n");
+/// The procedures in their order, each with its instructions.
+fn put_procs(alloc: Global, text: &mut Vec<u8>, image: &Decoded<'_>) -> Result<(), NoMemory>
+    ensures { OnOk result (Adds (ProcsText (image_of image.now).program (image_of image.now).program.procs) text.old.items text.new.items) }
+{
+    image.image().keeps_its_form();
+    let mut number: u64 = 0;
+    'procs: for proc in image.image().procs() {
+        put_proc(text, number, &proc)?;
+        put_code(alloc, text, image, &proc)?;
+        number += 1;
+    }
+    Ok(())
 }
 
-/// The instructions of a procedure, and the rows of its points.
-fn put_code(alloc: Global, text: &mut Text, image: &Decoded<'_>, proc: &ProcPart) {
-    for n in 0..proc.count {
-        let pc = proc.first.wrapping_add(n);
+fn put_proc(text: &mut Vec<u8>, number: u64, proc: &ProcPart) -> Result<(), NoMemory>
+    ensures { OnOk result (text.new.items ≡ text.old.items ++ proc_line number proc.now) }
+{
+    put(text, b"proc")?;
+    put_number_word(text, number)?;
+    put(text, b" body")?;
+    put_number_word(text, proc.body as u64)?;
+    put(text, b" frame")?;
+    put_number_word(text, proc.frame as u64)?;
+    put(text, b"\n")
+}
+
+/// The instructions of a procedure, each with the row of its point.
+fn put_code(
+    alloc: Global,
+    text: &mut Vec<u8>,
+    image: &Decoded<'_>,
+    proc: &ProcPart,
+) -> Result<(), NoMemory>
+    requires { proc.now.first + proc.now.count ≤ length (image_of image.now).program.code }
+    ensures { OnOk result (Adds (CodeText (image_of image.now).program proc.now.first proc.now.count) text.old.items text.new.items) }
+{
+    let past = proc.end().min(image.image().code_len() as u64) as u32;
+    'code: for pc in proc.first..past {
         let Some(i) = image.fetch(pc) else {
             break;
         };
-        put_instruction(text, pc, i);
-        if let Some(row) = image.row(pc) {
-            put_row(alloc, text, image, &row);
-        }
+        put_instruction(text, pc, i)?;
+        put_row_at(alloc, text, image, pc)?;
     }
+    Ok(())
 }
 
-fn put_instruction(text: &mut Text, pc: u32, i: &Instr) {
-    text.number(pc as u64);
-    text.word(name_of(i.op).as_bytes());
-    text.number_word(i.a as u64);
-    text.number_word(i.b as u64);
-    text.number_word(i.c as u64);
-    text.signed_word(i.imm);
-    text.put(b"\n");
+fn put_instruction(text: &mut Vec<u8>, pc: u32, i: &Instr) -> Result<(), NoMemory>
+    ensures { OnOk result (text.new.items ≡ text.old.items ++ instruction_line pc i.now) }
+{
+    put_number(text, pc as u64)?;
+    put(text, b" ")?;
+    put(text, name_of(i.op).as_bytes())?;
+    put_number_word(text, i.a as u64)?;
+    put_number_word(text, i.b as u64)?;
+    put_number_word(text, i.c as u64)?;
+    put_signed_word(text, i.imm)?;
+    put(text, b"\n")
 }
 
-fn put_row(alloc: Global, text: &mut Text, image: &Decoded<'_>, row: &Row<'_>) {
-    text.put(b"point T");
-    put_tidy(alloc, text, image, row);
-    text.put(b" A");
-    put_places(text, row.argument_places());
-    text.put(b" R");
-    put_places(text, row.passed_places());
-    text.put(b" D");
-    for entry in row.derivations() {
-        put_derived(text, &entry);
+fn put_variables(text: &mut Vec<u8>, image: &Decoded<'_>) -> Result<(), NoMemory>
+    ensures { OnOk result (text.new.items ≡ text.old.items ++ flat_map variable_line (image_of image.now).variables) }
+{
+    'variables: for variable in image.image().variables() {
+        put_variable(text, &variable)?;
     }
-    text.put(b"\n");
+    Ok(())
 }
 
-/// The tidy places of a row, rising.
-fn put_tidy(alloc: Global, text: &mut Text, image: &Decoded<'_>, row: &Row<'_>) {
-    let Some(places) = image.tidy_places(row.number()) else {
-        return;
-    };
-    let Ok(mut sorted) = Vec::from_slice(alloc, places) else {
-        return text.fail();
-    };
-    if sorted.sort().is_err() {
-        return text.fail();
-    }
-    for place in &sorted {
-        text.put(b" ");
-        text.place(*place);
-    }
+fn put_variable(text: &mut Vec<u8>, variable: &VarView<'_>) -> Result<(), NoMemory>
+    ensures { OnOk result (text.new.items ≡ text.old.items ++ variable_line (variable_of variable.now)) }
+{
+    put_variable_words(text, variable)?;
+    put_word(text, variable)?;
+    put_spans(text, variable.spans())?;
+    put(text, b"\n")
 }
 
-fn put_places(text: &mut Text, places: Numbers<'_>) {
-    for place in places {
-        text.put(b" ");
-        text.place(place);
-    }
+/// What a variable is: its procedure, its name and its form.
+#[tactic(auto, unfolding(crate::specs::Texts::variable_words))]
+fn put_variable_words(text: &mut Vec<u8>, variable: &VarView<'_>) -> Result<(), NoMemory>
+    ensures { OnOk result (text.new.items ≡ text.old.items ++ variable_words (variable_of variable.now)) }
+{
+    put(text, b"var")?;
+    put_owner(text, variable)?;
+    put(text, b" ")?;
+    put(text, variable.name)?;
+    put_form(text, variable)
 }
 
-/// A derived word: its place, the place of the number that picks its way, and its ways.
-fn put_derived(text: &mut Text, entry: &Derivation<'_>) {
-    text.put(b" ");
-    text.place(entry.place_number());
-    if let Some(path) = entry.path_number() {
-        text.put(b"?");
-        text.place(path);
-    }
-    let mut between: &[u8] = b"=";
-    for way in entry.every_way() {
-        text.put(between);
-        put_way(text, &way);
-        between = b"|";
-    }
-}
-
-fn put_way(text: &mut Text, way: &WayView<'_>) {
-    for base in way.added {
-        text.put(b"+");
-        text.place(base);
-    }
-    for base in way.subtracted {
-        text.put(b"-");
-        text.place(base);
-    }
-}
-
-fn put_variable(text: &mut Text, variable: &VarView<'_>) {
-    text.put(b"var");
+/// The procedure of a variable.
+#[tactic(auto, unfolding(crate::specs::Texts::owner_word))]
+fn put_owner(text: &mut Vec<u8>, variable: &VarView<'_>) -> Result<(), NoMemory>
+    ensures { OnOk result (text.new.items ≡ text.old.items ++ owner_word (variable_of variable.now)) }
+{
     if variable.proc == u32::MAX {
-        text.word(b"global");
+        put(text, b" global")
     } else {
-        text.number_word(variable.proc as u64);
+        put_number_word(text, variable.proc as u64)
     }
-    text.word(variable.name);
-    text.word(if variable.form == 0 {
-        b"ordinal"
-    } else {
-        b"reference"
-    });
-    if variable.proc == u32::MAX {
-        text.put(b" g");
-        text.number(variable.word as u64);
+}
+
+#[tactic(auto, unfolding(crate::specs::Texts::form_word))]
+fn put_form(text: &mut Vec<u8>, variable: &VarView<'_>) -> Result<(), NoMemory>
+    ensures { OnOk result (text.new.items ≡ text.old.items ++ form_word (variable_of variable.now)) }
+{
+    put(
+        text,
+        if variable.form == 0 {
+            b" ordinal"
+        } else {
+            b" reference"
+        },
+    )
+}
+
+/// The word of a global.
+#[tactic(auto, unfolding(crate::specs::Texts::global_word))]
+fn put_word(text: &mut Vec<u8>, variable: &VarView<'_>) -> Result<(), NoMemory>
+    ensures { OnOk result (text.new.items ≡ text.old.items ++ global_word (variable_of variable.now)) }
+{
+    if variable.proc != u32::MAX {
+        return Ok(());
     }
-    for (instr, place) in variable.spans() {
-        text.number_word(instr as u64);
-        text.put(b":");
-        text.place(place);
+    put(text, b" g")?;
+    put_number(text, variable.word as u64)
+}
+
+/// Where a variable is, point by point.
+fn put_spans(text: &mut Vec<u8>, spans: Pairs<'_>) -> Result<(), NoMemory>
+    ensures { OnOk result (text.new.items ≡ text.old.items ++ flat_map span_word (pairs_of spans.entry)) }
+{
+    'spans: for (instr, place) in spans {
+        put_number_word(text, instr as u64)?;
+        put(text, b":")?;
+        put_place(text, place)?;
     }
-    text.put(b"\n");
+    Ok(())
 }
