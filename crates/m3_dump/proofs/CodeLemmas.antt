@@ -60,7 +60,7 @@ more_code p first pc i before row le done there r =
     let here : slice_get p.code (first + (pc - first)) ≡ Some i = subst (λ n. slice_get p.code n ≡ Some i) (sym at) (sym there) in
     let its : RowText p.tables (first + (pc - first)) row = subst (λ n. RowText p.tables n row) (sym at) r in
     subst (λ k. CodeText p first k (before ++ instruction_line pc i ++ row)) next
-      (subst (λ n. CodeText p first (suc (pc - first)) (before ++ instruction_line n i ++ row)) at (code (pc - first) i before row done here its))
+    (subst (λ n. CodeText p first (suc (pc - first)) (before ++ instruction_line n i ++ row)) at (code (pc - first) i before row done here its))
 
 -- an instruction that isn't there lies past the code
 pub past_code : (xs : List Instr) (n : ℕ) → None ≡ slice_get xs n → length xs ≤ n

@@ -63,7 +63,7 @@ entry_word e = codes " " ++ place_text e.location ++ path_text e.path ++ codes "
 abbrev pub row_line : List ℕ → Contents → List ℕ
 row_line tidy c =
     codes "point T" ++ flat_map place_word tidy ++ codes " A" ++ flat_map place_word c.arguments ++ codes " R" ++ flat_map place_word c.passed
-      ++ codes " D" ++ flat_map entry_word c.derived ++ codes "\n"
+    ++ codes " D" ++ flat_map entry_word c.derived ++ codes "\n"
 
 -- some places in rising order
 pub record InOrder (places rising : List ℕ) : Type 0 where

@@ -4,6 +4,7 @@ use Rattle.std.specs.Prelude.{Result, Ok, Err, IfOk, IsOk, IsErr, is_some, None,
 use Rattle.std.specs.Option.{option_map}
 use Rattle.m3_image.specs.Images.{read_of}
 use Rattle.m3_sections.specs.Parts.{Image}
+use Rattle.m3_dump.specs.Texts.{IsDump}
 use Rattle.m3_image_commands.specs.declared.answers.Answer.{Answer}
 use Rattle.m3_image_commands.specs.declared.answers.Refusal.{Refusal}
 use Rattle.m3_image_commands.specs.Statuses.{Shelving, Putting, StoresNothing, PutsNothing, Took, RefusesBy, Fetches, IsRead, IsGiven, image_cap, Only}
@@ -50,7 +51,8 @@ pub refuses_dump : (bytes : List ℕ) (out : Putting) (result : Result Answer Re
 refuses_dump bytes out (Ok a) h e p = subst (λ s. DumpAnswer bytes out s a.line.items) (sym h) (not_dumped a.line.items e p)
 refuses_dump bytes out (Err r) h e p = inl (h, p)
 
--- a text that was put
-pub dumps_text : (bytes text line : List ℕ) (out : Putting) (status : ℕ) → status ≡ 0 → line ≡ [] → IsOk (read_of bytes) → Took out.taken text → DumpAnswer bytes out status line
-dumps_text bytes text line out status s l ok took =
-    subst (λ x. DumpAnswer bytes out x line) (sym s) (subst (λ x. DumpAnswer bytes out 0 x) (sym l) (dumped text ok took))
+-- the text of an image that was put
+pub dumps_text : (bytes text line : List ℕ) (i : Image) (out : Putting) (status : ℕ) → status ≡ 0 → line ≡ [] → read_of bytes ≡ Ok i → IsDump i text → Took out.taken text
+    → DumpAnswer bytes out status line
+dumps_text bytes text line i out status s l same told took =
+    subst (λ x. DumpAnswer bytes out x line) (sym s) (subst (λ x. DumpAnswer bytes out 0 x) (sym l) (dumped i text same told took))

@@ -3,6 +3,7 @@ use Rattle.std.specs.Prelude.{ℕ, ◌≡◌, ◌⊎◌, Bool, Option, is_some, 
 use Rattle.m3_base.specs.Schedules.{IsFirstBadLine, HasTooMany}
 use Rattle.m3_image.specs.Images.{read_of}
 use Rattle.m3_sections.specs.Parts.{Image}
+use Rattle.m3_dump.specs.Texts.{IsDump}
 use Rattle.m3_image_commands.specs.declared.answers.Answer.{Answer}
 use Rattle.m3_image_commands.specs.declared.answers.Refusal.{Refusal}
 use Rattle.m3_image_commands.specs.Statuses.{Shelving, Putting, StoresNothing, PutsNothing, Took, IsRead, IsGiven, image_cap, Only, OfOptions, Cuts, Refuses}
@@ -51,10 +52,10 @@ pub record Runs (shelf : Shelving) (out : Putting) (name : List ℕ) (switches i
 
 -- ---- dump
 
--- the bytes are no image; or a text was put
+-- the bytes are no image; or the text of the image that they are was put
 pub data DumpAnswer (image : List ℕ) (out : Putting) : ℕ → List ℕ → Type 0 where
   not_dumped : (line : List ℕ) → IsErr (read_of image) → PutsNothing out → DumpAnswer image out 8 line
-  dumped : (text : List ℕ) → IsOk (read_of image) → Took out.taken text → DumpAnswer image out 0 []
+  dumped : (i : Image) (text : List ℕ) → read_of image ≡ Ok i → IsDump i text → Took out.taken text → DumpAnswer image out 0 []
 
 abbrev pub DumpsBytes : List ℕ → Putting → Result Answer Refusal → Type 0
 DumpsBytes image out result = MatchResult result (λ a. DumpAnswer image out a.status a.line.items) (Cuts out)

@@ -1,5 +1,6 @@
-ghost use Rattle.std.specs.Prelude.{◌≡◌, ℕ, List, [], IsOk};
+ghost use Rattle.std.specs.Prelude.{◌≡◌, ℕ, List, [], Ok};
 ghost use Rattle.m3_image.specs.Images.{read_of};
+ghost use Rattle.m3_image.specs.Views.{image_view};
 ghost use Rattle.m3_image_commands.specs.ImageCommands.{Dumps, DumpsBytes};
 
 use crate::answers::{Answer, Refusal};
@@ -16,7 +17,7 @@ fn dump_view<O: Sink>(
     image: ImageView<'_>,
     out: &mut O,
 ) -> Result<Answer, Refusal<'static>>
-    ensures { (bytes : List ℕ) → IsOk (read_of bytes) → DumpsBytes bytes (record {
+    ensures { (bytes : List ℕ) → read_of bytes ≡ Ok (image_view image.entry) → DumpsBytes bytes (record {
       taken = (O.taken out.old, O.taken out.new);
       faults = (O.faults out.old, O.faults out.new);
     }) result }

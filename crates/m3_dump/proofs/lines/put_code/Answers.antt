@@ -18,12 +18,14 @@ code-preserved c =
     let pc = c.code.pc in
     let i = c.in-Some.i.now in
     let done = c.code.invariant in
-    let row = c.in_ok-put_row_at.ensures in
-    (omega (arith, done.0), record {
-      part = done.1.part ++ instruction_line pc i ++ row.part;
-      added = joined c.args.text.now.items done.1.part (instruction_line pc i) row.part c.code.text.items c.put_instruction.new.text.items c.put_row_at.new.text.items done.1.added c.in_ok-put_instruction.ensures row.added;
-      is = more_code p first pc i done.1.part row.part done.0 done.1.is c.in-Some.ensures.value row.is;
-    })
+    let row = c.in_ok-put_row_at.ensures in (
+      omega (arith, done.0),
+      record {
+        part = done.1.part ++ instruction_line pc i ++ row.part;
+        added = joined c.args.text.now.items done.1.part (instruction_line pc i) row.part c.code.text.items c.put_instruction.new.text.items c.put_row_at.new.text.items done.1.added c.in_ok-put_instruction.ensures row.added;
+        is = more_code p first pc i done.1.part row.part done.0 done.1.is c.in-Some.ensures.value row.is;
+      },
+    )
 
 pub returns-in_default : goal.returns-in_default
 returns-in_default c =

@@ -30,7 +30,7 @@ procs-preserved c =
     let all : done.0 ++ proc ∷ rest ≡ all_procs = rw c.in-Some.ensures.steps at done.1 in
     let body = c.in_ok-put_code.ensures in
     let line : c.put_proc.new.text.items ≡ c.procs.text.items ++ proc_line (length done.0) proc =
-        subst (λ n. c.put_proc.new.text.items ≡ c.procs.text.items ++ proc_line n proc) done.2 c.in_ok-put_proc.ensures in (
+    subst (λ n. c.put_proc.new.text.items ≡ c.procs.text.items ++ proc_line n proc) done.2 c.in_ok-put_proc.ensures in (
       done.0 ++ proc ∷ [],
       subst (λ ps. ps ≡ all_procs) (sym (append_assoc done.0 (proc ∷ []) rest)) all,
       omega (arith, length-append done.0 (proc ∷ []), done.2),
@@ -38,4 +38,5 @@ procs-preserved c =
         part = done.3.part ++ proc_line (length done.0) proc ++ body.part;
         added = joined c.args.text.now.items done.3.part (proc_line (length done.0) proc) body.part c.procs.text.items c.put_proc.new.text.items c.put_code.new.text.items done.3.added line body.added;
         is = procs done.0 proc done.3.part body.part done.3.is body.is;
-      })
+      },
+    )

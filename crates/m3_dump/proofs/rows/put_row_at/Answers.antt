@@ -19,12 +19,12 @@ returns c =
     let ordered : InOrder (tidy_list tables number) tidy = subst (λ xs. InOrder xs tidy) told c.in_ok-tidy.ensures in
     let contents = contents_in (section_of_row c.in-Some.row) number in
     on_ok_weaker c.put_row.result
-      (λ same.
-        let line : c.put_row.new.text.items ≡ c.args.text.now.items ++ row_line tidy contents =
-            subst (λ xs. c.put_row.new.text.items ≡ c.args.text.now.items ++ row_line xs contents) c.deref.ensures.value same in
-        record {
-          part = row_line tidy (contents_in tables number);
-          added = subst (λ s. c.put_row.new.text.items ≡ c.args.text.now.items ++ row_line tidy (contents_in s number)) at.1 line;
-          is = row number tidy at.0 at.2 ordered;
-        })
-      c.put_row.ensures
+    (λ same.
+    let line : c.put_row.new.text.items ≡ c.args.text.now.items ++ row_line tidy contents =
+    subst (λ xs. c.put_row.new.text.items ≡ c.args.text.now.items ++ row_line xs contents) c.deref.ensures.value same in
+    record {
+      part = row_line tidy (contents_in tables number);
+      added = subst (λ s. c.put_row.new.text.items ≡ c.args.text.now.items ++ row_line tidy (contents_in s number)) at.1 line;
+      is = row number tidy at.0 at.2 ordered;
+    })
+    c.put_row.ensures
