@@ -1,9 +1,12 @@
-use Rattle.std.proofs.Common.{◌∙◌, ap, subst}
-use Rattle.std.specs.Prelude.{Ok}
-use Rattle.m3_image.specs.Images.{read_of}
+use Rattle.std.proofs.Common.{subst, sym}
+use Rattle.m3_image.specs.Views.{image_view}
 use Rattle.m3_dump.specs.Texts.{IsDump}
 use Rattle.m3_image_commands.proofs.RunLemmas.{dumps_text}
 use Rattle.m3_image_commands.proofs.dumping.dump_view.Goals as goal
 
 pub returns-in-Ok-put : goal.returns-in-Ok-put
-returns-in-Ok-put g c = λ bytes same. dumps_text bytes _ _ _ _ _ c.silent.ensures.status c.silent.ensures.line same ? c.in-Ok-put.ensures.ok
+returns-in-Ok-put g c =
+    let image = image_view c.args.image in
+    let whole : IsDump image c.in-Ok-dump.text.items = subst (λ i. IsDump i c.in-Ok-dump.text.items) c.in-Ok.ensures c.in-Ok-dump.ensures in
+    let told : IsDump image c.deref.result.now = subst (λ text. IsDump image text) (sym c.deref.ensures.value) whole in
+    λ bytes same. dumps_text bytes _ _ _ _ _ c.silent.ensures.status c.silent.ensures.line same told c.in-Ok-put.ensures.ok
