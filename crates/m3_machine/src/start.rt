@@ -6,6 +6,7 @@ use m3_decoded::Decoded;
 use m3_heap::{Closed, Store};
 use m3_image::ImageView;
 use m3_memory::{Memory, Outside};
+use m3_new_cells::Parts;
 use m3_roots::Room;
 use m3_threads::Threads;
 use std::alloc::Global;
@@ -79,7 +80,7 @@ impl<'a, S: Store> Machine<'a, S> {
         let room = Room::new(alloc, stack)?;
         let threads = Threads::new(alloc, threads, stack)?;
         let image = Decoded::of(alloc, image)?;
-        let mut machine = Machine {
+        let parts = Parts {
             image,
             input,
             memory: Memory {
@@ -101,6 +102,7 @@ impl<'a, S: Store> Machine<'a, S> {
             made: 0,
             stuck: false,
         };
+        let mut machine = Machine { parts };
         machine.stand();
         Ok(machine)
     }
