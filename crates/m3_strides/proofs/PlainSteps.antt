@@ -32,7 +32,7 @@ unfolding with-regs-in
 found-at regs n x t xs true e go h = ap (λ b. cond b (Some (regs_set regs x)) (find (is_named n) xs)) e ∙ ap (λ o. with-regs-in regs o) h
 found-at regs n x t xs false e go h = ap (λ b. cond b (Some x) (find (is_named n) (updated (regs_set regs) n xs))) e ∙ go h
 
-found-again : (regs : Regs) (n : ℕ) (ts : List Thread) (t : Thread) → find (is_named n) ts ≡ Some t → find (is_named n) (updated (regs_set regs) n ts) ≡ Some (regs_set regs t)
+pub found-again : (regs : Regs) (n : ℕ) (ts : List Thread) (t : Thread) → find (is_named n) ts ≡ Some t → find (is_named n) (updated (regs_set regs) n ts) ≡ Some (regs_set regs t)
 found-again regs n [] t h = cc
 found-again regs n (x ∷ xs) t h = found-at regs n x t xs (x.number == n) refl (found-again regs n xs t) h
 
@@ -40,7 +40,7 @@ twice-at : (old new : Regs) (n : ℕ) (x : Thread) (xs : List Thread) (b : Bool)
 twice-at old new n x xs true e go = ap (λ b. cond b (regs_set new x ∷ xs) (regs_set old x ∷ updated (regs_set new) n xs)) e
 twice-at old new n x xs false e go = ap (λ b. cond b (regs_set new x ∷ updated (regs_set old) n xs) (x ∷ updated (regs_set new) n (updated (regs_set old) n xs))) e ∙ ap (λ us. x ∷ us) go
 
-twice : (old new : Regs) (n : ℕ) (ts : List Thread) → updated (regs_set new) n (updated (regs_set old) n ts) ≡ updated (regs_set new) n ts
+pub twice : (old new : Regs) (n : ℕ) (ts : List Thread) → updated (regs_set new) n (updated (regs_set old) n ts) ≡ updated (regs_set new) n ts
 twice old new n [] = refl
 twice old new n (x ∷ xs) = twice-at old new n x xs (x.number == n) refl (twice old new n xs)
 
@@ -49,7 +49,7 @@ twice old new n (x ∷ xs) = twice-at old new n x xs (x.number == n) refl (twice
 with_regs_in : Everyone → ℕ → Regs → Everyone
 with_regs_in all n regs = record all { threads = updated (regs_set regs) n all.threads }
 
-others-threads : (all new_all : Everyone) (old new : Regs) (n : ℕ) → KeepsStacks all new_all → KeepsStacks (record all { threads = updated (regs_set new) n (updated (regs_set old) n all.threads) }) (record new_all { threads = updated (regs_set new) n new_all.threads })
+pub others-threads : (all new_all : Everyone) (old new : Regs) (n : ℕ) → KeepsStacks all new_all → KeepsStacks (record all { threads = updated (regs_set new) n (updated (regs_set old) n all.threads) }) (record new_all { threads = updated (regs_set new) n new_all.threads })
 unfolding with_regs_in
 others-threads all new_all old new n k = record {
   same_depths = k.same_depths;
@@ -91,7 +91,7 @@ goes-on p base t i old new all new_all g g' c c' heap heap' (Traps n) at-c found
 goes-on p base t i old new all new_all g g' c c' heap heap' NotPlain at-c found k done = cc
 
 -- it traps
-traps-at : (p : Program) (base : State) (t : Thread) (i : Instr) (old new : Regs) (all new_all : Everyone) (g g' c c' : List ℕ) (heap heap' : Heap) (e : Effect) (n : ℕ)
+pub traps-at : (p : Program) (base : State) (t : Thread) (i : Instr) (old new : Regs) (all new_all : Everyone) (g g' c c' : List ℕ) (heap heap' : Heap) (e : Effect) (n : ℕ)
     → p.constants ≡ c → KeepsMemory all new_all g g' c c' heap heap'
     → CarriesOut e (Trapped_at n) old (held all (outside_of g c heap.cells)) new (held new_all (outside_of g' c' heap'.cells))
     → KeepsOnTrap i (Trapped_at n) old (held all (outside_of g c heap.cells)) (held new_all (outside_of g' c' heap'.cells))
@@ -120,7 +120,7 @@ traps-at p base t i old new all new_all g g' c c' heap heap' (Traps m) n at-c k 
 traps-at p base t i old new all new_all g g' c c' heap heap' NotPlain n at-c k done kept = cc
 
 -- it isn't plain
-not-plain : (e : Effect) (old new : Regs) (m m' : Memory) → CarriesOut e Otherwise old m new m' → (e ≡ NotPlain) × (new ≡ old) × ((at : ℕ) → m' at ≡ m at)
+pub not-plain : (e : Effect) (old new : Regs) (m m' : Memory) → CarriesOut e Otherwise old m new m' → (e ≡ NotPlain) × (new ≡ old) × ((at : ℕ) → m' at ≡ m at)
 not-plain (Goes_to regs memory) old new m m' done = cc
 not-plain (Traps n) old new m m' done = cc
 not-plain NotPlain old new m m' done = (refl, done.1, done.2)

@@ -12,3 +12,4 @@ pub mod Steps
 pub mod Plain
 pub mod Points
 pub mod Runs
+pub mod Leading

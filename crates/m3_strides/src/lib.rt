@@ -6,6 +6,7 @@
 pub mod near;
 mod plain;
 mod progress;
+mod steps;
 mod strides;
 
 pub use near::{Place, Stack};
