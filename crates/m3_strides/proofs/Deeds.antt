@@ -1,7 +1,7 @@
 -- What single instructions of the running thread make of a state, from what the functions for them tell.
-use Rattle.std.specs.Prelude.{ℕ, ℤ, ◌≡◌, ◌≤◌, ◌<◌, ◌+◌, ◌/◌, ◌%◌, ◌^◌, ◌&&◌, ◌==◌, not, nat_lt, int_lt, Bool, true, false, if◌then◌else◌, List, [], ◌∷◌, length, Option, None, Some, Result, Ok, Err, slice_get}
+use Rattle.std.specs.Prelude.{ℕ, ℤ, ◌≡◌, ◌≤◌, ◌+◌, ◌/◌, ◌&&◌, ◌==◌, not, nat_lt, int_lt, Bool, true, false, if◌then◌else◌, List, [], length, Option, None, Some, Result, Ok, slice_get}
 use Rattle.std.specs.Int.{cast_unsigned, w32}
-use Rattle.std.proofs.Common.{refl, sym, ap, subst, ◌∙◌, arith, true≢false}
+use Rattle.std.proofs.Common.{refl, sym, ap, subst, ◌∙◌, true≢false}
 use Rattle.m3_base.specs.declared.outcomes.Outcome.{Outcome}
 use Rattle.m3_base.specs.declared.outcomes.Outcome.TheVariants.{Trap}
 use Rattle.m3_base.specs.Words.{add_words}
@@ -17,20 +17,20 @@ use Rattle.m3_isa.specs.declared.answers.Step.TheVariants.{Went, Trapped as Trap
 use Rattle.m3_heap.specs.Heap.{Heap, KeepsCounts}
 use Rattle.m3_heap.specs.Cells.{AddsCell, new_cell}
 use Rattle.m3_threads.specs.declared.status.Thread.{Thread}
-use Rattle.m3_threads.specs.All.{Everyone, updated, thread_named}
+use Rattle.m3_threads.specs.All.{Everyone, updated}
 use Rattle.m3_threads.specs.Spaces.{held, replaceable}
-use Rattle.m3_sections.specs.Parts.{Program, CellType}
+use Rattle.m3_sections.specs.Parts.{Program}
 use Rattle.m3_memory.specs.Addresses.{outside_of, settable_of}
 use Rattle.m3_memory.specs.Kept.{KeepsStacks, KeepsMemory}
 use Rattle.m3_strides.specs.declared.near.Stack.{Stack}
 use Rattle.m3_strides.specs.declared.near.Place.{Place}
 use Rattle.m3_strides.specs.State.{State, memory_of, can_set, regs_set, with_regs, executed, Becomes}
-use Rattle.m3_strides.specs.Act.{Act, Goes as Goes_with, Writes, bytes_of, using, finding}
-use Rattle.m3_strides.specs.Progress.{Progress, Goes, Ends, Follows, GoesOver}
-use Rattle.m3_strides.specs.Calls.{stack_of, place_of, come_to, entering, framed, calls, callee_by, callee_of, returning, returns, method_at, tells_method, kind_at, TellsType, Tests_type, number_before, method_called}
+use Rattle.m3_strides.specs.Act.{Act, Goes as Goes_with, Writes, using}
+use Rattle.m3_strides.specs.Progress.{Progress, Goes, Ends}
+use Rattle.m3_strides.specs.Calls.{stack_of, come_to, entering, framed, calls, callee_by, callee_of, returning, returns, method_at, tells_method, kind_at, TellsType}
 use Rattle.m3_strides.specs.Making.{Allocates, GivesCell, fixed_words, makes, at_once}
 use Rattle.m3_strides.specs.Steps.{Plainly, Acts, Acted, Does}
-use Rattle.m3_strides.specs.Plain.{seen}
+use Rattle.m3_strides.specs.State.{seen}
 use Rattle.m3_strides.specs.Leading.{Goes_on}
 use Rattle.m3_strides.proofs.PlainSteps.{twice, found-again, others-threads, goes-on, traps-at}
 

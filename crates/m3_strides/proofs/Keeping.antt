@@ -1,5 +1,4 @@
 -- What a memory keeps over some steps and some more.
-use Rattle.std.specs.Prelude.{ℕ}
 use Rattle.std.proofs.Common.{◌∙◌}
 use Rattle.m3_heap.specs.declared.store.Store.{Ghosts}
 use Rattle.m3_memory.specs.declared.memory.Memory.{Memory}

@@ -1,9 +1,8 @@
 -- A turn goes on over an instruction, and over a point where no choice is left.
-use Rattle.std.specs.Prelude.{ℕ, ◌≡◌, ◌≤◌, ◌<◌, ◌+◌, ◌-◌, ◌*◌, ◌^◌, ◌==◌, min, Bool, true, false, List, [], ◌∷◌, ◌++◌, length, find, map, Option, None, Some, slice_get, slice_index_or}
+use Rattle.std.specs.Prelude.{ℕ, ◌≡◌, ◌≤◌, ◌<◌, ◌+◌, ◌-◌, ◌*◌, ◌^◌, ◌==◌, Bool, true, false, List, [], ◌∷◌, ◌++◌, length, find, Option, None, Some, slice_get, slice_index_or}
 use Rattle.std.proofs.Common.{refl, sym, ap, subst, ◌∙◌, arith, cond, true≢false}
 use Rattle.std.proofs.lemmas.List.{append-nil}
 use Rattle.std.proofs.Math.ListN.{get_or-map}
-use Rattle.m3_base.specs.declared.outcomes.Entry.{Entry}
 use Rattle.m3_base.specs.declared.outcomes.Outcome.{Outcome}
 use Rattle.m3_isa.specs.Instructions.{is_point}
 use Rattle.m3_isa.specs.declared.instructions.Instr.{Instr}
@@ -12,20 +11,19 @@ use Rattle.m3_heap.specs.Heap.{Heap}
 use Rattle.m3_threads.specs.declared.status.Thread.{Thread}
 use Rattle.m3_threads.specs.declared.status.Status.{Status}
 use Rattle.m3_threads.specs.declared.status.Status.TheVariants.{Ready}
-use Rattle.m3_threads.specs.All.{Everyone, is_named, updated, thread_named, base_of, words_of}
+use Rattle.m3_threads.specs.All.{Everyone, is_named, updated, base_of, words_of}
 use Rattle.m3_threads.specs.Spaces.{held}
-use Rattle.m3_threads.specs.Going.{IsChoice, NoneGoes, may_go, may_go_if, may_go_at, status_at, with_status}
+use Rattle.m3_threads.specs.Going.{IsChoice, may_go, may_go_if, may_go_at, status_at, with_status}
 use Rattle.m3_sections.specs.Parts.{Program}
 use Rattle.m3_memory.specs.Kept.{KeepsStacks}
 use Rattle.m3_strides.specs.declared.near.Stack.{Stack}
 use Rattle.m3_strides.specs.State.{State, outside, regs_set, running_thread, with_all, executed, raised}
-use Rattle.m3_strides.specs.NewTexts.{standing_at}
 use Rattle.m3_strides.specs.Progress.{Progress, Goes, Ends}
 use Rattle.m3_strides.specs.Calls.{stack_of}
-use Rattle.m3_strides.specs.Points.{Chooses, Collected_if, left as uncollected, passed, runs_on, first_entry, later_entries}
+use Rattle.m3_strides.specs.Points.{Chooses, left as uncollected, passed, runs_on, first_entry, later_entries}
 use Rattle.m3_strides.specs.Steps.{Does}
-use Rattle.m3_strides.specs.Plain.{seen}
-use Rattle.m3_strides.specs.Runs.{Place, In_turn, At_point, Over, Settles, goes_on, comes_to_point, ended, Carries_out, Leads, moves, Moves, in_turn, at_point, then_at, turn_limit, stands}
+use Rattle.m3_strides.specs.State.{seen}
+use Rattle.m3_strides.specs.Runs.{Place, In_turn, At_point, Over, Settles, goes_on, comes_to_point, ended, Leads, moves, in_turn, at_point, then_at, turn_limit, stands}
 use Rattle.m3_strides.specs.Leading.{config, Track, LeadsTo, Went, Enters, Goes_on, Standing, further}
 use Rattle.m3_strides.proofs.PlainSteps.{found-again, found_still}
 

@@ -19,7 +19,7 @@ use Rattle.m3_sections.specs.Ranges.{containing}
 use Rattle.m3_decoded.specs.Ancestors.{IsSubtype}
 use Rattle.m3_strides.specs.declared.near.Stack.{Stack}
 use Rattle.m3_strides.specs.declared.near.Place.{Place}
-use Rattle.m3_strides.specs.Act.{Act, Goes, Writes, Stops, using, finding, or_trap}
+use Rattle.m3_strides.specs.Act.{Act, Goes, Writes, using, finding, or_trap}
 
 -- where a thread's stack is
 abbrev pub stack_of : Everyone → Thread → Stack

@@ -1,5 +1,5 @@
 -- What a collection makes of a state, as far as it is known: which words and cells it leaves is not told here.
-use Rattle.std.specs.Prelude.{ℕ, ◌≡◌, length}
+use Rattle.std.specs.Prelude.{◌≡◌, length}
 use Rattle.m3_sections.specs.Parts.{Program}
 use Rattle.m3_strides.specs.State.{State, raised}
 

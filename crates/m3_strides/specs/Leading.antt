@@ -16,14 +16,14 @@ use Rattle.m3_memory.specs.Kept.{KeepsStacks}
 use Rattle.m3_memory.specs.declared.memory.Memory.{Memory}
 use Rattle.m3_strides.specs.declared.near.Stack.{Stack}
 use Rattle.m3_strides.specs.declared.near.Place.{Place as At}
-use Rattle.m3_strides.specs.declared.plain.Halt.{Halt}
+use Rattle.m3_strides.specs.declared.halts.Halt.{Halt}
 use Rattle.m3_strides.specs.declared.strides.Fuel.{Fuel}
-use Rattle.m3_strides.specs.declared.plain.Halt.TheVariants.{Used, Trapped}
+use Rattle.m3_strides.specs.declared.halts.Halt.TheVariants.{Used, Trapped}
 use Rattle.m3_strides.specs.State.{State, regs_set, executed}
-use Rattle.m3_strides.specs.Progress.{Progress, Goes}
+use Rattle.m3_strides.specs.Progress.{Goes}
 use Rattle.m3_strides.specs.Calls.{stack_of}
 use Rattle.m3_strides.specs.Steps.{Does}
-use Rattle.m3_strides.specs.Plain.{seen}
+use Rattle.m3_strides.specs.State.{seen}
 use Rattle.m3_strides.specs.Runs.{Config, Place, Over, Settles, Carries_out, Leads}
 
 abbrev pub config : Place → List Entry → List ℕ → Config

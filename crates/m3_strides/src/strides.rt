@@ -12,10 +12,10 @@ ghost use Rattle.m3_decoded.specs.Ready.{image_of};
 ghost use Rattle.m3_strides.specs.State.{State};
 ghost use Rattle.m3_strides.specs.Runs.{Config};
 ghost use Rattle.m3_strides.specs.Leading.{Track, program_in, Goes_in, Stands_in, Halts_in, KeepsWhole, further, halted, Counts};
-ghost use Rattle.m3_strides.specs.declared.plain.Halt.TheVariants.{Other};
+ghost use Rattle.m3_strides.specs.declared.halts.Halt.TheVariants.{Left, Other};
 
 use crate::near::{Place, Stack, before, called_method, register};
-use crate::plain::Halt;
+use crate::halts::Halt;
 use crate::steps::{call_near, make_near, point_near, return_near, tell_near, test_near};
 use m3_decoded::Decoded;
 use m3_heap::Store;
@@ -225,7 +225,7 @@ fn go_plainly<S: Store>(
     requires operation { plain i.now.op ≡ true }
     requires some { fuel.old.floor < fuel.old.left }
     ensures counts { Counts fuel.old fuel.new }
-    ensures halts { IfSome result (λ halt. halt ≡ Other → ⊥) }
+    ensures halts { IfSome result (λ halt. (halt ≡ Other → ⊥) × (halt ≡ Left → ⊥)) }
     ensures keeps { KeepsWhole memory.old memory.new }
     ensures strides { (k : Track) → slice_get (image_of image.now).program.code at.old.pc ≡ Some i.now
         → Stands_in (image_of image.now).program k stack fuel.old.limit (fuel.old.left - fuel.old.floor) fuel.old.points r.old at.old memory.old
@@ -255,7 +255,7 @@ fn go_by<S: Store>(
     requires operation { is_point i.now.op ≡ false }
     requires some { fuel.old.floor < fuel.old.left }
     ensures counts { IfNone result (Counts fuel.old fuel.new) }
-    ensures halts { IfSome result (λ _. (fuel.new ≡ fuel.old) × (at.new ≡ at.old)) }
+    ensures halts { IfSome result (λ halt. (fuel.new ≡ fuel.old) × (at.new ≡ at.old) × (halt ≡ Other)) }
     ensures keeps { KeepsWhole memory.old memory.new }
     ensures strides { (k : Track) → slice_get (image_of image.now).program.code at.old.pc ≡ Some i.now
         → Stands_in (image_of image.now).program k stack fuel.old.limit (fuel.old.left - fuel.old.floor) fuel.old.points r.old at.old memory.old
@@ -288,7 +288,7 @@ fn go_past<S: Store>(
     requires operation { is_point i.now.op ≡ true }
     requires some { fuel.old.floor < fuel.old.left }
     ensures counts { IfNone result (Counts fuel.old fuel.new) }
-    ensures halts { IfSome result (λ _. (fuel.new ≡ fuel.old) × (at.new ≡ at.old)) }
+    ensures halts { IfSome result (λ halt. (fuel.new ≡ fuel.old) × (at.new ≡ at.old) × (halt ≡ Other)) }
     ensures keeps { KeepsWhole memory.old memory.new }
     ensures strides { (k : Track) → slice_get (image_of image.now).program.code at.old.pc ≡ Some i.now
         → Stands_in (image_of image.now).program k stack fuel.old.limit (fuel.old.left - fuel.old.floor) fuel.old.points r.old at.old memory.old
@@ -320,7 +320,7 @@ fn go_on<S: Store>(
     requires inside { at.old.pc < length (image_of image.now).program.code }
     requires some { fuel.old.floor < fuel.old.left }
     ensures counts { IfNone result (Counts fuel.old fuel.new) }
-    ensures halts { IfSome result (λ halt. (fuel.new.left ≤ fuel.old.left) × (fuel.new.points ≤ fuel.old.points) × (halt ≡ Other → (plain i.now.op ≡ false) × (at.new ≡ at.old))) }
+    ensures halts { IfSome result (λ halt. (fuel.new.left ≤ fuel.old.left) × (fuel.new.points ≤ fuel.old.points) × (halt ≡ Other → (plain i.now.op ≡ false) × (at.new ≡ at.old)) × (halt ≡ Left → ⊥)) }
     ensures keeps { KeepsWhole memory.old memory.new }
     ensures strides { (k : Track) → slice_get (image_of image.now).program.code at.old.pc ≡ Some i.now
         → Stands_in (image_of image.now).program k stack fuel.old.limit (fuel.old.left - fuel.old.floor) fuel.old.points r.old at.old memory.old
@@ -349,6 +349,7 @@ fn go<S: Store>(
 ) -> Halt
     ensures counts { (fuel.new.left ≤ fuel.old.left) × (fuel.new.points ≤ fuel.old.points) }
     ensures keeps { KeepsWhole memory.old memory.new }
+    ensures past { result ≡ Left → length (image_of image.now).program.code ≤ at.new.pc }
     ensures other { result ≡ Other → fuel.new.floor < fuel.new.left → (i : Instruction) → slice_get (image_of image.now).program.code at.new.pc ≡ Some i → plain i.op ≡ false }
     ensures strides { (k : Track) → Stands_in (image_of image.now).program k stack fuel.old.limit (fuel.old.left - fuel.old.floor) fuel.old.points r.old at.old memory.old
         → Halts_in (image_of image.now).program (further k (fuel.old.points - fuel.new.points) (fuel.old.left - fuel.new.left)) stack
@@ -381,6 +382,7 @@ pub fn stride<S: Store>(
     ensures limit { pace.new.limit ≡ pace.old.limit }
     ensures points { pace.new.points ≤ pace.old.points }
     ensures keeps { KeepsWhole memory.old memory.new }
+    ensures past { result.0 ≡ Left → length (image_of image.now).program.code ≤ at.new.pc }
     ensures other { result.0 ≡ Other → 1 ≤ pace.new.left → (i : Instruction) → slice_get (image_of image.now).program.code at.new.pc ≡ Some i → plain i.op ≡ false }
     ensures strides { (k : Track) → Stands_in (image_of image.now).program k stack pace.old.limit pace.old.left pace.old.points r.old at.old memory.old
         → Halts_in (image_of image.now).program (further k (pace.old.points - pace.new.points) result.1) stack

@@ -1,6 +1,5 @@
-use Rattle.std.proofs.Common.{sym, ◌∙◌, rules, arith}
+use Rattle.std.proofs.Common.{sym, ◌∙◌}
 use Rattle.m3_decoded.specs.Ready.{image_of}
-use Rattle.m3_isa.specs.Effects.{at_hand}
 use Rattle.m3_strides.specs.Leading.{program_in}
 use Rattle.m3_strides.proofs.Deeds.{goes_into}
 use Rattle.m3_strides.proofs.steps.call_near.Goals as goal

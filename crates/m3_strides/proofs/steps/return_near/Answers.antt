@@ -1,5 +1,5 @@
-use Rattle.std.specs.Prelude.{ℕ, List, length}
-use Rattle.std.proofs.Common.{sym, ap, ◌∙◌, rules}
+use Rattle.std.specs.Prelude.{List, length}
+use Rattle.std.proofs.Common.{sym, ap, ◌∙◌}
 use Rattle.m3_isa.specs.declared.instructions.Instr.{Instr}
 use Rattle.m3_decoded.specs.Ready.{image_of}
 use Rattle.m3_threads.specs.Spaces.{held}

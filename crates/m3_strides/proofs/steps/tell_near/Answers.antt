@@ -1,4 +1,4 @@
-use Rattle.std.proofs.Common.{sym, rules}
+use Rattle.std.proofs.Common.{rules}
 use Rattle.m3_decoded.specs.Ready.{image_of}
 use Rattle.m3_isa.specs.Effects.{at_hand}
 use Rattle.m3_strides.specs.Leading.{program_in}

@@ -1,4 +1,4 @@
-use Rattle.std.specs.Prelude.{ℕ, ◌≡◌, ◌≤◌, ◌-◌}
+use Rattle.std.specs.Prelude.{◌≤◌, ◌-◌}
 use Rattle.m3_decoded.specs.Ready.{image_of}
 use Rattle.m3_strides.specs.Leading.{Track, KeepsWhole, Stands_in, further}
 use Rattle.m3_strides.proofs.strides.go.Given as goal

@@ -1,11 +1,7 @@
-use Rattle.std.specs.Prelude.{ℕ, ◌≡◌, ◌≤◌, ◌-◌, List, length}
-use Rattle.std.proofs.Common.{refl, sym, ap, subst, ◌∙◌, arith}
-use Rattle.m3_isa.specs.Effects.{at_hand, effect}
+use Rattle.std.specs.Prelude.{◌≤◌, ◌-◌}
+use Rattle.std.proofs.Common.{refl, sym, subst, arith}
+use Rattle.m3_isa.specs.Effects.{at_hand}
 use Rattle.m3_decoded.specs.Ready.{image_of}
-use Rattle.m3_threads.specs.Spaces.{held, replaceable}
-use Rattle.m3_memory.specs.Addresses.{outside_of, settable_of}
-use Rattle.m3_strides.specs.State.{executed}
-use Rattle.m3_strides.specs.Plain.{seen}
 use Rattle.m3_strides.specs.Leading.{program_in, Standing, further}
 use Rattle.m3_strides.specs.declared.strides.Fuel.{Fuel}
 use Rattle.m3_strides.proofs.Leading.{stood_past, renumber}

@@ -1,12 +1,12 @@
-use Rattle.std.specs.Prelude.{ℕ, ◌≡◌, ◌-◌, List, length}
-use Rattle.std.proofs.Common.{refl, sym, ap, subst, ◌∙◌, arith}
+use Rattle.std.specs.Prelude.{◌-◌, length}
+use Rattle.std.proofs.Common.{refl, arith}
 use Rattle.m3_isa.specs.Effects.{at_hand, effect}
 use Rattle.m3_decoded.specs.Ready.{image_of}
 use Rattle.m3_threads.specs.Spaces.{held, replaceable}
 use Rattle.m3_memory.specs.Addresses.{outside_of, settable_of}
 use Rattle.m3_strides.specs.State.{executed}
-use Rattle.m3_strides.specs.Plain.{seen}
-use Rattle.m3_strides.specs.Leading.{program_in, Standing, further}
+use Rattle.m3_strides.specs.State.{seen}
+use Rattle.m3_strides.specs.Leading.{program_in}
 use Rattle.m3_base.specs.declared.outcomes.Outcome.TheVariants.{Trap}
 use Rattle.m3_strides.proofs.PlainSteps.{not-plain}
 use Rattle.m3_strides.proofs.Leading.{stood_on, stood_end, renumber, reover}
