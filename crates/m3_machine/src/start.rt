@@ -1,3 +1,4 @@
+ghost use Rattle.m3_image.specs.Views.{image_view};
 ghost use Rattle.std.specs.Prelude.{◌≡◌, ◌≤◌, ◌<◌, [], false, length, IfOk};
 
 use crate::machine::Machine;
@@ -23,7 +24,8 @@ fn first_globals(alloc: Global, words: u32) -> Result<Vec<u64>, NoMemory>
 }
 
 fn constants_of(alloc: Global, image: &ImageView<'_>) -> Result<Vec<u64>, NoMemory>
-    ensures { IfOk result (λ v. length v.items < 4294967296) }
+    ensures few { IfOk result (λ v. length v.items < 4294967296) }
+    ensures loaded { IfOk result (λ v. v.items ≡ (image_view image.now).program.constants) }
 {
     let mut constants = Vec::new(alloc);
     for n in 0..u32::MAX {

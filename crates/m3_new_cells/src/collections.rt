@@ -1,6 +1,9 @@
-ghost use Rattle.std.specs.Prelude.{◌≡◌, true, false, map, length};
+ghost use Rattle.std.specs.Prelude.{◌≡◌, ℕ, true, false, map, length};
+ghost use Rattle.std.specs.Bool.{OnTrue};
 ghost use Rattle.m3_sections.specs.Shapes.{shape_of};
 ghost use Rattle.m3_decoded.specs.Ready.{image_of};
+ghost use Rattle.m3_roots.specs.RoomSizes.{IsRoomFor};
+ghost use Rattle.m3_roots.specs.Collected.{Collected};
 ghost use Rattle.m3_strides.specs.Collecting.{Collects, Spoils};
 ghost use Rattle.m3_new_cells.specs.Seen.{state_of, program_of, rest_of};
 
@@ -25,6 +28,9 @@ fn collect_in<S: Store, L: Ledger>(
     requires fitting { S.fits heap.old.store (map shape_of (image_of image.now).program.types) }
     requires words { length globals.old ≡ (image_of image.now).program.globals.words }
     ensures fitting { result ≡ true → S.fits heap.new.store (map shape_of (image_of image.now).program.types) }
+    ensures collected { IsRoomFor threads.old.stack room.old
+        → OnTrue result (Collected (image_of image.now).program (record { all = threads.old; globals = globals.old; heap = S.heap heap.old.store }) (record { all = threads.new; globals = globals.new; heap = S.heap heap.new.store })) }
+    ensures room { (stack : ℕ) → IsRoomFor stack room.old → IsRoomFor stack room.new }
     ensures words { length globals.new ≡ length globals.old }
     ensures forks { threads.new.forks ≡ threads.old.forks }
     ensures waits { threads.new.waits ≡ threads.old.waits }
@@ -43,6 +49,9 @@ fn collect_outside<S: Store, L: Ledger>(
     requires fitting { S.fits outside.old.heap.store (map shape_of (image_of image.now).program.types) }
     requires words { length outside.old.globals.items ≡ (image_of image.now).program.globals.words }
     ensures fitting { result ≡ true → S.fits outside.new.heap.store (map shape_of (image_of image.now).program.types) }
+    ensures collected { IsRoomFor threads.old.stack room.old
+        → OnTrue result (Collected (image_of image.now).program (record { all = threads.old; globals = outside.old.globals.items; heap = S.heap outside.old.heap.store }) (record { all = threads.new; globals = outside.new.globals.items; heap = S.heap outside.new.heap.store })) }
+    ensures room { (stack : ℕ) → IsRoomFor stack room.old → IsRoomFor stack room.new }
     ensures words { length outside.new.globals.items ≡ length outside.old.globals.items }
     ensures constants { outside.new.constants.items ≡ outside.old.constants.items }
     ensures forks { threads.new.forks ≡ threads.old.forks }
@@ -72,6 +81,9 @@ fn collect_by<S: Store, L: Ledger>(
     requires fitting { ∥ S.fits outside.old.heap.store (map shape_of (image_of image.now).program.types) ∥₁ }
     requires words { length outside.old.globals.items ≡ (image_of image.now).program.globals.words }
     ensures fitting { result ≡ true → ∥ S.fits outside.new.heap.store (map shape_of (image_of image.now).program.types) ∥₁ }
+    ensures collected { IsRoomFor threads.old.stack room.old
+        → OnTrue result (Collected (image_of image.now).program (record { all = threads.old; globals = outside.old.globals.items; heap = S.heap outside.old.heap.store }) (record { all = threads.new; globals = outside.new.globals.items; heap = S.heap outside.new.heap.store })) }
+    ensures room { (stack : ℕ) → IsRoomFor stack room.old → IsRoomFor stack room.new }
     ensures words { length outside.new.globals.items ≡ length outside.old.globals.items }
     ensures constants { outside.new.constants.items ≡ outside.old.constants.items }
     ensures forks { threads.new.forks ≡ threads.old.forks }
@@ -90,6 +102,9 @@ fn collect_now<S: Store>(
     requires fitting { ∥ S.fits outside.old.heap.store (map shape_of (image_of image.now).program.types) ∥₁ }
     requires words { length outside.old.globals.items ≡ (image_of image.now).program.globals.words }
     ensures fitting { result ≡ true → ∥ S.fits outside.new.heap.store (map shape_of (image_of image.now).program.types) ∥₁ }
+    ensures collected { IsRoomFor threads.old.stack room.old
+        → OnTrue result (Collected (image_of image.now).program (record { all = threads.old; globals = outside.old.globals.items; heap = S.heap outside.old.heap.store }) (record { all = threads.new; globals = outside.new.globals.items; heap = S.heap outside.new.heap.store })) }
+    ensures room { (stack : ℕ) → IsRoomFor stack room.old → IsRoomFor stack room.new }
     ensures words { length outside.new.globals.items ≡ length outside.old.globals.items }
     ensures constants { outside.new.constants.items ≡ outside.old.constants.items }
     ensures forks { threads.new.forks ≡ threads.old.forks }
@@ -106,7 +121,7 @@ impl<'a, S: Store> Parts<'a, S> {
         ensures good { result ≡ true → Collects (program_of self.old) (state_of self.old) (state_of self.new) }
         ensures bad { result ≡ false → Spoils (state_of self.old) (state_of self.new) }
     {
-        if self.stuck {
+        if self.stuck || self.depth() != Some(self.stack) {
             return false;
         }
         let done = collect_now(

@@ -26,7 +26,7 @@ use m3_strides::Progress;
 
 impl<'a, S: Store> Parts<'a, S> {
     /// A thread, if it is there, stands at an instruction.
-    fn stand_at(&mut self, thread: u64, i: Instr)
+    pub fn stand_at(&mut self, thread: u64, i: Instr)
         requires { IsInstruction i }
         ensures rest { rest_of self.new ≡ rest_of self.old }
         ensures stands { self.old.made < 2 ^ 62 → state_of self.new ≡ with_all (state_of self.old) (standing_at i thread (state_of self.old).all) }

@@ -1,6 +1,7 @@
 ghost use Rattle.std.specs.Prelude.{◌≡◌, ◌≤◌, ◌+◌, false, map, length};
 ghost use Rattle.m3_sections.specs.Shapes.{shape_of};
 ghost use Rattle.m3_decoded.specs.Ready.{image_of};
+ghost use Rattle.m3_roots.specs.RoomSizes.{IsRoomFor};
 
 use m3_decoded::Decoded;
 use m3_heap::Store;
@@ -29,5 +30,7 @@ pub struct Parts<'a, S: Store> {
     pub ghost small: { stack ≤ 1048576 },
     pub ghost counted: { memory.threads.forks + memory.threads.waits ≤ made },
     pub ghost words: { length memory.outside.globals.items ≡ (image_of image).program.globals.words },
+    pub ghost loaded: { memory.outside.constants.items ≡ (image_of image).program.constants },
+    pub ghost room: { IsRoomFor stack room },
     pub ghost fitting: { stuck ≡ false → ∥ S.fits memory.outside.heap.store (map shape_of (image_of image).program.types) ∥₁ },
 }

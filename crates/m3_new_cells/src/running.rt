@@ -1,5 +1,5 @@
 //! The thread that runs: its registers, and its words.
-ghost use Rattle.std.specs.Prelude.{◌≡◌, ◌<◌, ◌≤◌, ◌+◌, ◌^◌, ℕ, true, false, Some, IsSome};
+ghost use Rattle.std.specs.Prelude.{◌≡◌, ◌<◌, ◌≤◌, ◌+◌, ◌^◌, ℕ, true, false, Some, IfSome, IsSome};
 ghost use Rattle.m3_isa.specs.Memory.{put};
 ghost use Rattle.m3_isa.specs.Effects.{reg, next, answered, jumped};
 ghost use Rattle.m3_threads.specs.All.{thread_named};
@@ -66,6 +66,19 @@ impl<'a, S: Store> Parts<'a, S> {
             None => 0,
         };
         Stack { base, words }
+    }
+
+    /// How many words the stack of a thread has. None exactly where no thread is there.
+    pub fn depth(&self) -> Option<u64>
+        ensures same { IfSome result (λ words. words ≡ self.now.memory.threads.stack) }
+        ensures small { IfSome result (λ words. words ≤ 1048576) }
+        ensures some { (t : Thread) → Running self.now t → IsSome result }
+    {
+        let first = self.memory.threads.number(0)?;
+        match self.memory.threads.words(first) {
+            Some(words) => Some(words.len() as u64),
+            None => None,
+        }
     }
 
     /// Gives the running thread other registers.

@@ -203,13 +203,13 @@ stood_past p k stack limit left points i regs to all new_all g g' heap heap' st 
     let none : k.entries ≡ [] = st.free some in
     let there = found-again regs k.base.running all.threads k.thread st.running in
     let few : k.base.points < k.allowed = omega (arith, st.few, some) in
-    let enters = enters_again p k u (regs_set regs k.thread) i (limit - left) none st.went there next point free st.ready few st.small in
+    let enters = enters_again p k u (regs_set regs k.thread) i (limit - left) none st.went there next point free (st.ready some) few st.small in
     let v = seen (executed one) to new_all g' heap' in
     let over : Went p k v 1 =
     leads_silently p k (seen one regs all g heap) (regs_set regs k.thread) i 1 (Goes v) enters there next (goes.does k.input one k.thread st.running st.place) in
     record {
       running = found_still all new_all k.base.running k.thread goes.keeps st.running;
-      ready = st.ready;
+      ready = λ h. st.ready some;
       place = stack_stays all new_all k.thread goes.keeps ∙ st.place;
       turn = turn-stays p all new_all goes.keeps ∙ st.turn;
       within = omega arith;

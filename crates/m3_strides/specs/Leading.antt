@@ -69,7 +69,7 @@ pub record Goes_on (p : Program) (stack : Stack) (i : Instr) (regs : Regs) (all 
 -- turn may have, and so many points may be passed without a choice.
 pub record Standing (p : Program) (k : Track) (stack : Stack) (limit left points : ℕ) (regs : Regs) (all : Everyone) (globals : List ℕ) (heap : Heap) : Type 0 where
   pub running : thread_named all k.base.running ≡ Some k.thread
-  pub ready : k.thread.status ≡ Ready
+  pub ready : 1 ≤ points → k.thread.status ≡ Ready
   pub place : stack_of all k.thread ≡ stack
   pub turn : (all.stack + 1) * length p.code ≡ limit
   pub within : left ≤ limit
@@ -120,3 +120,4 @@ pub record Counts (old new : Fuel) : Type 0 where
   pub limit : new.limit ≡ old.limit
   pub left : new.left + 1 ≡ old.left
   pub points : new.points ≤ old.points
+  pub floor : new.points ≡ old.points → new.floor ≡ old.floor

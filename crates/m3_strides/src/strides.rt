@@ -320,7 +320,7 @@ fn go_on<S: Store>(
     requires inside { at.old.pc < length (image_of image.now).program.code }
     requires some { fuel.old.floor < fuel.old.left }
     ensures counts { IfNone result (Counts fuel.old fuel.new) }
-    ensures halts { IfSome result (λ halt. (fuel.new.left ≤ fuel.old.left) × (fuel.new.points ≤ fuel.old.points) × (halt ≡ Other → (plain i.now.op ≡ false) × (at.new ≡ at.old)) × (halt ≡ Left → ⊥)) }
+    ensures halts { IfSome result (λ halt. (fuel.new.left ≤ fuel.old.left) × (fuel.new.points ≤ fuel.old.points) × (fuel.new.points ≡ fuel.old.points → fuel.new.floor ≡ fuel.old.floor) × (halt ≡ Other → (plain i.now.op ≡ false) × (at.new ≡ at.old)) × (halt ≡ Left → ⊥)) }
     ensures keeps { KeepsWhole memory.old memory.new }
     ensures strides { (k : Track) → slice_get (image_of image.now).program.code at.old.pc ≡ Some i.now
         → Stands_in (image_of image.now).program k stack fuel.old.limit (fuel.old.left - fuel.old.floor) fuel.old.points r.old at.old memory.old
@@ -347,7 +347,7 @@ fn go<S: Store>(
     stack: Stack,
     fuel: &mut Fuel,
 ) -> Halt
-    ensures counts { (fuel.new.left ≤ fuel.old.left) × (fuel.new.points ≤ fuel.old.points) }
+    ensures counts { (fuel.new.left ≤ fuel.old.left) × (fuel.new.points ≤ fuel.old.points) × (fuel.new.points ≡ fuel.old.points → fuel.new.floor ≡ fuel.old.floor) }
     ensures keeps { KeepsWhole memory.old memory.new }
     ensures past { result ≡ Left → length (image_of image.now).program.code ≤ at.new.pc }
     ensures other { result ≡ Other → fuel.new.floor < fuel.new.left → (i : Instruction) → slice_get (image_of image.now).program.code at.new.pc ≡ Some i → plain i.op ≡ false }
@@ -381,6 +381,8 @@ pub fn stride<S: Store>(
     requires { pace.old.left ≤ 4611686018427387904 }
     ensures limit { pace.new.limit ≡ pace.old.limit }
     ensures points { pace.new.points ≤ pace.old.points }
+    ensures left { pace.new.points ≡ pace.old.points → pace.new.left ≤ pace.old.left }
+    ensures few { result.1 ≤ 4611686018427387904 }
     ensures keeps { KeepsWhole memory.old memory.new }
     ensures past { result.0 ≡ Left → length (image_of image.now).program.code ≤ at.new.pc }
     ensures other { result.0 ≡ Other → 1 ≤ pace.new.left → (i : Instruction) → slice_get (image_of image.now).program.code at.new.pc ≡ Some i → plain i.op ≡ false }

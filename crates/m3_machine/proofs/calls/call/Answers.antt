@@ -21,6 +21,8 @@ invariant_of-parts g c =
       small = m.small;
       counted = still-counted m.memory.threads c.enter.new.memory.threads m.made kept.0.stacks m.counted;
       words = kept.0.outside.count ∙ m.words;
+      loaded = kept.0.outside.same_constants ∙ m.loaded;
+      room = m.room;
       fitting = λ e. ∥∥₁_elim (m.fitting e) ∥∥₁_prop (λ f. ∣ kept.1 _ f ∣₁);
     }
 

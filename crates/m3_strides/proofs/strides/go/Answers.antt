@@ -34,13 +34,17 @@ steps-preserved g c =
     let counts = c.in_default.ensures.counts in (
       omega (arith, inv.0, counts.left),
       omega (arith, inv.1, counts.points),
-      keeps_more c.args.memory.now c.steps.memory n.memory inv.2 c.go_on.ensures.keeps,
+      λ same.
+          let mid-same : mid.points ≡ first.points = omega (arith, same, inv.1, counts.points) in
+          let new-same : n.fuel.points ≡ mid.points = omega (arith, same, inv.1, counts.points) in
+          counts.floor new-same ∙ inv.2 mid-same,
+      keeps_more c.args.memory.now c.steps.memory n.memory inv.3 c.go_on.ensures.keeps,
       λ k st.
           let next = ap (λ (code : List Instr). slice_get code c.steps.at.pc) (sym c.code-code.ensures.value) ∙ slice_get-get_or c.code-code.result.now c.steps.at.pc _ within in
           subst (λ (x : Track). Stands_in p x c.args.stack n.fuel.limit (n.fuel.left - n.fuel.floor) n.fuel.points n.r n.at n.memory)
           (further_on k (first.points - mid.points) (first.left - mid.left) (mid.points - n.fuel.points) (mid.left - n.fuel.left) (first.points - n.fuel.points) (first.left - n.fuel.left)
           (omega (arith, inv.1, counts.points)) (omega (arith, inv.0, counts.left)))
-          (c.in_default.ensures.strides (further k (first.points - mid.points) (first.left - mid.left)) next (inv.3 k st)),
+          (c.in_default.ensures.strides (further k (first.points - mid.points) (first.left - mid.left)) next (inv.4 k st)),
     )
 
 pub returns-in-Some-clause-strides : goal.returns-in-Some-clause-strides
@@ -56,12 +60,12 @@ returns-in-Some-clause-strides g c = λ k st.
     subst (λ (x : Track). Halts_in p x c.args.stack n.fuel.limit (n.fuel.left - n.fuel.floor) n.fuel.points n.r n.at n.memory c.in-Some.halt)
     (further_on k (first.points - mid.points) (first.left - mid.left) (mid.points - n.fuel.points) (mid.left - n.fuel.left) (first.points - n.fuel.points) (first.left - n.fuel.left)
     (omega (arith, inv.1, halts.1)) (omega (arith, inv.0, halts.0)))
-    (c.in-Some.ensures.strides (further k (first.points - mid.points) (first.left - mid.left)) next (inv.3 k st))
+    (c.in-Some.ensures.strides (further k (first.points - mid.points) (first.left - mid.left)) next (inv.4 k st))
 
 pub returns-in-Some-clause-other : goal.returns-in-Some-clause-other
 returns-in-Some-clause-other g c = λ is some i next.
     let within : c.steps.at.pc < length c.code-code.result.now = omega arith in
-    let halts = c.in-Some.ensures.halts.2 is in
+    let halts = c.in-Some.ensures.halts.3 is in
     let here = ap (λ (code : List Instr). slice_get code c.steps.at.pc) (sym c.code-code.ensures.value) ∙ slice_get-get_or c.code-code.result.now c.steps.at.pc _ within in
     let same = ap (λ (at : Place). slice_get (image_of c.args.image.now).program.code at.pc) (sym halts.1) ∙ next in
     subst (λ (x : Instr). is_plain x.op ≡ false) (one-is _ i (sym here ∙ same)) halts.0

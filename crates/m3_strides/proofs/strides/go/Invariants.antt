@@ -1,4 +1,4 @@
-use Rattle.std.specs.Prelude.{◌≤◌, ◌-◌}
+use Rattle.std.specs.Prelude.{◌≡◌, ◌≤◌, ◌-◌}
 use Rattle.m3_decoded.specs.Ready.{image_of}
 use Rattle.m3_strides.specs.Leading.{Track, KeepsWhole, Stands_in, further}
 use Rattle.m3_strides.proofs.strides.go.Given as goal
@@ -11,6 +11,7 @@ invariant-steps g l =
     let now = l.fuel in
     (now.left ≤ first.left)
     × (now.points ≤ first.points)
+    × (now.points ≡ first.points → now.floor ≡ first.floor)
     × KeepsWhole l.initial.memory l.memory
     × ((k : Track) → Stands_in p k l.stack first.limit (first.left - first.floor) first.points l.initial.r l.initial.at l.initial.memory
     → Stands_in p (further k (first.points - now.points) (first.left - now.left)) l.stack now.limit (now.left - now.floor) now.points l.r l.at l.memory)

@@ -9,6 +9,8 @@ invariant_of-self g c =
       small = m.small;
       counted = m.counted;
       words = c.allocate.ensures.words ∙ m.words;
+      loaded = c.allocate.ensures.constants ∙ m.loaded;
+      room = m.room;
       fitting = λ e. ∥∥₁_elim (m.fitting e) ∥∥₁_prop (λ f. ∣ c.allocate.ensures.fitting _ f ∣₁);
     }
 
