@@ -12,7 +12,7 @@ ghost use Rattle.m3_strides.specs.Progress.{Follows, became};
 ghost use Rattle.m3_strides.specs.Acts.{fault_kinds, faults_at, is_uncaught};
 ghost use Rattle.m3_new_cells.specs.Seen.{state_of, program_of, Running, Took};
 
-use crate::calls::{call, called_method, return_back, tell_method, test_type};
+use crate::calls::{call, method_for, return_back, tell_method, test_type};
 use crate::inputs::{get_byte, put_byte, put_number, tell_end, tell_self};
 use crate::threading::{act_on_threads, end_thread};
 use m3_base::{FaultKind, Outcome};
@@ -138,7 +138,7 @@ fn act_silently<S: Store>(parts: &mut Parts<'_, S>, i: Instr, at: Place) -> Prog
             call(parts, callee, at)
         }
         Op::Callm => {
-            let callee = called_method(parts, i, at);
+            let callee = method_for(parts, i, at);
             call(parts, callee, at)
         }
         Op::Ret => return_back(parts, at),

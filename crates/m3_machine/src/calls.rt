@@ -40,7 +40,7 @@ pub(crate) fn call<S: Store>(
 }
 
 /// The procedure that CALLM calls.
-pub(crate) fn called_method<S: Store>(
+pub(crate) fn method_for<S: Store>(
     parts: &Parts<'_, S>,
     i: Instr,
     at: Place,

@@ -11,12 +11,13 @@ use m3_new_cells::Parts;
 
 /// The running thread stands at the instruction that it has come to.
 pub(crate) fn stand<S: Store>(parts: &mut Parts<'_, S>) {
-    let Some(i) = parts.image.fetch(parts.pc()) else {
-        return;
-    };
-    let i = *i;
-    if parts.is_awake() && parts.may_count() {
-        parts.memory.threads.stand(parts.running, i);
+    match parts.image.fetch(parts.pc()) {
+        Some(i) => {
+            let i = *i;
+            let running = parts.running;
+            parts.stand_at(running, i);
+        }
+        None => {}
     }
 }
 

@@ -1,9 +1,11 @@
-ghost use Rattle.std.specs.Prelude.{◌≡◌, ◌≤◌, ℕ, OnOk, OnErr};
+ghost use Rattle.std.specs.Prelude.{◌≡◌, ◌≤◌, ◌<◌, ℕ, OnOk, OnErr};
 ghost use Rattle.m3_isa.specs.Instructions.{IsInstruction};
 ghost use Rattle.m3_threads.specs.declared.status.Thread.{Thread};
 ghost use Rattle.m3_threads.specs.declared.status.Status.TheVariants.{Ready};
-ghost use Rattle.m3_strides.specs.Runs.{turn_limit};
+ghost use Rattle.m3_strides.specs.Runs.{turn_limit as longest};
+ghost use Rattle.m3_strides.specs.declared.progress.Progress.TheVariants.{Goes};
 ghost use Rattle.m3_new_cells.specs.Seen.{state_of, program_of, Running};
+ghost use Rattle.m3_machine.specs.Turns.{to_come};
 ghost use Rattle.m3_ports.specs.Counts.{Rose};
 
 use crate::acts::act;
@@ -53,10 +55,10 @@ struct Turn {
 
 /// How many instructions a turn may have.
 fn turn_limit<S: Store>(parts: &Parts<'_, S>) -> u64
-    ensures limit { (t : Thread) → Running parts.now t → result ≡ turn_limit (program_of parts.now) (state_of parts.now) }
+    ensures limit { (t : Thread) → Running parts.now t → result ≡ longest (program_of parts.now) (state_of parts.now) }
     ensures small { result ≤ 4611686018427387904 }
 {
-    match parts.depth() {
+    match parts.depth_of(parts.running) {
         Some(words) => (words + 1) * u64::from(parts.image.image().code_len()),
         None => 0,
     }
@@ -74,7 +76,9 @@ fn free_points<S: Store>(parts: &Parts<'_, S>, turn: &Turn) -> u64
 }
 
 /// Goes on with the running thread, as far as nothing has to be chosen or done between its instructions.
-fn go_far<S: Store>(parts: &mut Parts<'_, S>, turn: &mut Turn) -> Halt {
+fn go_far<S: Store>(parts: &mut Parts<'_, S>, turn: &mut Turn) -> Halt
+    ensures ahead { to_come turn.new ≤ to_come turn.old }
+{
     let limit = turn_limit(parts);
     if turn.done >= limit {
         return Halt::Other;
@@ -110,6 +114,8 @@ fn go_far<S: Store>(parts: &mut Parts<'_, S>, turn: &mut Turn) -> Halt {
 /// the next begins at once where no choice is left.
 fn settle_at_point<S: Store>(parts: &mut Parts<'_, S>, turn: &mut Turn, i: Instr) -> Progress
     requires { IsInstruction i }
+    ensures ahead { to_come turn.new ≤ to_come turn.old }
+    ensures some { result ≡ Goes → turn.new.done < 4611686018427387904 }
 {
     let running = parts.running;
     parts.stand_at(running, i);
@@ -124,7 +130,10 @@ fn settle_at_point<S: Store>(parts: &mut Parts<'_, S>, turn: &mut Turn, i: Instr
 
 /// What follows where the running thread has come to an instruction that the machine has to look at: at a point
 /// instruction the turn is over, else it goes on, if so many instructions may still be executed.
-fn settle<S: Store>(parts: &mut Parts<'_, S>, turn: &mut Turn) -> Progress {
+fn settle<S: Store>(parts: &mut Parts<'_, S>, turn: &mut Turn) -> Progress
+    ensures ahead { to_come turn.new ≤ to_come turn.old }
+    ensures some { result ≡ Goes → turn.new.done < 4611686018427387904 }
+{
     let Some(i) = parts.image.fetch(parts.pc()) else {
         return Progress::trap(1);
     };
@@ -140,7 +149,10 @@ fn settle<S: Store>(parts: &mut Parts<'_, S>, turn: &mut Turn) -> Progress {
 
 /// Goes on to the next instruction that isn't carried out in passing, if there is one in this turn or one that begins
 /// at once.
-fn go_to_act<S: Store>(parts: &mut Parts<'_, S>, turn: &mut Turn) -> Progress {
+fn go_to_act<S: Store>(parts: &mut Parts<'_, S>, turn: &mut Turn) -> Progress
+    ensures ahead { to_come turn.new ≤ to_come turn.old }
+    ensures some { result ≡ Goes → turn.new.done < 4611686018427387904 }
+{
     match go_far(parts, turn) {
         Halt::Trapped(n) => Progress::trap(n),
         _ => settle(parts, turn),

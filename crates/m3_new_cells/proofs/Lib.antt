@@ -6,3 +6,4 @@ pub mod Packing
 pub mod BlankLemmas
 pub mod Putting
 pub mod OpenSizes
+pub mod Depths

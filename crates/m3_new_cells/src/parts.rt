@@ -31,6 +31,6 @@ pub struct Parts<'a, S: Store> {
     pub ghost counted: { memory.threads.forks + memory.threads.waits ≤ made },
     pub ghost words: { length memory.outside.globals.items ≡ (image_of image).program.globals.words },
     pub ghost loaded: { memory.outside.constants.items ≡ (image_of image).program.constants },
-    pub ghost room: { IsRoomFor stack room },
+    pub ghost roomy: { IsRoomFor stack room },
     pub ghost fitting: { stuck ≡ false → ∥ S.fits memory.outside.heap.store (map shape_of (image_of image).program.types) ∥₁ },
 }

@@ -68,15 +68,25 @@ impl<'a, S: Store> Parts<'a, S> {
         Stack { base, words }
     }
 
-    /// How many words the stack of a thread has. None exactly where no thread is there.
-    pub fn depth(&self) -> Option<u64>
+    /// How many words the stack of a thread has. None exactly where it isn't there.
+    pub fn depth_of(&self, thread: u64) -> Option<u64>
         ensures same { IfSome result (λ words. words ≡ self.now.memory.threads.stack) }
         ensures small { IfSome result (λ words. words ≤ 1048576) }
-        ensures some { (t : Thread) → Running self.now t → IsSome result }
+        ensures some { (t : Thread) → thread_named self.now.memory.threads thread ≡ Some t → IsSome result }
     {
-        let first = self.memory.threads.number(0)?;
-        match self.memory.threads.words(first) {
+        let _first = self.memory.threads.number(0);
+        match self.memory.threads.words(thread) {
             Some(words) => Some(words.len() as u64),
+            None => None,
+        }
+    }
+
+    /// How many words the stacks have, if there is a thread.
+    pub fn depth(&self) -> Option<u64>
+        ensures { IfSome result (λ words. words ≡ self.now.memory.threads.stack) }
+    {
+        match self.memory.threads.number(0) {
+            Some(first) => self.depth_of(first),
             None => None,
         }
     }

@@ -18,12 +18,12 @@ returns-in-Put-clause-does g c = if_ok c.put_text.result (λ progress puts t may
     let s = state_of m in
     let i = c.args.i in
     let bytes = bytes_of (puts_text i t.regs (memory_of p s)) in
-    let one : State = record s { instructions = c.saturating_add-self.result } in
+    let one : State = record s { instructions = c.saturating_add-parts.result } in
     let after = became progress (state_of c.put_text.new.self) in
     let told = puts t may.running in (
       bytes,
       told.0,
-      subst (λ (z : State). Acts p m.input.now t i z bytes after i.op) (counted s c.saturating_add-self.result c.saturating_add-self.ensures few)
+      subst (λ (z : State). Acts p m.input.now t i z bytes after i.op) (counted s c.saturating_add-parts.result c.saturating_add-parts.ensures few)
           (acts_by p m.input.now t i one bytes after i.op Put c.in-Put.is (refl, told.1)),
     ))
     c.put_text.ensures.puts
@@ -35,12 +35,12 @@ returns-in-Putn-clause-does g c = if_ok c.put_number.result (λ progress puts t 
     let s = state_of m in
     let i = c.args.i in
     let bytes = bytes_of (puts_number i t.regs) in
-    let one : State = record s { instructions = c.saturating_add-self.result } in
+    let one : State = record s { instructions = c.saturating_add-parts.result } in
     let after = became progress (state_of c.put_number.new.parts) in
     let told = puts t may.running in (
       bytes,
       told.0,
-      subst (λ (z : State). Acts p m.input.now t i z bytes after i.op) (counted s c.saturating_add-self.result c.saturating_add-self.ensures few)
+      subst (λ (z : State). Acts p m.input.now t i z bytes after i.op) (counted s c.saturating_add-parts.result c.saturating_add-parts.ensures few)
           (acts_by p m.input.now t i one bytes after i.op Putn c.in-Putn.is (refl, told.1)),
     ))
     c.put_number.ensures.puts
@@ -52,12 +52,12 @@ returns-in-Putc-clause-does g c = if_ok c.put_byte.result (λ progress puts t ma
     let s = state_of m in
     let i = c.args.i in
     let bytes = bytes_of (puts_byte i t.regs) in
-    let one : State = record s { instructions = c.saturating_add-self.result } in
+    let one : State = record s { instructions = c.saturating_add-parts.result } in
     let after = became progress (state_of c.put_byte.new.parts) in
     let told = puts t may.running in (
       bytes,
       told.0,
-      subst (λ (z : State). Acts p m.input.now t i z bytes after i.op) (counted s c.saturating_add-self.result c.saturating_add-self.ensures few)
+      subst (λ (z : State). Acts p m.input.now t i z bytes after i.op) (counted s c.saturating_add-parts.result c.saturating_add-parts.ensures few)
           (acts_by p m.input.now t i one bytes after i.op Putc c.in-Putc.is (refl, told.1)),
     ))
     c.put_byte.ensures.puts
@@ -68,11 +68,11 @@ returns-in_default-clause-does g c = λ t may stands few.
     let p = program_of m in
     let s = state_of m in
     let i = c.args.i in
-    let one : State = record s { instructions = c.saturating_add-self.result } in
+    let one : State = record s { instructions = c.saturating_add-parts.result } in
     let after = became c.act_silently.result (state_of c.act_silently.new.parts) in
     let silent = silent_of i.op c.in_default.not-Put c.in_default.not-Putn c.in_default.not-Putc in (
       [],
       put_none (g.O.Sink.taken c.args.out.now),
-      subst (λ (z : State). Acts p m.input.now t i z [] after i.op) (counted s c.saturating_add-self.result c.saturating_add-self.ensures few)
+      subst (λ (z : State). Acts p m.input.now t i z [] after i.op) (counted s c.saturating_add-parts.result c.saturating_add-parts.ensures few)
           (c.act_silently.ensures t (record { running = may.running; awake = may.awake; acts = may.acts; few = may.few; short = may.short; room = may.room }) stands silent),
     )

@@ -31,7 +31,7 @@ returns-in-Callr g c = λ t may stands silent.
     let p = program_of m in
     let s = state_of m in
     let i = c.args.i in
-    let progress = became c.call-in-Callr.result (state_of c.call-in-Callr.new.self) in
+    let progress = became c.call-in-Callr.result (state_of c.call-in-Callr.new.parts) in
     acts_by p m.input.now t i s [] progress i.op Callr c.in-Callr.is
     (no_bytes_of_call p (number_before 3 (reg t.regs i.a)) (stack_of s.all t) t.regs (memory_of p s) (can_set s), subst (λ (r : Result ℕ Outcome). Follows p (calls p r (stack_of s.all t) t.regs (memory_of p s) (can_set s)) s progress) (c.before-callee.ensures ∙ ap (λ (w : ℕ). number_before 3 w) (c.word.ensures t may.running)) (c.call-in-Callr.ensures.calls t may.running stands))
 
@@ -41,9 +41,9 @@ returns-in-Callm g c = λ t may stands silent.
     let p = program_of m in
     let s = state_of m in
     let i = c.args.i in
-    let progress = became c.call-in-Callm.result (state_of c.call-in-Callm.new.self) in
+    let progress = became c.call-in-Callm.result (state_of c.call-in-Callm.new.parts) in
     acts_by p m.input.now t i s [] progress i.op Callm c.in-Callm.is
-    (no_bytes_of_call p (method_called p (cast_unsigned w32 i.imm) (place_of t.regs) (memory_of p s)) (stack_of s.all t) t.regs (memory_of p s) (can_set s), subst (λ (r : Result ℕ Outcome). Follows p (calls p r (stack_of s.all t) t.regs (memory_of p s) (can_set s)) s progress) (c.called_method-callee.ensures ∙ ap (λ (at : Place). method_called p (cast_unsigned w32 i.imm) at (memory_of p s)) stands) (c.call-in-Callm.ensures.calls t may.running stands))
+    (no_bytes_of_call p (method_called p (cast_unsigned w32 i.imm) (place_of t.regs) (memory_of p s)) (stack_of s.all t) t.regs (memory_of p s) (can_set s), subst (λ (r : Result ℕ Outcome). Follows p (calls p r (stack_of s.all t) t.regs (memory_of p s) (can_set s)) s progress) (c.method_for-callee.ensures ∙ ap (λ (at : Place). method_called p (cast_unsigned w32 i.imm) at (memory_of p s)) stands) (c.call-in-Callm.ensures.calls t may.running stands))
 
 pub returns-in-Ret : goal.returns-in-Ret
 returns-in-Ret g c = λ t may stands silent.

@@ -22,7 +22,7 @@ invariant_of-parts g c =
       counted = still-counted m.memory.threads c.enter.new.memory.threads m.made kept.0.stacks m.counted;
       words = kept.0.outside.count ∙ m.words;
       loaded = kept.0.outside.same_constants ∙ m.loaded;
-      room = m.room;
+      roomy = m.roomy;
       fitting = λ e. ∥∥₁_elim (m.fitting e) ∥∥₁_prop (λ f. ∣ kept.1 _ f ∣₁);
     }
 

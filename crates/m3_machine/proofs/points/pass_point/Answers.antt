@@ -14,8 +14,8 @@ pub returns-then-not-collect_if-clause-passes : goal.returns-then-not-collect_if
 returns-then-not-collect_if-clause-passes g c = λ few.
     let m = c.args.parts.now in
     let s = state_of m in
-    let mid : State = record s { points = c.saturating_add-self.result } in
-    let counted : mid ≡ passed s = ap (λ (n : ℕ). record s { points = n }) c.saturating_add-self.ensures in
+    let mid : State = record s { points = c.saturating_add-parts.result } in
+    let counted : mid ≡ passed s = ap (λ (n : ℕ). record s { points = n }) c.saturating_add-parts.ensures in
     let failed = c.collect_if.ensures.bad (search rules) in
     traps_there (program_of m) c.args.entry s mid (state_of c.collect_if.new.parts) counted (c.may_go_on.ensures.some few (search rules)) failed.0 failed.1
 
@@ -23,8 +23,8 @@ pub returns-in-Some-clause-passes : goal.returns-in-Some-clause-passes
 returns-in-Some-clause-passes g c = λ few.
     let m = c.args.parts.now in
     let s = state_of m in
-    let mid : State = record s { points = c.saturating_add-self.result } in
-    let counted : mid ≡ passed s = ap (λ (n : ℕ). record s { points = n }) c.saturating_add-self.ensures in
+    let mid : State = record s { points = c.saturating_add-parts.result } in
+    let counted : mid ≡ passed s = ap (λ (n : ℕ). record s { points = n }) c.saturating_add-parts.ensures in
     let n = c.collect_if.new.parts in
     let same : program_of n ≡ program_of m = ap (λ (r : Rest). r.program) c.collect_if.ensures.rest in
     let made : n.made ≡ m.made = ap (λ (r : Rest). r.made) c.collect_if.ensures.rest in
@@ -36,8 +36,8 @@ pub returns-in-None-clause-passes : goal.returns-in-None-clause-passes
 returns-in-None-clause-passes g c = λ few.
     let m = c.args.parts.now in
     let s = state_of m in
-    let mid : State = record s { points = c.saturating_add-self.result } in
-    let counted : mid ≡ passed s = ap (λ (n : ℕ). record s { points = n }) c.saturating_add-self.ensures in
+    let mid : State = record s { points = c.saturating_add-parts.result } in
+    let counted : mid ≡ passed s = ap (λ (n : ℕ). record s { points = n }) c.saturating_add-parts.ensures in
     let n = c.collect_if.new.parts in
     let same : program_of n ≡ program_of m = ap (λ (r : Rest). r.program) c.collect_if.ensures.rest in
     let made : n.made ≡ m.made = ap (λ (r : Rest). r.made) c.collect_if.ensures.rest in

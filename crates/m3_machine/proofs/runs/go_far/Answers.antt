@@ -10,6 +10,6 @@ invariant_of-parts g c =
       counted = omega (arith, m.counted, kept.forks, kept.waits);
       words = kept.words ∙ m.words;
       loaded = kept.constants ∙ m.loaded;
-      room = m.room;
+      roomy = m.roomy;
       fitting = λ e. ∥∥₁_elim (m.fitting e) ∥∥₁_prop (λ f. ∣ kept.fitting _ f ∣₁);
     }

@@ -12,7 +12,7 @@ invariant_of-parts g c =
       counted = omega (arith, m.counted, c.act_of.ensures.counts);
       words = c.act_of.ensures.keeps.count ∙ m.words;
       loaded = c.act_of.ensures.keeps.same_constants ∙ m.loaded;
-      room = m.room;
+      roomy = m.roomy;
       fitting = λ e. ∥∥₁_elim (m.fitting e) ∥∥₁_prop (λ f. ∣ c.act_of.ensures.fitting _ f ∣₁);
     }
 

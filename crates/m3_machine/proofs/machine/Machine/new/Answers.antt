@@ -10,6 +10,6 @@ invariant_of-parts g c = record {
   counted = search rules;
   words = c.in_ok-globals.ensures ∙ c.global_words.ensures ∙ sym (ap (λ (i : Image). i.program.globals.words) c.in_ok-image.ensures);
   loaded = c.in_ok-constants.ensures.loaded ∙ sym (ap (λ (i : Image). i.program.constants) c.in_ok-image.ensures);
-  room = c.in_ok-room.ensures;
+  roomy = c.in_ok-room.ensures;
   fitting = λ e. ∣ g.met.S.Store.empty_fits c.args.store _ c.requires.empty ∣₁;
 }

@@ -10,7 +10,7 @@ invariant_of-self g c =
       counted = m.counted;
       words = c.allocate.ensures.words ∙ m.words;
       loaded = c.allocate.ensures.constants ∙ m.loaded;
-      room = m.room;
+      roomy = m.roomy;
       fitting = λ e. ∥∥₁_elim (m.fitting e) ∥∥₁_prop (λ f. ∣ c.allocate.ensures.fitting _ f ∣₁);
     }
 

@@ -11,6 +11,6 @@ invariant_of-self g c =
       counted = still-counted m.memory.threads c.store-is_set.new.self.threads m.made kept.0.stacks m.counted;
       words = kept.0.outside.count ∙ m.words;
       loaded = kept.0.outside.same_constants ∙ m.loaded;
-      room = m.room;
+      roomy = m.roomy;
       fitting = λ e. ∥∥₁_elim (m.fitting e) ∥∥₁_prop (λ f. ∣ kept.1 _ f ∣₁);
     }
