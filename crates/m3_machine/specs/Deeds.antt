@@ -1,5 +1,5 @@
 -- What an instruction of the running thread needs so that its deed is told.
-use Rattle.std.specs.Prelude.{ℕ, ◌≡◌, ◌<◌, ◌≤◌, ◌+◌, ◌^◌, false, length, slice_get, vec_capacity, Ok}
+use Rattle.std.specs.Prelude.{◌≡◌, ◌<◌, ◌≤◌, ◌+◌, ◌^◌, false, length, slice_get, vec_capacity, Ok}
 use Rattle.std.specs.Int.{cast_unsigned, w32}
 use Rattle.m3_isa.specs.Instructions.{is_plain}
 use Rattle.m3_isa.specs.declared.instructions.Op.{Op}

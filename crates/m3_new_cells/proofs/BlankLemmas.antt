@@ -1,5 +1,5 @@
 -- A new text while it is filled: what its memory was before, and the bytes that come into it.
-use Rattle.std.specs.Prelude.{ℕ, ◌≡◌, ◌≢◌, ◌+◌, ◌-◌, ◌*◌, ◌/◌, ◌%◌, ◌^◌, ◌<◌, ◌≤◌, min, Bool, true, false, List, [], ◌∷◌, ◌++◌, length, take, drop, slice_get, slice_index, Option, None, Some}
+use Rattle.std.specs.Prelude.{ℕ, ◌≡◌, ◌+◌, ◌-◌, ◌*◌, ◌^◌, ◌<◌, ◌≤◌, true, false, List, [], length, take, drop, slice_get, slice_index, Option, None, Some}
 use Rattle.std.specs.Int.{div_ceil}
 use Rattle.std.proofs.Common.{refl, sym, ap, ◌∙◌, arith, cond, add-one, append-nil, length-append}
 use Rattle.std.proofs.lemmas.List.{get_or_append_left, get_or-append_right, get_or_past}

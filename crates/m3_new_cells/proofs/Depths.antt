@@ -1,6 +1,6 @@
 -- How many words a stack has.
-use Rattle.std.specs.Prelude.{ℕ, zero, suc, ◌≡◌, ◌+◌, ◌==◌, true, false, List, [], ◌∷◌, length, find, Option, None, Some, slice_get}
-use Rattle.std.proofs.Common.{refl, sym, ap, ◌∙◌, cond}
+use Rattle.std.specs.Prelude.{ℕ, zero, suc, ◌≡◌, ◌==◌, true, false, List, [], ◌∷◌, length, find, Option, None, Some, slice_get}
+use Rattle.std.proofs.Common.{refl, ap, ◌∙◌, cond}
 use Rattle.m3_threads.specs.declared.status.Thread.{Thread}
 use Rattle.m3_threads.specs.All.{Everyone, is_named, thread_named, words_of, AreSoundThreads}
 use Rattle.m3_threads.specs.Going.{of_thread}

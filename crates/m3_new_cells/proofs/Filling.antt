@@ -1,7 +1,7 @@
 -- Words that are put one after another, behind the header of a new cell.
-use Rattle.std.specs.Prelude.{ℕ, ◌≡◌, ◌≢◌, ◌+◌, ◌-◌, ◌<◌, ◌≤◌, ◌==◌, Bool, true, false, List, [], ◌∷◌, length, take, Option, Some, slice_get, slice_index}
-use Rattle.std.proofs.Common.{refl, sym, ap, subst, ◌∙◌, arith, cond, ⊎_elim, get_or, get_or-take, length-take-le, eq-eqb}
-use Rattle.std.proofs.lemmas.Bool.{cases_Bool, cases_eq, ne_eqb, false≢true}
+use Rattle.std.specs.Prelude.{ℕ, ◌≡◌, ◌≢◌, ◌+◌, ◌-◌, ◌<◌, ◌≤◌, ◌==◌, true, false, List, [], length, take, Some, slice_get, slice_index}
+use Rattle.std.proofs.Common.{refl, sym, ap, ◌∙◌, arith, cond, ⊎_elim, get_or-take, length-take-le, eq-eqb}
+use Rattle.std.proofs.lemmas.Bool.{cases_Bool, cases_eq, ne_eqb}
 use Rattle.std.proofs.lemmas.Bool.Decides.{nat_tests}
 use Rattle.std.proofs.lemmas.Option.{slice_get-get_or}
 use Rattle.m3_isa.specs.Memory.{Memory, put}
@@ -9,7 +9,6 @@ use Rattle.m3_heap.specs.Heap.{Heap}
 use Rattle.m3_threads.specs.All.{Everyone, thread_named}
 use Rattle.m3_threads.specs.declared.status.Thread.{Thread}
 use Rattle.m3_memory.specs.Addresses.{is_from}
-use Rattle.m3_memory.specs.Kept.{KeepsStacks}
 use Rattle.m3_sections.specs.Parts.{Program}
 use Rattle.m3_strides.specs.State.{State, HasOtherWords, memory_of}
 use Rattle.m3_strides.specs.NewTexts.{with_words}

@@ -1,6 +1,6 @@
 -- The sizes of an open cell and their product.
 use Rattle.std.specs.Prelude.{ℕ, zero, suc, ◌≡◌, ◌+◌, ◌-◌, ◌*◌, ◌^◌, ◌<◌, ◌≤◌, min, nat_le, true, false, List, [], ◌∷◌, ◌++◌}
-use Rattle.std.proofs.Common.{refl, sym, ap, ◌∙◌, arith, ⊎_elim, mul_assoc, mul-zero, mul-suc, mul_comm}
+use Rattle.std.proofs.Common.{sym, ap, ◌∙◌, arith, ⊎_elim, mul_assoc, mul-zero, mul-suc, mul_comm}
 use Rattle.std.proofs.lemmas.Bool.{cases_lt}
 use Rattle.std.proofs.lemmas.Bool.Decides.{nat_tests}
 use Rattle.m3_sections.specs.Parts.{CellType}

@@ -1,7 +1,7 @@
 -- What PUT does, from what its parts told.
-use Rattle.std.specs.Prelude.{ℕ, ◌≡◌, ◌+◌, ◌-◌, ◌*◌, ◌<◌, ◌≤◌, min, Bool, true, false, if◌then◌else◌, List, [], ◌++◌, map, Option, None, Some, IfSome}
+use Rattle.std.specs.Prelude.{ℕ, ◌≡◌, ◌+◌, ◌-◌, ◌*◌, ◌<◌, min, Bool, if◌then◌else◌, List, ◌++◌, map, Option, Some, IfSome}
 use Rattle.std.specs.List.{range_with_len}
-use Rattle.std.proofs.Common.{sym, ap, subst, ◌∙◌, arith}
+use Rattle.std.proofs.Common.{ap, subst, ◌∙◌, arith}
 use Rattle.m3_base.specs.Words.{add_words}
 use Rattle.m3_isa.specs.Memory.{Memory}
 use Rattle.m3_isa.specs.Effects.{reg, next}

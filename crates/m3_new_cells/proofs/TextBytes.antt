@@ -1,5 +1,5 @@
 -- The bytes of a text, word by word.
-use Rattle.std.specs.Prelude.{ℕ, zero, suc, ◌≡◌, ◌+◌, ◌-◌, ◌*◌, ◌/◌, ◌%◌, ◌^◌, ◌<◌, ◌≤◌, min, List, [], ◌∷◌, ◌++◌, map, length, take, Option, Some, None, unwrap_or, IfSome, Bool, true, ◌&&◌}
+use Rattle.std.specs.Prelude.{ℕ, zero, suc, ◌≡◌, ◌+◌, ◌*◌, ◌/◌, ◌%◌, ◌<◌, ◌≤◌, List, [], ◌∷◌, ◌++◌, map, take, Option, Some, None, unwrap_or, IfSome, Bool, true, ◌&&◌}
 use Rattle.std.specs.List.{range_with_len}
 use Rattle.std.specs.Int.{w64, to_le_bytes, byte_at, bytes_low_first}
 use Rattle.std.proofs.Common.{refl, sym, ap, subst, ◌∙◌, arith, add-one, append_assoc, append-nil, get_or}

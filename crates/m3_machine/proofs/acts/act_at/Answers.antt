@@ -1,4 +1,4 @@
-use Rattle.std.specs.Prelude.{ℕ, ◌≡◌, []}
+use Rattle.std.specs.Prelude.{[]}
 use Rattle.std.proofs.Common.{refl, subst}
 use Rattle.m3_isa.specs.declared.instructions.Op.TheVariants.{Put, Putn, Putc}
 use Rattle.m3_strides.specs.Act.{bytes_of}

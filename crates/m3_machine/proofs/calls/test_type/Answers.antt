@@ -1,10 +1,10 @@
 use Rattle.std.specs.Prelude.{ℕ, ◌≡◌, Bool, Result, Ok, Err}
 use Rattle.std.specs.Int.{cast_unsigned, w32}
-use Rattle.std.proofs.Common.{refl, sym, ap, subst, ◌∙◌, rules}
+use Rattle.std.proofs.Common.{refl, ap, subst, ◌∙◌, rules}
 use Rattle.m3_base.specs.declared.outcomes.Outcome.{Outcome}
 use Rattle.m3_isa.specs.Arithmetic.{flag}
 use Rattle.m3_isa.specs.Effects.{reg, answered}
-use Rattle.m3_strides.specs.Act.{Act, Goes, Stops}
+use Rattle.m3_strides.specs.Act.{Goes, Stops}
 use Rattle.m3_strides.specs.Progress.{Goes as Goes_on}
 use Rattle.m3_strides.specs.State.{memory_of, with_regs}
 use Rattle.m3_strides.specs.Calls.{TellsType, kind_at}

@@ -1,6 +1,5 @@
-use Rattle.std.specs.Prelude.{ℕ, ◌≡◌, ◌<◌, ◌^◌, Some, None}
+use Rattle.std.specs.Prelude.{ℕ, ◌≡◌, ◌<◌, ◌^◌}
 use Rattle.std.proofs.Common.{ap, rules, arith}
-use Rattle.m3_sections.specs.Parts.{Program}
 use Rattle.m3_strides.specs.State.{State}
 use Rattle.m3_strides.specs.Points.{nobody, passed}
 use Rattle.m3_new_cells.specs.Seen.{Rest, state_of, program_of}

@@ -1,5 +1,5 @@
 use Rattle.std.specs.Prelude.{ℕ, List, length}
-use Rattle.std.proofs.Common.{◌≡◌, ◌∙◌, arith, refl, subst}
+use Rattle.std.proofs.Common.{◌∙◌, arith, refl, subst}
 use Rattle.std.proofs.Math.Logic.{∥∥₁_elim, ∥∥₁_prop}
 use Rattle.m3_memory.specs.Addresses.{outside_of, settable_of}
 use Rattle.m3_strides.specs.OnThreads.{Acts_on_threads}

@@ -1,5 +1,4 @@
-use Rattle.std.proofs.Common.{◌≡◌, ◌∙◌, arith, true, false, ap, sym}
-use Rattle.std.proofs.Math.Logic.{∥∥₁_elim, ∥∥₁_prop}
+use Rattle.std.proofs.Math.Logic.{∥∥₁_elim}
 use Rattle.m3_new_cells.proofs.collections.collect_by.Goals as goal
 
 pub collect_outside-requires-clause-fitting : goal.collect_outside-requires-clause-fitting

@@ -1,11 +1,10 @@
-use Rattle.std.proofs.Common.{◌≡◌, ◌∙◌, arith, true, false, ap, sym}
-use Rattle.std.proofs.Math.Logic.{∥∥₁_elim, ∥∥₁_prop}
+use Rattle.std.proofs.Common.{◌∙◌, ap, sym}
 use Rattle.std.proofs.Common.{rules}
 use Rattle.m3_sections.specs.Parts.{Image}
 use Rattle.m3_machine.proofs.machine.Machine.new.Goals as goal
 
-pub invariant_of-parts : goal.invariant_of-parts
-invariant_of-parts g c = record {
+pub invariant_of-parts-3 : goal.invariant_of-parts-3
+invariant_of-parts-3 g c = record {
   small = c.requires.small;
   counted = search rules;
   words = c.in_ok-globals.ensures ∙ c.global_words.ensures ∙ sym (ap (λ (i : Image). i.program.globals.words) c.in_ok-image.ensures);

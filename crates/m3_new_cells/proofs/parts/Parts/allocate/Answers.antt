@@ -1,4 +1,4 @@
-use Rattle.std.proofs.Common.{◌≡◌, ◌∙◌, arith, true, false, ap}
+use Rattle.std.proofs.Common.{◌∙◌}
 use Rattle.std.proofs.Math.Logic.{∥∥₁_elim, ∥∥₁_prop}
 use Rattle.m3_new_cells.proofs.NewCells.{if_some, is_low}
 use Rattle.m3_new_cells.proofs.parts.Parts.allocate.Goals as goal

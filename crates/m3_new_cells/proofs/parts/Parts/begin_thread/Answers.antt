@@ -1,5 +1,5 @@
 use Rattle.std.specs.Prelude.{ℕ, ◌≡◌, ◌+◌, Some, slice_get}
-use Rattle.std.proofs.Common.{refl, sym, ap, subst, ◌∙◌, arith}
+use Rattle.std.proofs.Common.{sym, ap, subst, ◌∙◌, arith}
 use Rattle.m3_threads.specs.All.{thread_named}
 use Rattle.m3_strides.specs.State.{State}
 use Rattle.m3_strides.specs.Making.{HasNew}

@@ -1,6 +1,5 @@
-use Rattle.std.specs.Prelude.{ℕ, ◌≡◌, ◌+◌, List, [], Option, Some}
+use Rattle.std.specs.Prelude.{ℕ, ◌≡◌, ◌+◌, List, Option}
 use Rattle.std.proofs.Common.{sym, ap, subst, ◌∙◌, arith}
-use Rattle.m3_isa.specs.Effects.{reg}
 use Rattle.m3_strides.specs.Progress.{became}
 use Rattle.m3_strides.specs.State.{memory_of}
 use Rattle.m3_strides.specs.Texts.{text_words}

@@ -1,5 +1,5 @@
-use Rattle.std.specs.Prelude.{ℕ, ◌≡◌, length, Option}
-use Rattle.std.proofs.Common.{ap, sym, ◌∙◌, arith}
+use Rattle.std.specs.Prelude.{◌≡◌, length, Option}
+use Rattle.std.proofs.Common.{ap, ◌∙◌, arith}
 use Rattle.m3_threads.specs.declared.status.Thread.{Thread}
 use Rattle.m3_threads.specs.All.{words_of}
 use Rattle.m3_threads.specs.Going.{of_thread}

@@ -1,4 +1,4 @@
-use Rattle.std.specs.Prelude.{ℕ, ◌≡◌, ◌+◌, ◌<◌, ◌^◌, true, Some, slice_get}
+use Rattle.std.specs.Prelude.{◌≡◌, ◌+◌, true, slice_get}
 use Rattle.std.proofs.Common.{refl, ap, ◌∙◌, arith}
 use Rattle.m3_isa.specs.Memory.{put}
 use Rattle.m3_isa.specs.Effects.{answered}

@@ -1,4 +1,4 @@
-use Rattle.std.specs.Prelude.{ℕ, ◌≡◌, ◌+◌, true, is_some}
+use Rattle.std.specs.Prelude.{◌≡◌, ◌+◌, true, is_some}
 use Rattle.m3_base.specs.Words.{add_words}
 use Rattle.m3_isa.specs.Effects.{every}
 use Rattle.m3_strides.specs.State.{memory_of}

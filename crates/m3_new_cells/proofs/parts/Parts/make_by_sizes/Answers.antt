@@ -1,12 +1,12 @@
-use Rattle.std.specs.Prelude.{ℕ, ◌≡◌, ◌≤◌, ◌+◌, ◌*◌, List, Ok, Err}
-use Rattle.std.proofs.Common.{refl, sym, ap, subst, ◌∙◌, arith}
+use Rattle.std.specs.Prelude.{ℕ, Ok}
+use Rattle.std.proofs.Common.{refl, sym, ap, subst, arith}
 use Rattle.m3_sections.specs.Parts.{Program}
 use Rattle.m3_sections.specs.PartViews.{type_of}
 use Rattle.m3_strides.specs.Progress.{Ends, became}
 use Rattle.m3_strides.specs.State.{State, memory_of}
 use Rattle.m3_strides.specs.Making.{Makes}
 use Rattle.m3_strides.specs.NewTexts.{Sizes, Fails_at_size, Makes_open, GivesOpen, no_sizes, makes, open_words}
-use Rattle.m3_new_cells.specs.Seen.{Rest, state_of, program_of, rest_of}
+use Rattle.m3_new_cells.specs.Seen.{Rest, state_of, program_of}
 use Rattle.m3_new_cells.proofs.OpenSizes.{words_said}
 use Rattle.m3_new_cells.proofs.parts.Parts.make_by_sizes.Goals as goal
 

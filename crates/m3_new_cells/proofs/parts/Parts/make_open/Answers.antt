@@ -1,10 +1,10 @@
-use Rattle.std.specs.Prelude.{ℕ, ◌≡◌, Result, Ok, slice_get}
+use Rattle.std.specs.Prelude.{ℕ, ◌≡◌, Result, slice_get}
 use Rattle.std.specs.Int.{cast_unsigned, w32}
 use Rattle.std.proofs.Common.{sym, ap, subst, ◌∙◌, rules}
 use Rattle.m3_base.specs.declared.outcomes.Outcome.{Outcome}
 use Rattle.m3_sections.specs.Parts.{CellType}
 use Rattle.m3_sections.specs.PartViews.{type_of}
-use Rattle.m3_strides.specs.Progress.{Ends, became}
+use Rattle.m3_strides.specs.Progress.{became}
 use Rattle.m3_strides.specs.NewTexts.{Makes_open, open_type, not_open}
 use Rattle.m3_new_cells.specs.Seen.{state_of, program_of}
 use Rattle.m3_new_cells.proofs.parts.Parts.make_open.Goals as goal

@@ -1,4 +1,4 @@
-use Rattle.std.specs.Prelude.{ℕ, ◌≡◌, ◌+◌, List, length, Ok, Err}
+use Rattle.std.specs.Prelude.{ℕ, ◌+◌, List, length, Ok, Err}
 use Rattle.std.proofs.Common.{refl, ap, subst, arith}
 use Rattle.m3_sections.specs.Parts.{Program}
 use Rattle.m3_strides.specs.Progress.{became}

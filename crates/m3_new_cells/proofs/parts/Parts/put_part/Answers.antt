@@ -1,5 +1,4 @@
-use Rattle.std.specs.Prelude.{ℕ, ◌≡◌, ◌+◌, ◌*◌, ◌<◌, min, List, take, Option, unwrap_or}
-use Rattle.std.specs.Int.{w64, to_le_bytes}
+use Rattle.std.specs.Prelude.{ℕ, ◌≡◌, ◌+◌, take, Option, unwrap_or}
 use Rattle.std.proofs.Common.{refl, sym, ap, ◌∙◌, arith}
 use Rattle.m3_base.specs.Words.{add_words}
 use Rattle.m3_strides.specs.State.{memory_of}

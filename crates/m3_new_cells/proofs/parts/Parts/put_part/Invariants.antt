@@ -1,4 +1,4 @@
-use Rattle.std.specs.Prelude.{ℕ, ◌≡◌, ◌++◌, ◌*◌, min, map, Some, IfSome}
+use Rattle.std.specs.Prelude.{◌≡◌, ◌++◌, ◌*◌, min, map, Some, IfSome}
 use Rattle.std.specs.List.{range_with_len}
 use Rattle.m3_strides.specs.State.{memory_of}
 use Rattle.m3_strides.specs.Texts.{text_byte}

@@ -1,12 +1,12 @@
-use Rattle.std.specs.Prelude.{ℕ, ◌≡◌, false, true, None, Some, if◌then◌else◌}
+use Rattle.std.specs.Prelude.{◌≡◌, false, true, None, Some}
 use Rattle.std.proofs.Common.{sym, ap, ◌∙◌, rules}
 use Rattle.m3_isa.specs.Effects.{next}
 use Rattle.m3_strides.specs.declared.progress.Progress.{Progress as Answer}
-use Rattle.m3_strides.specs.Act.{Puts, traps, loading}
+use Rattle.m3_strides.specs.Act.{Puts, traps}
 use Rattle.m3_strides.specs.Progress.{became}
 use Rattle.m3_strides.specs.State.{memory_of}
 use Rattle.m3_strides.specs.Texts.{text_bytes}
-use Rattle.m3_strides.specs.Acts.{puts_text, puts_bytes}
+use Rattle.m3_strides.specs.Acts.{puts_text}
 use Rattle.m3_new_cells.specs.Seen.{state_of, program_of}
 use Rattle.m3_new_cells.proofs.TextBytes.{put_none}
 use Rattle.m3_new_cells.proofs.Putting.{put_loaded, put_found, put_as}

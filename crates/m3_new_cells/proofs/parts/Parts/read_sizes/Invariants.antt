@@ -1,4 +1,4 @@
-use Rattle.std.specs.Prelude.{ℕ, ◌≡◌, ◌≤◌, ◌-◌, ◌^◌, min, length, vec_capacity}
+use Rattle.std.specs.Prelude.{◌≡◌, ◌≤◌, ◌-◌, ◌^◌, min, length, vec_capacity}
 use Rattle.m3_strides.specs.State.{memory_of}
 use Rattle.m3_strides.specs.NewTexts.{Sizes, product}
 use Rattle.m3_new_cells.specs.Seen.{state_of, program_of, rest_of}

@@ -1,4 +1,4 @@
-use Rattle.std.proofs.Common.{◌≡◌, ◌∙◌, arith, true, false, ap}
+use Rattle.std.proofs.Common.{◌∙◌}
 use Rattle.std.proofs.Math.Logic.{∥∥₁_elim, ∥∥₁_prop}
 use Rattle.m3_memory.proofs.Keeping.{still-counted}
 use Rattle.m3_new_cells.proofs.parts.Parts.set_word.Goals as goal

@@ -1,11 +1,11 @@
-use Rattle.std.specs.Prelude.{ℕ, ◌≡◌, ◌≢◌, ◌==◌, true, length, Ok, Err}
+use Rattle.std.specs.Prelude.{◌≡◌, ◌≢◌, ◌==◌, true, length, Ok, Err}
 use Rattle.std.proofs.Common.{refl, sym, ap, subst, ◌∙◌, arith, rules, eq-eqb}
 use Rattle.std.proofs.lemmas.Bool.{false≢true}
 use Rattle.std.proofs.lemmas.Bool.Decides.{nat_tests}
 use Rattle.m3_sections.specs.Parts.{Program}
 use Rattle.m3_strides.specs.Progress.{Ends, became}
 use Rattle.m3_strides.specs.NewTexts.{GivesThread, too_many, makes}
-use Rattle.m3_new_cells.specs.Seen.{Rest, state_of, program_of}
+use Rattle.m3_new_cells.specs.Seen.{Rest, state_of}
 use Rattle.m3_new_cells.proofs.parts.Parts.start_thread.Goals as goal
 
 pub returns-then-not-may_count-clause-forks : goal.returns-then-not-may_count-clause-forks

@@ -1,4 +1,4 @@
-use Rattle.std.specs.Prelude.{ℕ, ◌≡◌, ◌+◌, ◌-◌, ◌*◌, slice_index, take, drop}
+use Rattle.std.specs.Prelude.{◌≡◌, ◌+◌, ◌-◌, ◌*◌, slice_index, take, drop}
 use Rattle.std.proofs.Common.{sym, ap, ◌∙◌, arith}
 use Rattle.m3_strides.specs.Texts.{packed, text_rest}
 use Rattle.m3_new_cells.specs.Blanks.{both_bytes}

@@ -1,5 +1,5 @@
-use Rattle.std.specs.Prelude.{ℕ, ◌≡◌, ◌≢◌, ◌+◌, ◌<◌, slice_index, slice_set}
-use Rattle.std.proofs.Common.{refl, sym, ap, ◌∙◌, arith, ⊎_elim, get_or-set_other, get_or-set_same, length-set}
+use Rattle.std.specs.Prelude.{◌≡◌, ◌≢◌, ◌+◌, slice_index, slice_set}
+use Rattle.std.proofs.Common.{sym, ap, ◌∙◌, arith, ⊎_elim, get_or-set_other, get_or-set_same, length-set}
 use Rattle.std.proofs.lemmas.Bool.{cases_eq}
 use Rattle.m3_new_cells.specs.Blanks.{both_bytes}
 use Rattle.m3_new_cells.proofs.Packing.{word_from}

@@ -1,7 +1,6 @@
-use Rattle.std.specs.Prelude.{ℕ, ◌≡◌, ◌+◌, ◌<◌, List, true, length, slice_index, take}
+use Rattle.std.specs.Prelude.{ℕ, ◌≡◌, ◌+◌, ◌<◌, List, true, length, slice_index}
 use Rattle.std.proofs.Common.{refl, sym, ap, ◌∙◌, arith, take_all}
 use Rattle.std.proofs.lemmas.List.{get_or_read}
-use Rattle.m3_sections.specs.Parts.{Program}
 use Rattle.m3_strides.specs.State.{memory_of, can_set}
 use Rattle.m3_strides.specs.NewTexts.{with_words}
 use Rattle.m3_new_cells.specs.Seen.{Rest, state_of, program_of}
