@@ -1,21 +1,15 @@
-ghost use Rattle.std.specs.Prelude.{◌≡◌, ◌<◌, ◌≤◌, ◌+◌, ◌^◌, ℕ, length, slice_get, List, Some, IsSome, Ok};
-ghost use Rattle.m3_heap.specs.Shapes.{Shape};
-ghost use Rattle.m3_threads.specs.All.{thread_named};
+ghost use Rattle.std.specs.Prelude.{◌≡◌, ◌<◌, ◌≤◌, ◌+◌, ◌^◌, length, slice_get, Some, Ok};
 ghost use Rattle.m3_threads.specs.declared.status.Thread.{Thread};
-ghost use Rattle.m3_threads.specs.Going.{IsAwake};
 ghost use Rattle.m3_threads.specs.Actions.{Forks};
 ghost use Rattle.m3_isa.specs.Instructions.{IsInstruction};
 ghost use Rattle.m3_isa.specs.Memory.{put};
 ghost use Rattle.m3_isa.specs.Effects.{answered};
 ghost use Rattle.m3_isa.specs.declared.instructions.Instr.{Instr as Instruction};
 ghost use Rattle.m3_sections.specs.declared.procs.ProcPart.{ProcPart as Procedure};
-ghost use Rattle.m3_memory.specs.Addresses.{outside_of, settable_of};
-ghost use Rattle.m3_memory.specs.Kept.{KeepsOutside};
-ghost use Rattle.m3_strides.specs.State.{State, outside, settable, memory_of, with_all, with_regs, HasOtherWords, Becomes};
+ghost use Rattle.m3_strides.specs.State.{State, memory_of, with_all, with_regs, Becomes};
 ghost use Rattle.m3_strides.specs.Progress.{Goes, became};
 ghost use Rattle.m3_strides.specs.Making.{HasNew};
 ghost use Rattle.m3_strides.specs.NewTexts.{standing_at, GivesThread, Forks_thread};
-ghost use Rattle.m3_strides.specs.OnThreads.{answer_of, answer_of_end, Acts_on_threads, On_threads};
 ghost use Rattle.m3_new_cells.specs.Seen.{state_of, program_of, rest_of, Running};
 
 use crate::parts::Parts;

@@ -1,5 +1,5 @@
-ghost use Rattle.std.specs.Prelude.{◌≡◌, ◌<◌, ◌≤◌, ◌+◌, ◌-◌, ◌*◌, ◌/◌, ◌%◌, ◌^◌, ◌==◌, if◌then◌else◌, is_some, ℕ, [], ◌∷◌, min, take, drop, slice_index, Some, Ok, OnOk, OnErr, IfOk};
-ghost use Rattle.std.specs.Int.{cast_unsigned, w32, div_ceil};
+ghost use Rattle.std.specs.Prelude.{◌≡◌, ◌<◌, ◌≤◌, ◌+◌, ◌-◌, ◌*◌, ◌/◌, ◌%◌, ◌^◌, ◌==◌, if◌then◌else◌, is_some, [], ◌∷◌, min, take, drop, slice_index, Some, Ok, OnOk, OnErr, IfOk};
+ghost use Rattle.std.specs.Int.{div_ceil};
 ghost use Rattle.m3_ports.specs.Counts.{Rose};
 ghost use Rattle.m3_base.specs.Words.{add_words};
 ghost use Rattle.m3_isa.specs.Memory.{Memory};

@@ -239,9 +239,11 @@ goes_tested p stack i old new all g heap told is tells same = record {
   keeps = keeps_all all;
   does = λ input base t running place.
       let s = executed (seen base old all g heap) in
-      acts_by p input (regs_set old t) i s [] (Goes (seen (executed base) new all g heap)) i.op Subt is
-      (Goes_with (answered old i.a (flag told)), (Ok told, tells, refl),
-      acted_goes p base old new all g heap (Goes_with (answered old i.a (flag told))) (ap (λ (x : Regs). Goes_with x) (sym same)));
+      acts_by p input (regs_set old t) i s [] (Goes (seen (executed base) new all g heap)) i.op Subt is (
+        Goes_with (answered old i.a (flag told)),
+        (Ok told, tells, refl),
+        acted_goes p base old new all g heap (Goes_with (answered old i.a (flag told))) (ap (λ (x : Regs). Goes_with x) (sym same)),
+      );
 }
 
 -- ---- calls

@@ -1,14 +1,11 @@
 //! Instructions that aren't plain, where nothing has to be chosen or done before them. None says that nothing was
 //! done.
-ghost use Rattle.std.specs.Prelude.{◌≡◌, ◌<◌, ◌≤◌, List, length, slice_get, Ok, IfSome, IfNone};
-ghost use Rattle.m3_heap.specs.Shapes.{Shape};
-ghost use Rattle.m3_isa.specs.Instructions.{IsInstruction};
+ghost use Rattle.std.specs.Prelude.{◌≡◌, ◌<◌, ◌≤◌, length, slice_get, Ok, IfSome, IfNone};
 ghost use Rattle.m3_isa.specs.Effects.{at_hand};
 ghost use Rattle.m3_isa.specs.declared.instructions.Op.TheVariants.{Ret, Meth, Subt, New, Point};
 ghost use Rattle.m3_decoded.specs.Ready.{image_of};
 ghost use Rattle.m3_threads.specs.Spaces.{held};
 ghost use Rattle.m3_memory.specs.Addresses.{outside_of};
-ghost use Rattle.m3_memory.specs.Kept.{KeepsMemory};
 ghost use Rattle.m3_strides.specs.Calls.{callee_of};
 ghost use Rattle.m3_strides.specs.Making.{fixed_words};
 ghost use Rattle.m3_strides.specs.Leading.{program_in, Goes_in, KeepsWhole};

@@ -1,21 +1,15 @@
 //! A thread's instructions one after another, over points too where nothing else may go between them.
-ghost use Rattle.std.specs.Prelude.{◌≡◌, ◌<◌, ◌≤◌, ◌+◌, ◌-◌, ◌*◌, ◌^◌, ℕ, true, false, Some, Option, List, length, slice_get, IfSome, IfNone};
-ghost use Rattle.m3_base.specs.declared.outcomes.Entry.{Entry};
-ghost use Rattle.m3_heap.specs.Shapes.{Shape};
+ghost use Rattle.std.specs.Prelude.{◌≡◌, ◌<◌, ◌≤◌, ◌+◌, ◌-◌, ◌*◌, ◌^◌, true, false, Some, Option, length, slice_get, IfSome, IfNone};
 ghost use Rattle.m3_isa.specs.Instructions.{IsInstruction, is_point, is_plain as plain};
-ghost use Rattle.m3_isa.specs.Effects.{at_hand};
 ghost use Rattle.m3_isa.specs.declared.instructions.Instr.{Instr as Instruction};
-ghost use Rattle.m3_threads.specs.declared.status.Thread.{Thread};
 ghost use Rattle.m3_threads.specs.declared.status.Status.TheVariants.{Ready};
 ghost use Rattle.m3_threads.specs.Going.{status_at};
 ghost use Rattle.m3_decoded.specs.Ready.{image_of};
-ghost use Rattle.m3_strides.specs.State.{State};
-ghost use Rattle.m3_strides.specs.Runs.{Config};
-ghost use Rattle.m3_strides.specs.Leading.{Track, program_in, Goes_in, Stands_in, Halts_in, KeepsWhole, further, halted, Counts};
+ghost use Rattle.m3_strides.specs.Leading.{Track, Goes_in, Stands_in, Halts_in, KeepsWhole, further, halted, Counts};
 ghost use Rattle.m3_strides.specs.declared.halts.Halt.TheVariants.{Left, Other};
 
-use crate::near::{Place, Stack, before, called_method, register};
 use crate::halts::Halt;
+use crate::near::{Place, Stack, before, called_method, register};
 use crate::steps::{call_near, make_near, point_near, return_near, tell_near, test_near};
 use m3_decoded::Decoded;
 use m3_heap::Store;
