@@ -183,7 +183,7 @@ fn add_ending(line: &mut Vec<u8>, image: &ImageView<'_>, outcome: Outcome) -> u8
 /// Adds the points and the instructions of a machine.
 fn add_counts<S: Store>(line: &mut Vec<u8>, machine: &Machine<'_, S>)
     requires { vec_len line.old + 100 ≤ vec_capacity line.old }
-    ensures items { line.new.items ≡ with_counts line.old.items machine.now.points machine.now.instructions }
+    ensures items { line.new.items ≡ with_counts line.old.items machine.now.parts.points machine.now.parts.instructions }
     ensures len { vec_len line.new ≤ vec_len line.old + 100 }
     ensures capacity { vec_capacity line.old ≤ vec_capacity line.new }
 {
@@ -196,7 +196,7 @@ fn add_counts<S: Store>(line: &mut Vec<u8>, machine: &Machine<'_, S>)
 /// Adds the collections of a machine, if they are to be told.
 fn add_collections<S: Store>(line: &mut Vec<u8>, machine: &Machine<'_, S>, tells: bool)
     requires { vec_len line.old + 40 ≤ vec_capacity line.old }
-    ensures items { line.new.items ≡ with_collections tells line.old.items machine.now.collections }
+    ensures items { line.new.items ≡ with_collections tells line.old.items machine.now.parts.collections }
     ensures len { vec_len line.new ≤ vec_len line.old + 40 }
     ensures capacity { vec_capacity line.old ≤ vec_capacity line.new }
 {
@@ -218,7 +218,7 @@ pub fn answer_of<S: Store>(
     requires room { longest_name (image_view image.now) + 256 ≤ vec_capacity line }
     ensures status { result.status ≡ end_status outcome }
     ensures line { result.line.items ≡ report (image_view image.now) tells outcome
-        machine.now.points machine.now.instructions machine.now.collections }
+        machine.now.parts.points machine.now.parts.instructions machine.now.parts.collections }
 {
     let status = add_ending(&mut line, image, outcome);
     add_counts(&mut line, machine);

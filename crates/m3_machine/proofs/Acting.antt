@@ -1,18 +1,15 @@
 -- What an act of the running thread makes of a state, from what its parts told.
-use Rattle.std.specs.Prelude.{ℕ, ◌≡◌, ◌+◌, ◌<◌, ◌≤◌, Bool, true, false, List, length, Option, None, Some, Result, Ok, Err, MatchOption, IsNone, IfSome, ◌↔◌, if◌then◌else◌, is_some}
-use Rattle.std.specs.Option.{IfNone}
-use Rattle.std.proofs.Common.{refl, sym, ap, subst, ◌∙◌, arith}
+use Rattle.std.specs.Prelude.{ℕ, ◌≡◌, Result, Ok, Err}
+use Rattle.std.proofs.Common.{sym, ap, subst, ◌∙◌}
 use Rattle.m3_base.specs.declared.outcomes.Outcome.{Outcome}
-use Rattle.m3_isa.specs.Memory.{Memory}
 use Rattle.m3_isa.specs.declared.registers.Regs.{Regs}
 use Rattle.m3_threads.specs.declared.status.Thread.{Thread}
 use Rattle.m3_threads.specs.All.{Everyone, updated}
 use Rattle.m3_sections.specs.Parts.{Program}
 use Rattle.m3_strides.specs.declared.near.Stack.{Stack}
 use Rattle.m3_strides.specs.declared.near.Place.{Place}
-use Rattle.m3_memory.specs.Kept.{KeepsStacks, KeepsMemory}
-use Rattle.m3_strides.specs.State.{State, HasOtherWords, Becomes, regs_set, with_regs, memory_of, can_set}
-use Rattle.m3_strides.specs.Act.{Act, Writes, Goes as Goes_with, Stops, using, finding}
+use Rattle.m3_strides.specs.State.{State, HasOtherWords, regs_set, with_regs, memory_of, can_set}
+use Rattle.m3_strides.specs.Act.{Writes, Goes as Goes_with, using}
 use Rattle.m3_strides.specs.Progress.{Progress, Goes, Ends, Follows, GoesOver}
 use Rattle.m3_strides.specs.Calls.{place_of, come_to, entering, framed, calls, returning, returns}
 

@@ -17,7 +17,7 @@ use Rattle.m3_threads.specs.declared.status.Thread.{Thread}
 use Rattle.m3_sections.specs.Parts.{Program, CellType}
 use Rattle.m3_strides.specs.declared.near.Stack.{Stack}
 use Rattle.m3_strides.specs.State.{State, executed}
-use Rattle.m3_strides.specs.Act.{Act, Goes, Writes, Takes, Stops, bytes_of, using, finding, or_trap, traps}
+use Rattle.m3_strides.specs.Act.{Act, Goes, Writes, Takes, bytes_of, using, finding, or_trap, traps}
 use Rattle.m3_strides.specs.Calls.{place_of, come_to, entering, framed, calls, returning, returns, method_at, tells_method}
 use Rattle.m3_strides.specs.Acts.{faults, uncaught, gets, tells_self}
 use Rattle.m3_strides.specs.Progress.{Progress}

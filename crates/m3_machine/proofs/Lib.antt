@@ -1,12 +1,4 @@
 pub mod Acting
 pub mod Passing
 pub mod ThreadActs
-pub mod NewCells
-pub mod Filling
-pub mod Forking
-pub mod TextBytes
-pub mod Packing
-pub mod BlankLemmas
-pub mod Putting
-pub mod OpenSizes
 pub mod ActsBy

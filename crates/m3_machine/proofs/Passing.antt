@@ -1,5 +1,5 @@
 -- A point is passed, from what its parts told.
-use Rattle.std.specs.Prelude.{ℕ, ◌≡◌, Option, None, Some}
+use Rattle.std.specs.Prelude.{ℕ, ◌≡◌, None, Some}
 use Rattle.std.proofs.Common.{refl, subst}
 use Rattle.m3_base.specs.declared.outcomes.Entry.{Entry}
 use Rattle.m3_base.specs.declared.outcomes.Outcome.TheVariants.{Deadlock, Trap}

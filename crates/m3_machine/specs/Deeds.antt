@@ -1,5 +1,5 @@
 -- What an instruction of the running thread needs so that its deed is told.
-use Rattle.std.specs.Prelude.{ℕ, ◌≡◌, ◌<◌, ◌≤◌, ◌+◌, ◌^◌, false, length, slice_get, vec_capacity, Ok}
+use Rattle.std.specs.Prelude.{◌≡◌, ◌<◌, ◌≤◌, ◌+◌, ◌^◌, false, length, slice_get, vec_capacity, Ok}
 use Rattle.std.specs.Int.{cast_unsigned, w32}
 use Rattle.m3_isa.specs.Instructions.{is_plain}
 use Rattle.m3_isa.specs.declared.instructions.Op.{Op}
@@ -10,12 +10,12 @@ use Rattle.m3_threads.specs.declared.status.Thread.{Thread}
 use Rattle.m3_threads.specs.Going.{IsAwake}
 use Rattle.m3_sections.specs.Parts.{CellType}
 use Rattle.m3_strides.specs.NewTexts.{open_type}
-use Rattle.m3_machine.specs.declared.machine.Machine.{Machine}
-use Rattle.m3_machine.specs.Seen.{program_of, Running}
+use Rattle.m3_new_cells.specs.declared.parts.Parts.{Parts}
+use Rattle.m3_new_cells.specs.Seen.{program_of, Running}
 
 -- the thread runs and is awake, the instruction isn't plain, few instructions on threads were carried out, the code is
 -- one of an image, and where the instruction names an open type, there is room for its sizes
-pub record MayAct {S : Type 0} {g : Ghosts S} (m : Machine S g) (t : Thread) (i : Instr) : Type 0 where
+pub record MayAct {S : Type 0} {g : Ghosts S} (m : Parts S g) (t : Thread) (i : Instr) : Type 0 where
   pub running : Running m t
   pub awake : IsAwake t
   pub acts : is_plain i.op ≡ false

@@ -1,3 +1,2 @@
-pub mod Seen
-pub mod Blanks
 pub mod Deeds
+pub mod Turns

@@ -10,12 +10,15 @@ ghost use Rattle.m3_threads.specs.declared.status.Thread.{Thread};
 ghost use Rattle.m3_decoded.specs.Ready.{image_of};
 ghost use Rattle.m3_strides.specs.Progress.{Follows, became};
 ghost use Rattle.m3_strides.specs.Acts.{fault_kinds, faults_at, is_uncaught};
-ghost use Rattle.m3_machine.specs.Seen.{state_of, program_of, Running, Took};
+ghost use Rattle.m3_new_cells.specs.Seen.{state_of, program_of, Running, Took};
 
-use crate::machine::Machine;
+use crate::calls::{call, method_for, return_back, tell_method, test_type};
+use crate::inputs::{get_byte, put_byte, put_number, tell_end, tell_self};
+use crate::threading::{act_on_threads, end_thread};
 use m3_base::{FaultKind, Outcome};
 use m3_heap::Store;
 use m3_isa::{Instr, Op};
+use m3_new_cells::Parts;
 use m3_ports::{Sink, SinkFailed};
 use m3_strides::Progress;
 use m3_strides::near::{Place, before};
@@ -45,110 +48,116 @@ fn kind_of(number: u8) -> Option<FaultKind>
     }
 }
 
-impl<'a, S: Store> Machine<'a, S> {
-    /// FAULT, whose kind and place every image has.
-    fn fault(&self, i: Instr) -> Progress
-        ensures { Follows (program_of self.now) (faults_at (program_of self.now) i) (state_of self.now) (became result (state_of self.now)) }
-    {
-        let Some(kind) = kind_of(i.a) else {
-            return Progress::trap(2);
-        };
-        match self.image.image().place(i.imm.cast_unsigned()) {
-            Some((file, line)) => Progress::Ends(Outcome::Fault(kind, file, line)),
-            None => Progress::trap(2),
-        }
+/// FAULT, whose kind and place every image has.
+fn fault<S: Store>(parts: &Parts<'_, S>, i: Instr) -> Progress
+    ensures { Follows (program_of parts.now) (faults_at (program_of parts.now) i) (state_of parts.now) (became result (state_of parts.now)) }
+{
+    let Some(kind) = kind_of(i.a) else {
+        return Progress::trap(2);
+    };
+    match parts.image.image().place(i.imm.cast_unsigned()) {
+        Some((file, line)) => Progress::Ends(Outcome::Fault(kind, file, line)),
+        None => Progress::trap(2),
     }
+}
 
-    /// UNC: an exception that nobody handled.
-    fn uncaught(&self, i: Instr) -> Progress
-        requires { i.a < 16 }
-        ensures { (t : Thread) → Running self.now t
-            → Follows (program_of self.now) (is_uncaught (program_of self.now) i t.regs) (state_of self.now) (became result (state_of self.now)) }
-    {
-        let number = self.word(i.a);
-        if number >= 1 << 32 {
-            return Progress::trap(5);
-        }
-        match self.image.image().exception(number as u32) {
-            Some(_name) => Progress::Ends(Outcome::Uncaught(number as u32)),
-            None => Progress::trap(5),
-        }
+/// UNC: an exception that nobody handled.
+fn uncaught<S: Store>(parts: &Parts<'_, S>, i: Instr) -> Progress
+    requires { i.a < 16 }
+    ensures { (t : Thread) → Running parts.now t
+        → Follows (program_of parts.now) (is_uncaught (program_of parts.now) i t.regs) (state_of parts.now) (became result (state_of parts.now)) }
+{
+    let number = parts.word(i.a);
+    if number >= 1 << 32 {
+        return Progress::trap(5);
     }
-
-    /// Carries out the running thread's instruction, which isn't plain.
-    pub(crate) fn act<O: Sink>(&mut self, out: &mut O) -> Result<Progress, SinkFailed>
-        ensures rises { O.faults out.old ≤ O.faults out.new }
-        ensures kept { OnOk result (O.faults out.new ≡ O.faults out.old) }
-        ensures failed { OnErr result (Rose (O.faults out.old) (O.faults out.new)) }
-        ensures does { IfOk result (λ progress. (t : Thread) (i : Instruction) → slice_get (program_of self.old).code t.regs.pc ≡ Some i → MayAct self.old t i → self.old.instructions < 2 ^ 128 - 1
-            → (bytes : List ℕ) × Took (O.taken out.old) (O.taken out.new) bytes
-            × Does (program_of self.old) self.old.input.now t i (executed (state_of self.old)) bytes (became progress (state_of self.new))) }
-    {
-        let regs = self.regs();
-        match self.image.fetch(regs.pc) {
-            Some(i) => {
-                let i = *i;
-                self.act_at(i, Place::of(&regs), out)
-            }
-            None => Ok(Progress::trap(1)),
-        }
+    match parts.image.image().exception(number as u32) {
+        Some(_name) => Progress::Ends(Outcome::Uncaught(number as u32)),
+        None => Progress::trap(5),
     }
+}
 
-    /// Carries out an instruction, at which the running thread stands.
-    fn act_at<O: Sink>(&mut self, i: Instr, at: Place, out: &mut O) -> Result<Progress, SinkFailed>
-        requires instruction { IsInstruction i }
-        requires inside { at.pc < length (image_of self.old.image).program.code }
-        ensures rises { O.faults out.old ≤ O.faults out.new }
-        ensures kept { OnOk result (O.faults out.new ≡ O.faults out.old) }
-        ensures failed { OnErr result (Rose (O.faults out.old) (O.faults out.new)) }
-        ensures does { IfOk result (λ progress. (t : Thread) → MayAct self.old t i → at ≡ place_of t.regs → self.old.instructions < 2 ^ 128 - 1
-            → (bytes : List ℕ) × Took (O.taken out.old) (O.taken out.new) bytes
-            × Does (program_of self.old) self.old.input.now t i (executed (state_of self.old)) bytes (became progress (state_of self.new))) }
-    {
-        self.instructions = self.instructions.saturating_add(1);
-        match i.op {
-            Op::Put => self.put_text(i, out),
-            Op::Putn => self.put_number(i, out),
-            Op::Putc => self.put_byte(i, out),
-            _ => Ok(self.act_silently(i, at)),
+/// Carries out the running thread's instruction, which isn't plain.
+pub(crate) fn act<S: Store, O: Sink>(
+    parts: &mut Parts<'_, S>,
+    out: &mut O,
+) -> Result<Progress, SinkFailed>
+    ensures rises { O.faults out.old ≤ O.faults out.new }
+    ensures kept { OnOk result (O.faults out.new ≡ O.faults out.old) }
+    ensures failed { OnErr result (Rose (O.faults out.old) (O.faults out.new)) }
+    ensures does { IfOk result (λ progress. (t : Thread) (i : Instruction) → slice_get (program_of parts.old).code t.regs.pc ≡ Some i → MayAct parts.old t i → parts.old.instructions < 2 ^ 128 - 1
+        → (bytes : List ℕ) × Took (O.taken out.old) (O.taken out.new) bytes
+        × Does (program_of parts.old) parts.old.input.now t i (executed (state_of parts.old)) bytes (became progress (state_of parts.new))) }
+{
+    let regs = parts.regs();
+    match parts.image.fetch(regs.pc) {
+        Some(i) => {
+            let i = *i;
+            act_at(parts, i, Place::of(&regs), out)
         }
+        None => Ok(Progress::trap(1)),
     }
+}
 
-    /// Carries out an instruction that puts nothing.
-    fn act_silently(&mut self, i: Instr, at: Place) -> Progress
-        requires instruction { IsInstruction i }
-        requires inside { at.pc < length (image_of self.old.image).program.code }
-        ensures { (t : Thread) → MayAct self.old t i → at ≡ place_of t.regs → IsSilent i.op
-            → Acts (program_of self.old) self.old.input.now t i (state_of self.old) [] (became result (state_of self.new)) i.op }
-    {
-        match i.op {
-            Op::Call => self.call(Ok(i.imm.cast_unsigned()), at),
-            Op::Callr => {
-                let callee = before(3, self.word(i.a));
-                self.call(callee, at)
-            }
-            Op::Callm => {
-                let callee = self.called_method(i, at);
-                self.call(callee, at)
-            }
-            Op::Ret => self.return_back(at),
-            Op::Meth => self.tell_method(i),
-            Op::Subt => self.test_type(i),
-            Op::New => self.make_fixed(i),
-            Op::Newo => self.make_open(i),
-            Op::Point => self.go_on(),
-            Op::Fault => self.fault(i),
-            Op::Unc => self.uncaught(i),
-            Op::Endp => Progress::Ends(Outcome::Done),
-            Op::Endt => self.end_thread(i),
-            Op::Cat => self.join_texts(i),
-            Op::Tchr => self.make_char(i),
-            Op::Tsub => self.make_part(i),
-            Op::Getc => self.get_byte(i),
-            Op::Eof => self.tell_end(i),
-            Op::Self_ => self.tell_self(i),
-            Op::Fork => self.start_thread(i),
-            _ => self.act_on_threads(i),
+/// Carries out an instruction, at which the running thread stands.
+fn act_at<S: Store, O: Sink>(
+    parts: &mut Parts<'_, S>,
+    i: Instr,
+    at: Place,
+    out: &mut O,
+) -> Result<Progress, SinkFailed>
+    requires instruction { IsInstruction i }
+    requires inside { at.pc < length (image_of parts.old.image).program.code }
+    ensures rises { O.faults out.old ≤ O.faults out.new }
+    ensures kept { OnOk result (O.faults out.new ≡ O.faults out.old) }
+    ensures failed { OnErr result (Rose (O.faults out.old) (O.faults out.new)) }
+    ensures does { IfOk result (λ progress. (t : Thread) → MayAct parts.old t i → at ≡ place_of t.regs → parts.old.instructions < 2 ^ 128 - 1
+        → (bytes : List ℕ) × Took (O.taken out.old) (O.taken out.new) bytes
+        × Does (program_of parts.old) parts.old.input.now t i (executed (state_of parts.old)) bytes (became progress (state_of parts.new))) }
+{
+    parts.instructions = parts.instructions.saturating_add(1);
+    match i.op {
+        Op::Put => parts.put_text(i, out),
+        Op::Putn => put_number(parts, i, out),
+        Op::Putc => put_byte(parts, i, out),
+        _ => Ok(act_silently(parts, i, at)),
+    }
+}
+
+/// Carries out an instruction that puts nothing.
+fn act_silently<S: Store>(parts: &mut Parts<'_, S>, i: Instr, at: Place) -> Progress
+    requires instruction { IsInstruction i }
+    requires inside { at.pc < length (image_of parts.old.image).program.code }
+    ensures { (t : Thread) → MayAct parts.old t i → at ≡ place_of t.regs → IsSilent i.op
+        → Acts (program_of parts.old) parts.old.input.now t i (state_of parts.old) [] (became result (state_of parts.new)) i.op }
+{
+    match i.op {
+        Op::Call => call(parts, Ok(i.imm.cast_unsigned()), at),
+        Op::Callr => {
+            let callee = before(3, parts.word(i.a));
+            call(parts, callee, at)
         }
+        Op::Callm => {
+            let callee = method_for(parts, i, at);
+            call(parts, callee, at)
+        }
+        Op::Ret => return_back(parts, at),
+        Op::Meth => tell_method(parts, i),
+        Op::Subt => test_type(parts, i),
+        Op::New => parts.make_fixed(i),
+        Op::Newo => parts.make_open(i),
+        Op::Point => parts.go_on(),
+        Op::Fault => fault(parts, i),
+        Op::Unc => uncaught(parts, i),
+        Op::Endp => Progress::Ends(Outcome::Done),
+        Op::Endt => end_thread(parts, i),
+        Op::Cat => parts.join_texts(i),
+        Op::Tchr => parts.make_char(i),
+        Op::Tsub => parts.make_part(i),
+        Op::Getc => get_byte(parts, i),
+        Op::Eof => tell_end(parts, i),
+        Op::Self_ => tell_self(parts, i),
+        Op::Fork => parts.start_thread(i),
+        _ => act_on_threads(parts, i),
     }
 }

@@ -4,16 +4,12 @@
 
 mod acts;
 mod calls;
-mod cells;
-mod collections;
 mod inputs;
 mod machine;
 mod points;
 mod readers;
-mod running;
 mod runs;
 mod start;
-mod texts;
 mod threading;
 
 pub use machine::Machine;

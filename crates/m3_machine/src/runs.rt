@@ -1,13 +1,24 @@
-ghost use Rattle.std.specs.Prelude.{◌≡◌, ◌≤◌, OnOk, OnErr};
+ghost use Rattle.std.specs.Prelude.{◌≡◌, ◌≤◌, ◌<◌, OnOk, OnErr};
+ghost use Rattle.m3_isa.specs.Instructions.{IsInstruction};
+ghost use Rattle.m3_threads.specs.declared.status.Thread.{Thread};
+ghost use Rattle.m3_threads.specs.declared.status.Status.TheVariants.{Ready};
+ghost use Rattle.m3_strides.specs.Runs.{turn_limit as longest};
+ghost use Rattle.m3_strides.specs.declared.progress.Progress.TheVariants.{Goes};
+ghost use Rattle.m3_new_cells.specs.Seen.{state_of, program_of, Running};
+ghost use Rattle.m3_machine.specs.Turns.{to_come};
 ghost use Rattle.m3_ports.specs.Counts.{Rose};
 
+use crate::acts::act;
 use crate::machine::Machine;
+use crate::points::{pass_point, spent};
 use m3_base::{Entry, Outcome};
 use m3_heap::Store;
-use m3_isa::Op;
+use m3_isa::{Instr, Op};
+use m3_new_cells::Parts;
 use m3_ports::{Sink, SinkFailed};
-use m3_strides::near::{Place, Stack};
+use m3_strides::near::Place;
 use m3_strides::{Halt, Pace, Progress, stride};
+use m3_threads::Status;
 
 /// Past its last entry a schedule names no thread and asks for no collection.
 fn first_entry(entries: &[Entry]) -> Entry {
@@ -35,105 +46,144 @@ fn may_wait(op: Op) -> bool {
     }
 }
 
+/// How far a turn has come: how many instructions it has had, and how many points may be passed without a choice.
+#[derive(Clone, Copy, Debug)]
+struct Turn {
+    done: u64,
+    points: u64,
+}
+
+/// How many instructions a turn may have.
+fn turn_limit<S: Store>(parts: &Parts<'_, S>) -> u64
+    ensures limit { (t : Thread) → Running parts.now t → result ≡ longest (program_of parts.now) (state_of parts.now) }
+    ensures small { result ≤ 4611686018427387904 }
+{
+    match parts.depth_of(parts.running) {
+        Some(words) => (words + 1) * u64::from(parts.image.image().code_len()),
+        None => 0,
+    }
+}
+
+/// How many points the running thread may pass without a choice.
+fn free_points<S: Store>(parts: &Parts<'_, S>, turn: &Turn) -> u64
+    ensures few { result ≤ turn.now.points }
+    ensures ready { 1 ≤ result → (t : Thread) → Running parts.now t → t.status ≡ Ready }
+{
+    match parts.memory.threads.status(parts.running) {
+        Some(Status::Ready) => turn.points,
+        _ => 0,
+    }
+}
+
+/// Goes on with the running thread, as far as nothing has to be chosen or done between its instructions.
+fn go_far<S: Store>(parts: &mut Parts<'_, S>, turn: &mut Turn) -> Halt
+    ensures ahead { to_come turn.new ≤ to_come turn.old }
+{
+    let limit = turn_limit(parts);
+    if turn.done >= limit {
+        return Halt::Other;
+    }
+    let mut regs = parts.regs();
+    let mut at = Place::of(&regs);
+    let stack = parts.stack();
+    let points = free_points(parts, turn);
+    let mut pace = Pace {
+        limit,
+        left: limit - turn.done,
+        points,
+    };
+    let (halt, count) = stride(
+        &parts.image,
+        &mut regs.r,
+        &mut at,
+        &mut parts.memory,
+        stack,
+        &mut pace,
+    );
+    regs.pc = at.pc;
+    regs.fp = at.fp;
+    parts.set_regs(regs);
+    parts.points = parts.points.saturating_add(points - pace.points);
+    parts.instructions = parts.instructions.saturating_add(u128::from(count));
+    turn.done = limit.saturating_sub(pace.left);
+    turn.points -= points - pace.points;
+    halt
+}
+
+/// What follows where the running thread has come to a point instruction: it stands there, and its turn is over, or
+/// the next begins at once where no choice is left.
+fn settle_at_point<S: Store>(parts: &mut Parts<'_, S>, turn: &mut Turn, i: Instr) -> Progress
+    requires { IsInstruction i }
+    ensures ahead { to_come turn.new ≤ to_come turn.old }
+    ensures some { result ≡ Goes → turn.new.done < 4611686018427387904 }
+{
+    let running = parts.running;
+    parts.stand_at(running, i);
+    if turn.points == 0 || may_wait(i.op) {
+        return Progress::Rests;
+    }
+    parts.points = parts.points.saturating_add(1);
+    turn.points -= 1;
+    turn.done = 0;
+    Progress::Goes
+}
+
+/// What follows where the running thread has come to an instruction that the machine has to look at: at a point
+/// instruction the turn is over, else it goes on, if so many instructions may still be executed.
+fn settle<S: Store>(parts: &mut Parts<'_, S>, turn: &mut Turn) -> Progress
+    ensures ahead { to_come turn.new ≤ to_come turn.old }
+    ensures some { result ≡ Goes → turn.new.done < 4611686018427387904 }
+{
+    let Some(i) = parts.image.fetch(parts.pc()) else {
+        return Progress::trap(1);
+    };
+    let i = *i;
+    if i.op.is_point() {
+        return settle_at_point(parts, turn, i);
+    }
+    if turn.done >= turn_limit(parts) {
+        return Progress::trap(8);
+    }
+    Progress::Goes
+}
+
+/// Goes on to the next instruction that isn't carried out in passing, if there is one in this turn or one that begins
+/// at once.
+fn go_to_act<S: Store>(parts: &mut Parts<'_, S>, turn: &mut Turn) -> Progress
+    ensures ahead { to_come turn.new ≤ to_come turn.old }
+    ensures some { result ≡ Goes → turn.new.done < 4611686018427387904 }
+{
+    match go_far(parts, turn) {
+        Halt::Trapped(n) => Progress::trap(n),
+        _ => settle(parts, turn),
+    }
+}
+
+/// Goes on to a point instruction at which the machine has to choose or to act, to the thread's end or to the
+/// run's.
+fn take_turn<S: Store, O: Sink>(
+    parts: &mut Parts<'_, S>,
+    turn: &mut Turn,
+    out: &mut O,
+) -> Result<Progress, SinkFailed>
+    ensures rises { O.faults out.old ≤ O.faults out.new }
+    ensures kept { OnOk result (O.faults out.new ≡ O.faults out.old) }
+    ensures failed { OnErr result (Rose (O.faults out.old) (O.faults out.new)) }
+{
+    let mut progress = act(parts, out)?;
+    turn.done = 1;
+    'acts: while progress == Progress::Goes {
+        progress = go_to_act(parts, turn);
+        if progress != Progress::Goes {
+            return Ok(progress);
+        }
+        progress = act(parts, out)?;
+        turn.done += 1;
+    }
+    Ok(progress)
+}
+
 impl<'a, S: Store> Machine<'a, S> {
-    /// How many instructions a turn may have.
-    fn turn_limit(&self) -> u64 {
-        (self.stack + 1) * u64::from(self.image.image().code_len())
-    }
-
-    /// Goes on with the running thread, as far as nothing has to be chosen or done between its instructions.
-    fn go_far(&mut self, pace: &mut Pace) -> (Halt, u64) {
-        let mut regs = self.regs();
-        let mut at = Place {
-            pc: regs.pc,
-            fp: regs.fp,
-        };
-        let points = pace.points;
-        let (halt, count) = stride(&self.image, &mut regs.r, &mut at, &mut self.memory, pace);
-        regs.pc = at.pc;
-        regs.fp = at.fp;
-        self.set_regs(regs);
-        self.points = self.points.saturating_add(points.wrapping_sub(pace.points));
-        self.instructions = self.instructions.saturating_add(u128::from(count));
-        (halt, count)
-    }
-
-    /// What follows where the running thread has come to an instruction that the machine has to look at: the turn is
-    /// over at a point instruction, and the next begins at once where no choice is left; or it goes on, if so many
-    /// instructions may still be executed.
-    fn settle(&mut self, pace: &mut Pace) -> Progress {
-        let Some(i) = self.image.fetch(self.pc()) else {
-            return Progress::trap(1);
-        };
-        if i.op.is_point() {
-            if pace.points == 0 || may_wait(i.op) {
-                self.stand();
-                return Progress::Rests;
-            }
-            self.points = self.points.saturating_add(1);
-            pace.points -= 1;
-            pace.left = pace.limit;
-            return Progress::Goes;
-        }
-        if pace.left == 0 {
-            return Progress::trap(8);
-        }
-        Progress::Goes
-    }
-
-    /// What is left of a turn that begins, and how many points more may be passed without a choice.
-    fn pace(&self, points: u64) -> Pace {
-        let limit = self.turn_limit();
-        let base = match self.memory.threads.stack_at(self.running) {
-            Some(base) => base,
-            None => 0,
-        };
-        Pace {
-            stack: Stack {
-                base,
-                words: self.stack,
-            },
-            limit,
-            left: limit,
-            points,
-        }
-    }
-
-    /// Goes on to a point instruction at which the machine has to choose or to act, to the thread's end or to the
-    /// run's.
-    fn turn<O: Sink>(&mut self, pace: &mut Pace, out: &mut O) -> Result<Progress, SinkFailed>
-        ensures rises { O.faults out.old ≤ O.faults out.new }
-        ensures kept { OnOk result (O.faults out.new ≡ O.faults out.old) }
-        ensures failed { OnErr result (Rose (O.faults out.old) (O.faults out.new)) }
-    {
-        let mut fuel = u128::from(pace.points)
-            .wrapping_mul(u128::from(pace.limit))
-            .wrapping_add(u128::from(pace.limit));
-        let mut progress = self.act(out)?;
-        pace.left = pace.left.saturating_sub(1);
-        'acts: while fuel > 0 {
-            if progress != Progress::Goes {
-                return Ok(progress);
-            }
-            let (halt, count) = self.go_far(pace);
-            let mut spent = u128::from(count);
-            if let Halt::Trapped(n) = halt {
-                return Ok(Progress::trap(n));
-            }
-            progress = self.settle(pace);
-            if progress == Progress::Goes {
-                progress = self.act(out)?;
-                pace.left = pace.left.saturating_sub(1);
-                spent += 1;
-            }
-            if spent == 0 {
-                spent = 1;
-            }
-            fuel = if fuel > spent { fuel - spent } else { 0 };
-        }
-        Ok(Progress::trap(8))
-    }
-
     /// Runs on, with a schedule and so many points at most. SinkFailed comes only where a put failed, and the sink's
     /// count of faults rose; an outcome says that the sink took all output.
     pub fn run<O: Sink>(
@@ -149,18 +199,18 @@ impl<'a, S: Store> Machine<'a, S> {
         let mut entries = schedule;
         let mut left = points;
         'turns: while left > 0 {
-            if let Some(outcome) = self.pass_point(first_entry(entries)) {
+            if let Some(outcome) = pass_point(&mut self.parts, first_entry(entries)) {
                 return Ok(outcome);
             }
             left -= 1;
             entries = later_entries(entries);
-            let mut pace = self.pace(if entries.is_empty() { left } else { 0 });
-            let before = pace.points;
-            if let Progress::Ends(outcome) = self.turn(&mut pace, out)? {
+            let points = if entries.is_empty() { left } else { 0 };
+            let mut turn = Turn { done: 0, points };
+            if let Progress::Ends(outcome) = take_turn(&mut self.parts, &mut turn, out)? {
                 return Ok(outcome);
             }
-            left = left.saturating_sub(before.saturating_sub(pace.points));
+            left = left.saturating_sub(points.saturating_sub(turn.points));
         }
-        Ok(self.spent())
+        Ok(spent(&self.parts))
     }
 }

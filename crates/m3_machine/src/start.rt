@@ -1,11 +1,14 @@
+ghost use Rattle.m3_image.specs.Views.{image_view};
 ghost use Rattle.std.specs.Prelude.{◌≡◌, ◌≤◌, ◌<◌, [], false, length, IfOk};
 
 use crate::machine::Machine;
+use crate::points::stand;
 use m3_base::NoMemory;
 use m3_decoded::Decoded;
 use m3_heap::{Closed, Store};
 use m3_image::ImageView;
 use m3_memory::{Memory, Outside};
+use m3_new_cells::Parts;
 use m3_roots::Room;
 use m3_threads::Threads;
 use std::alloc::Global;
@@ -22,14 +25,15 @@ fn first_globals(alloc: Global, words: u32) -> Result<Vec<u64>, NoMemory>
 }
 
 fn constants_of(alloc: Global, image: &ImageView<'_>) -> Result<Vec<u64>, NoMemory>
-    ensures { IfOk result (λ v. length v.items < 4294967296) }
+    ensures few { IfOk result (λ v. length v.items < 4294967296) }
+    ensures loaded { IfOk result (λ v. v.items ≡ (image_view image.now).program.constants) }
 {
+    let Ok(count) = u32::try_from(image.constant_count()) else {
+        return Err(NoMemory);
+    };
     let mut constants = Vec::new(alloc);
-    for n in 0..u32::MAX {
-        let Some(word) = image.constant(n) else {
-            break;
-        };
-        constants.push(word)?;
+    'constants: for n in 0..count {
+        constants.push(image.constant(n).unwrap_or(0))?;
     }
     Ok(constants)
 }
@@ -79,7 +83,7 @@ impl<'a, S: Store> Machine<'a, S> {
         let room = Room::new(alloc, stack)?;
         let threads = Threads::new(alloc, threads, stack)?;
         let image = Decoded::of(alloc, image)?;
-        let mut machine = Machine {
+        let mut parts = Parts {
             image,
             input,
             memory: Memory {
@@ -101,7 +105,7 @@ impl<'a, S: Store> Machine<'a, S> {
             made: 0,
             stuck: false,
         };
-        machine.stand();
-        Ok(machine)
+        stand(&mut parts);
+        Ok(Machine { parts })
     }
 }

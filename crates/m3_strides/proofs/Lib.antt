@@ -1,2 +1,5 @@
 pub mod PlainSteps
 pub mod Calling
+pub mod Leading
+pub mod Deeds
+pub mod Keeping

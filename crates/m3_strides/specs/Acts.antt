@@ -1,5 +1,5 @@
 -- Ends, input and output: what each instruction makes of the registers, by the words.
-use Rattle.std.specs.Prelude.{ℕ, ◌+◌, ◌-◌, ◌*◌, ◌/◌, ◌%◌, ◌^◌, ◌==◌, nat_le, nat_lt, if◌then◌else◌, Bool, List, [], ◌∷◌, length, slice_get, slice_index_or, Option, None, Some, is_some}
+use Rattle.std.specs.Prelude.{ℕ, ◌+◌, ◌-◌, ◌/◌, ◌%◌, ◌^◌, ◌==◌, nat_le, nat_lt, if◌then◌else◌, Bool, List, [], ◌∷◌, length, slice_get, slice_index_or, Option, None, Some, is_some}
 use Rattle.std.specs.Int.{cast_unsigned, w32}
 use Rattle.std.specs.Fmt.{signed_decimal}
 use Rattle.m3_base.specs.Words.{add_words}

@@ -8,6 +8,8 @@ use Rattle.m3_isa.specs.Memory.{Memory, put}
 use Rattle.m3_isa.specs.Arithmetic.{flag}
 use Rattle.m3_isa.specs.Effects.{reg, answered}
 use Rattle.m3_isa.specs.declared.registers.Regs.{Regs}
+use Rattle.m3_isa.specs.declared.instructions.Op.{Op}
+use Rattle.m3_isa.specs.declared.instructions.Op.TheVariants.{Call, Callr, Callm}
 use Rattle.m3_isa.specs.declared.instructions.Instr.{Instr}
 use Rattle.m3_threads.specs.declared.status.Thread.{Thread}
 use Rattle.m3_threads.specs.All.{Everyone, base_of, words_of}
@@ -17,7 +19,7 @@ use Rattle.m3_sections.specs.Ranges.{containing}
 use Rattle.m3_decoded.specs.Ancestors.{IsSubtype}
 use Rattle.m3_strides.specs.declared.near.Stack.{Stack}
 use Rattle.m3_strides.specs.declared.near.Place.{Place}
-use Rattle.m3_strides.specs.Act.{Act, Goes, Writes, Stops, using, finding, or_trap}
+use Rattle.m3_strides.specs.Act.{Act, Goes, Writes, using, finding, or_trap}
 
 -- where a thread's stack is
 abbrev pub stack_of : Everyone → Thread → Stack
@@ -122,3 +124,13 @@ method_from (Some caller) types n at memory =
 
 abbrev pub method_called : Program → ℕ → Place → Memory → Result ℕ Outcome
 method_called p n at memory = method_from (containing p.procs at.pc) p.types n at memory
+
+-- the procedure that a call calls
+abbrev pub callee_by : Op → Program → Instr → Regs → Memory → Result ℕ Outcome
+callee_by Call p i regs memory = Ok (cast_unsigned w32 i.imm)
+callee_by Callr p i regs memory = number_before 3 (reg regs i.a)
+callee_by Callm p i regs memory = method_called p (cast_unsigned w32 i.imm) (place_of regs) memory
+callee_by _ p i regs memory = Err (Trap 3)
+
+abbrev pub callee_of : Program → Instr → Regs → Memory → Result ℕ Outcome
+callee_of p i regs memory = callee_by i.op p i regs memory

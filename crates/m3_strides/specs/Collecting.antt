@@ -1,15 +1,17 @@
--- What a collection makes of a state, as far as it is known: which words and cells it leaves is not told here.
-use Rattle.std.specs.Prelude.{ℕ, ◌≡◌, length}
+-- What a collection makes of a state.
+use Rattle.std.specs.Prelude.{◌≡◌}
+use Rattle.m3_roots.specs.Collected.{Parts, Collected}
 use Rattle.m3_sections.specs.Parts.{Program}
 use Rattle.m3_strides.specs.State.{State, raised}
 
--- nothing but words, cells and threads is other than before
+abbrev pub parts_of : State → Parts
+parts_of s = record { all = s.all; globals = s.globals; heap = s.heap }
+
+-- a collection that met trap 9: nothing but words, cells and threads is other than before, and nothing is said of them
 pub record Spoils (old new : State) : Type 0 where
   pub rest : new ≡ record old { all = new.all; globals = new.globals; heap = new.heap }
 
 -- a collection that ended well, and was counted
 pub record Collects (p : Program) (old new : State) : Type 0 where
-  pub forks : new.all.forks ≡ old.all.forks
-  pub waits : new.all.waits ≡ old.all.waits
-  pub globals : length new.globals ≡ length old.globals
+  pub collected : Collected p (parts_of old) (parts_of new)
   pub rest : new ≡ record old { all = new.all; globals = new.globals; heap = new.heap; collections = raised 64 old.collections }

@@ -9,6 +9,6 @@ pub mod Acts
 pub mod NewTexts
 pub mod OnThreads
 pub mod Steps
-pub mod Plain
 pub mod Points
 pub mod Runs
+pub mod Leading

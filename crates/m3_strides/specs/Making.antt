@@ -1,6 +1,5 @@
 -- New cells. A cell that doesn't fit has one collection first.
-use Rattle.std.specs.Prelude.{ℕ, ◌≡◌, ◌<◌, ◌≤◌, ◌==◌, if◌then◌else◌, List, ◌∷◌, ◌++◌, length, max, Option, None, Some, Result, Ok, Err}
-use Rattle.std.specs.Int.{cast_unsigned, w32}
+use Rattle.std.specs.Prelude.{ℕ, ◌≡◌, ◌<◌, ◌≤◌, ◌==◌, if◌then◌else◌, List, ◌∷◌, ◌++◌, max, Option, None, Some, Result, Ok, Err}
 use Rattle.m3_base.specs.declared.outcomes.Outcome.{Outcome}
 use Rattle.m3_base.specs.declared.outcomes.Outcome.TheVariants.{HeapFull, Trap}
 use Rattle.m3_isa.specs.Effects.{answered}

@@ -3,7 +3,6 @@ use Rattle.std.specs.Prelude.{ℕ, ◌≡◌, ◌+◌}
 use Rattle.m3_base.specs.declared.outcomes.Outcome.{Outcome}
 use Rattle.m3_base.specs.declared.outcomes.Outcome.TheVariants.{Trap}
 use Rattle.m3_isa.specs.Memory.{Memory}
-use Rattle.m3_isa.specs.declared.registers.Regs.{Regs}
 use Rattle.m3_sections.specs.Parts.{Program}
 use Rattle.m3_strides.specs.declared.progress.Progress.{Progress as Answer}
 use Rattle.m3_strides.specs.declared.progress.Progress.TheVariants as answer

@@ -1,5 +1,5 @@
 -- The state of a machine between two instructions, and what each address holds in it.
-use Rattle.std.specs.Prelude.{ℕ, ◌≡◌, ◌+◌, ◌-◌, ◌*◌, ◌^◌, min, Bool, List, [], length, replicate, slice_set, Option}
+use Rattle.std.specs.Prelude.{ℕ, ◌≡◌, ◌+◌, ◌-◌, ◌*◌, ◌^◌, min, Bool, List, length, replicate, slice_set, Option}
 use Rattle.m3_isa.specs.Memory.{Memory}
 use Rattle.m3_isa.specs.declared.registers.Regs.{Regs}
 use Rattle.m3_heap.specs.Heap.{Heap, HasOtherWords as KeepsHeap}
@@ -68,6 +68,10 @@ regs_set regs t = record t { regs = regs }
 -- the running thread has these registers
 abbrev pub with_regs : State → Regs → State
 with_regs s regs = with_all s (record s.all { threads = updated (regs_set regs) s.running s.all.threads })
+
+-- a state in whose turn the registers of the running thread stand beside its threads
+abbrev pub seen : State → Regs → Everyone → List ℕ → Heap → State
+seen base regs all globals heap = record base { all = record all { threads = updated (regs_set regs) base.running all.threads }; globals = globals; heap = heap }
 
 -- ---- counts
 

@@ -3,12 +3,13 @@
 //! thread after another, as far as nothing has to be chosen between them.
 #![tactic(auto)]
 
+mod halts;
 pub mod near;
-mod plain;
 mod progress;
+mod steps;
 mod strides;
 
+pub use halts::Halt;
 pub use near::{Place, Stack};
-pub use plain::{Halt, run_plain};
 pub use progress::Progress;
 pub use strides::{Pace, stride};

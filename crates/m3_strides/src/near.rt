@@ -1,6 +1,6 @@
 //! Calls, returns and what a cell's type tells, for a thread whose registers stand beside its next instruction and
 //! its newest frame. An Err is how the run ends there; then nothing was done.
-ghost use Rattle.std.specs.Prelude.{◌≡◌, ◌<◌, ◌+◌, ◌%◌, ◌^◌, ℕ, length, slice_index, IfOk, OnErr};
+ghost use Rattle.std.specs.Prelude.{◌≡◌, ◌<◌, ◌+◌, ◌%◌, ◌^◌, ℕ, length, slice_index, Ok, IfOk, OnErr};
 ghost use Rattle.m3_isa.specs.Arithmetic.{flag};
 ghost use Rattle.m3_isa.specs.Effects.{at_hand, answered};
 ghost use Rattle.m3_decoded.specs.Ready.{image_of};
@@ -122,7 +122,8 @@ pub fn enter<W: Words>(
 /// Returns to the caller's frame, if its instruction is in the code.
 #[inline(always)]
 pub fn leave<W: Words>(code: usize, at: Place, memory: &W) -> Result<Place, Outcome>
-    ensures { code < 2 ^ 32 → result ≡ returning code at (W.holds memory.now) }
+    ensures back { code < 2 ^ 32 → result ≡ returning code at (W.holds memory.now) }
+    ensures found { IfOk result (λ to. returning code at (W.holds memory.now) ≡ Ok to) }
 {
     let Some(back) = memory.load(at.fp) else {
         return Err(Outcome::Trap(2));

@@ -1,28 +1,28 @@
 //! A thread's instructions one after another, over points too where nothing else may go between them.
-ghost use Rattle.std.specs.Prelude.{◌≡◌, ◌<◌, ◌≤◌, ℕ, true, Some, List, length, slice_get};
-ghost use Rattle.m3_heap.specs.Shapes.{Shape};
-ghost use Rattle.m3_isa.specs.Instructions.{IsInstruction};
+ghost use Rattle.std.specs.Prelude.{◌≡◌, ◌<◌, ◌≤◌, ◌+◌, ◌-◌, ◌*◌, ◌^◌, true, false, Some, Option, length, slice_get, IfSome, IfNone};
+ghost use Rattle.m3_isa.specs.Instructions.{IsInstruction, is_point, is_plain as plain};
 ghost use Rattle.m3_isa.specs.declared.instructions.Instr.{Instr as Instruction};
-ghost use Rattle.m3_isa.specs.declared.answers.Step.TheVariants.{Other};
+ghost use Rattle.m3_threads.specs.declared.status.Status.TheVariants.{Ready};
+ghost use Rattle.m3_threads.specs.Going.{status_at};
 ghost use Rattle.m3_decoded.specs.Ready.{image_of};
+ghost use Rattle.m3_strides.specs.Leading.{Track, Goes_in, Stands_in, Halts_in, KeepsWhole, further, halted, Counts};
+ghost use Rattle.m3_strides.specs.declared.halts.Halt.TheVariants.{Left, Other};
 
-use crate::near::{
-    Place, Stack, before, called_method, enter, give, is_of_type, leave, method_of, register, truth,
-};
-use crate::plain::Halt;
+use crate::halts::Halt;
+use crate::near::{Place, Stack, before, called_method, register};
+use crate::steps::{call_near, make_near, point_near, return_near, tell_near, test_near};
 use m3_decoded::Decoded;
 use m3_heap::Store;
-use m3_isa::{Instr, Op, Step, Words, carry_out};
-use m3_memory::{Memory, Outside};
+use m3_isa::{Instr, Op, Step, carry_out};
+use m3_memory::Memory;
 
 // After so many instructions the counts are added up.
 const MOST: u64 = 1 << 62;
 
-/// Where a thread's stack is, and what is left: of the instructions that a turn may have, those of this turn, and
-/// the points that may be passed without a choice.
+/// How many instructions a turn may have, how many this turn may still have, and how many points may be passed
+/// without a choice.
 #[derive(Clone, Copy, Debug)]
 pub struct Pace {
-    pub stack: Stack,
     pub limit: u64,
     pub left: u64,
     pub points: u64,
@@ -39,10 +39,16 @@ struct Fuel {
 }
 
 impl Fuel {
-    fn of(pace: &Pace) -> Fuel {
+    fn of(pace: &Pace) -> Fuel
+        requires { pace.now.left ≤ 4611686018427387904 }
+        ensures left { result.left ≡ 4611686018427387904 }
+        ensures floor { result.floor ≡ 4611686018427387904 - pace.now.left }
+        ensures limit { result.limit ≡ pace.now.limit }
+        ensures points { result.points ≡ pace.now.points }
+    {
         Fuel {
             left: MOST,
-            floor: MOST.saturating_sub(pace.left),
+            floor: MOST - pace.left,
             limit: pace.limit,
             points: pace.points,
         }
@@ -57,152 +63,240 @@ impl Fuel {
         self.points > 0 && self.left >= self.limit
     }
 
-    /// A turn is over and the next begins, if there is a place to go to.
+    /// A turn is over and the next begins.
     #[inline(always)]
-    fn pass(&mut self, next: Option<Place>) -> Option<Place>
+    fn pass(&mut self)
         requires points { 1 ≤ self.old.points }
         requires left { self.old.limit ≤ self.old.left }
-        ensures left { self.new.left ≡ self.old.left }
-        ensures next { result ≡ next }
+        ensures { self.new ≡ record self.old { points = self.old.points - 1; floor = self.old.left - self.old.limit } }
     {
-        if next.is_some() {
-            self.points -= 1;
-            self.floor = self.left - self.limit;
-        }
-        next
+        self.points -= 1;
+        self.floor = self.left - self.limit;
     }
 }
 
-/// METH, where the cell has the method.
-fn tell_near<W: Words>(
-    image: &Decoded<'_>,
-    i: Instr,
-    r: &mut [u64; 16],
-    at: Place,
-    memory: &W,
-) -> Option<Place>
-    requires answer { i.a < 16 }
-    requires cell { i.b < 16 }
-{
-    let method = method_of(image, register(r, i.b), i.imm.cast_unsigned(), memory).ok()?;
-    Some(give(r, i.a, u64::from(method), at))
-}
-
-/// SUBT, where the cell has a type.
-fn test_near<W: Words>(
-    image: &Decoded<'_>,
-    i: Instr,
-    r: &mut [u64; 16],
-    at: Place,
-    memory: &W,
-) -> Option<Place>
-    requires answer { i.a < 16 }
-    requires cell { i.b < 16 }
-{
-    let is_of = is_of_type(image, register(r, i.b), i.imm.cast_unsigned(), memory).ok()?;
-    Some(give(r, i.a, truth(is_of), at))
-}
-
-/// NEW, where the heap has the words.
-fn make_near<S: Store>(
-    image: &Decoded<'_>,
-    i: Instr,
-    r: &mut [u64; 16],
-    at: Place,
-    outside: &mut Outside<S>,
-) -> Option<Place>
-    requires { i.a < 16 }
-    ensures words { length outside.new.globals.items ≡ length outside.old.globals.items }
-    ensures fitting { (shapes : List Shape) → S.fits outside.old.heap.store shapes → S.fits outside.new.heap.store shapes }
-{
-    let kind = i.imm.cast_unsigned();
-    let shape = image.shape(kind)?;
-    if shape.kind() != 0 {
-        return None;
-    }
-    let cell = outside.allocate(kind, u64::from(shape.words()).max(1))?;
-    Some(give(r, i.a, cell, at))
-}
-
-/// CALL, CALLR and CALLM.
+/// Whether an instruction concerns the registers and the memory alone.
 #[inline(always)]
-fn call<S: Store>(
+fn is_plain(op: Op) -> bool
+    ensures { result ≡ plain op }
+{
+    match op {
+        Op::Call
+        | Op::Callr
+        | Op::Callm
+        | Op::Ret
+        | Op::Meth
+        | Op::Subt
+        | Op::New
+        | Op::Newo
+        | Op::Point
+        | Op::Fault
+        | Op::Unc
+        | Op::Endp
+        | Op::Endt
+        | Op::Cat
+        | Op::Tchr
+        | Op::Tsub
+        | Op::Fork
+        | Op::Join
+        | Op::Acq
+        | Op::Rel
+        | Op::Wait
+        | Op::Sig
+        | Op::Bca
+        | Op::Self_
+        | Op::Put
+        | Op::Putn
+        | Op::Putc
+        | Op::Alert
+        | Op::Talert
+        | Op::Await
+        | Op::Ajoin
+        | Op::Getc
+        | Op::Eof => false,
+        _ => true,
+    }
+}
+
+/// An instruction that is no point, if nothing has to be done before it. None says that nothing was done.
+#[inline(always)]
+fn stay_near<S: Store>(
     image: &Decoded<'_>,
     i: Instr,
-    r: &[u64; 16],
+    r: &mut [u64; 16],
+    at: Place,
+    memory: &Memory<S>,
+    stack: Stack,
+) -> Option<Place>
+    requires { IsInstruction i }
+    ensures refused { IfNone result (r.new ≡ r.old) }
+    ensures goes { IfSome result (λ to. Goes_in (image_of image.now).program stack i r.old at memory.now r.new to memory.now) }
+{
+    match i.op {
+        Op::Ret => return_near(image, i, r, at, memory, stack),
+        Op::Meth => tell_near(image, i, r, at, memory, stack),
+        Op::Subt => test_near(image, i, r, at, memory, stack),
+        _ => None,
+    }
+}
+
+/// A point instruction, if nothing has to be done between the point and it. None says that nothing was done.
+#[inline(always)]
+fn point_step<S: Store>(
+    image: &Decoded<'_>,
+    i: Instr,
+    r: &mut [u64; 16],
     at: Place,
     memory: &mut Memory<S>,
     stack: Stack,
 ) -> Option<Place>
     requires instruction { IsInstruction i }
     requires inside { at.pc < length (image_of image.now).program.code }
-    ensures forks { memory.new.threads.forks ≡ memory.old.threads.forks }
-    ensures waits { memory.new.threads.waits ≡ memory.old.threads.waits }
-    ensures words { length memory.new.outside.globals.items ≡ length memory.old.outside.globals.items }
-    ensures fitting { (shapes : List Shape) → S.fits memory.old.outside.heap.store shapes → S.fits memory.new.outside.heap.store shapes }
+    ensures refused { IfNone result ((r.new ≡ r.old) × (memory.new ≡ memory.old)) }
+    ensures free { IfSome result (λ _. status_at i ≡ Ready) }
+    ensures keeps { KeepsWhole memory.old memory.new }
+    ensures goes { IfSome result (λ to. Goes_in (image_of image.now).program stack i r.old at memory.old r.new to memory.new) }
 {
-    let number = match i.op {
-        Op::Call => i.imm.cast_unsigned(),
-        Op::Callr => before(3, register(r, i.a)).ok()?,
-        _ => called_method(image, i.imm.cast_unsigned(), at, memory).ok()?,
-    };
-    enter(image, number, at, memory, stack).ok()
+    match i.op {
+        Op::Point => Some(point_near(image, i, r, at, memory, stack)),
+        Op::New => make_near(image, i, r, at, memory, stack),
+        Op::Call => call_near(image, i, Ok(i.imm.cast_unsigned()), r, at, memory, stack),
+        Op::Callr => {
+            let callee = before(3, register(r, i.a));
+            call_near(image, i, callee, r, at, memory, stack)
+        }
+        Op::Callm => {
+            let callee = called_method(image, i.imm.cast_unsigned(), at, memory);
+            call_near(image, i, callee, r, at, memory, stack)
+        }
+        _ => None,
+    }
 }
 
-/// A plain instruction.
+/// A point and the instruction behind it, if no choice comes before it. None says that nothing was done.
 #[inline(always)]
-fn go_plainly<S: Store>(
-    i: &Instr,
-    r: &mut [u64; 16],
-    at: &mut Place,
-    memory: &mut Memory<S>,
-) -> Step
-    requires { IsInstruction i.now }
-    ensures stays { result ≡ Other → at.new.pc ≡ at.old.pc }
-    ensures forks { memory.new.threads.forks ≡ memory.old.threads.forks }
-    ensures waits { memory.new.threads.waits ≡ memory.old.threads.waits }
-    ensures words { length memory.new.outside.globals.items ≡ length memory.old.outside.globals.items }
-    ensures fitting { (shapes : List Shape) → S.fits memory.old.outside.heap.store shapes → S.fits memory.new.outside.heap.store shapes }
-{
-    carry_out(i, r, &mut at.pc, at.fp, memory)
-}
-
-/// A call, a return, a test of a type, a new cell that fits or a point, if no choice comes before it. None says that
-/// nothing was done.
-#[inline(always)]
-fn go_near<S: Store>(
+fn pass_near<S: Store>(
     image: &Decoded<'_>,
-    i: &Instr,
+    i: Instr,
     r: &mut [u64; 16],
     at: Place,
     memory: &mut Memory<S>,
     stack: Stack,
     fuel: &mut Fuel,
 ) -> Option<Place>
-    requires instruction { IsInstruction i.now }
+    requires instruction { IsInstruction i }
     requires inside { at.pc < length (image_of image.now).program.code }
-    ensures forks { memory.new.threads.forks ≡ memory.old.threads.forks }
-    ensures waits { memory.new.threads.waits ≡ memory.old.threads.waits }
-    ensures words { length memory.new.outside.globals.items ≡ length memory.old.outside.globals.items }
-    ensures fitting { (shapes : List Shape) → S.fits memory.old.outside.heap.store shapes → S.fits memory.new.outside.heap.store shapes }
-    ensures left { fuel.new.left ≡ fuel.old.left }
+    ensures refused { IfNone result ((r.new ≡ r.old) × (memory.new ≡ memory.old) × (fuel.new ≡ fuel.old)) }
+    ensures passed { IfSome result (λ _. (status_at i ≡ Ready) × (1 ≤ fuel.old.points) × (fuel.old.limit ≤ fuel.old.left)
+        × (fuel.new ≡ record fuel.old { points = fuel.old.points - 1; floor = fuel.old.left - fuel.old.limit })) }
+    ensures keeps { KeepsWhole memory.old memory.new }
+    ensures goes { IfSome result (λ to. Goes_in (image_of image.now).program stack i r.old at memory.old r.new to memory.new) }
 {
-    match i.op {
-        Op::Ret => return leave(image.code().len(), at, memory).ok(),
-        Op::Meth => return tell_near(image, *i, r, at, memory),
-        Op::Subt => return test_near(image, *i, r, at, memory),
-        _ => {}
-    }
     if !fuel.may_pass() {
         return None;
     }
-    let next = match i.op {
-        Op::Point => Some(at.next()),
-        Op::New => make_near(image, *i, r, at, &mut memory.outside),
-        Op::Call | Op::Callr | Op::Callm => call(image, *i, r, at, memory, stack),
-        _ => None,
-    };
-    fuel.pass(next)
+    match point_step(image, i, r, at, memory, stack) {
+        Some(to) => {
+            fuel.pass();
+            Some(to)
+        }
+        None => None,
+    }
+}
+
+/// A plain instruction.
+#[inline(always)]
+fn go_plainly<S: Store>(
+    image: &Decoded<'_>,
+    i: &Instr,
+    r: &mut [u64; 16],
+    at: &mut Place,
+    memory: &mut Memory<S>,
+    stack: Stack,
+    fuel: &mut Fuel,
+) -> Option<Halt>
+    requires instruction { IsInstruction i.now }
+    requires operation { plain i.now.op ≡ true }
+    requires some { fuel.old.floor < fuel.old.left }
+    ensures counts { Counts fuel.old fuel.new }
+    ensures halts { IfSome result (λ halt. (halt ≡ Other → ⊥) × (halt ≡ Left → ⊥)) }
+    ensures keeps { KeepsWhole memory.old memory.new }
+    ensures strides { (k : Track) → slice_get (image_of image.now).program.code at.old.pc ≡ Some i.now
+        → Stands_in (image_of image.now).program k stack fuel.old.limit (fuel.old.left - fuel.old.floor) fuel.old.points r.old at.old memory.old
+        → Halts_in (image_of image.now).program (further k (fuel.old.points - fuel.new.points) (fuel.old.left - fuel.new.left)) stack
+        fuel.new.limit (fuel.new.left - fuel.new.floor) fuel.new.points r.new at.new memory.new (halted result) }
+{
+    fuel.left -= 1;
+    match carry_out(i, r, &mut at.pc, at.fp, memory) {
+        Step::Went => None,
+        Step::Trapped(n) => Some(Halt::Trapped(n)),
+        Step::Other => Some(Halt::Trapped(1)),
+    }
+}
+
+/// A return or a test of a type, where it is found.
+#[inline(always)]
+fn go_by<S: Store>(
+    image: &Decoded<'_>,
+    i: &Instr,
+    r: &mut [u64; 16],
+    at: &mut Place,
+    memory: &mut Memory<S>,
+    stack: Stack,
+    fuel: &mut Fuel,
+) -> Option<Halt>
+    requires instruction { IsInstruction i.now }
+    requires operation { is_point i.now.op ≡ false }
+    requires some { fuel.old.floor < fuel.old.left }
+    ensures counts { IfNone result (Counts fuel.old fuel.new) }
+    ensures halts { IfSome result (λ halt. (fuel.new ≡ fuel.old) × (at.new ≡ at.old) × (halt ≡ Other)) }
+    ensures keeps { KeepsWhole memory.old memory.new }
+    ensures strides { (k : Track) → slice_get (image_of image.now).program.code at.old.pc ≡ Some i.now
+        → Stands_in (image_of image.now).program k stack fuel.old.limit (fuel.old.left - fuel.old.floor) fuel.old.points r.old at.old memory.old
+        → Halts_in (image_of image.now).program (further k (fuel.old.points - fuel.new.points) (fuel.old.left - fuel.new.left)) stack
+        fuel.new.limit (fuel.new.left - fuel.new.floor) fuel.new.points r.new at.new memory.new (halted result) }
+{
+    match stay_near(image, *i, r, *at, memory, stack) {
+        Some(to) => {
+            *at = to;
+            fuel.left -= 1;
+            None
+        }
+        None => Some(Halt::Other),
+    }
+}
+
+/// A point and a call, a new cell that fits or nothing, if no choice comes before it.
+#[inline(always)]
+fn go_past<S: Store>(
+    image: &Decoded<'_>,
+    i: &Instr,
+    r: &mut [u64; 16],
+    at: &mut Place,
+    memory: &mut Memory<S>,
+    stack: Stack,
+    fuel: &mut Fuel,
+) -> Option<Halt>
+    requires instruction { IsInstruction i.now }
+    requires inside { at.old.pc < length (image_of image.now).program.code }
+    requires operation { is_point i.now.op ≡ true }
+    requires some { fuel.old.floor < fuel.old.left }
+    ensures counts { IfNone result (Counts fuel.old fuel.new) }
+    ensures halts { IfSome result (λ halt. (fuel.new ≡ fuel.old) × (at.new ≡ at.old) × (halt ≡ Other)) }
+    ensures keeps { KeepsWhole memory.old memory.new }
+    ensures strides { (k : Track) → slice_get (image_of image.now).program.code at.old.pc ≡ Some i.now
+        → Stands_in (image_of image.now).program k stack fuel.old.limit (fuel.old.left - fuel.old.floor) fuel.old.points r.old at.old memory.old
+        → Halts_in (image_of image.now).program (further k (fuel.old.points - fuel.new.points) (fuel.old.left - fuel.new.left)) stack
+        fuel.new.limit (fuel.new.left - fuel.new.floor) fuel.new.points r.new at.new memory.new (halted result) }
+{
+    match pass_near(image, *i, r, *at, memory, stack, fuel) {
+        Some(to) => {
+            *at = to;
+            fuel.left -= 1;
+            None
+        }
+        None => Some(Halt::Other),
+    }
 }
 
 /// Carries out one instruction. Or it says why it didn't, or that it trapped.
@@ -218,22 +312,22 @@ fn go_on<S: Store>(
 ) -> Option<Halt>
     requires instruction { IsInstruction i.now }
     requires inside { at.old.pc < length (image_of image.now).program.code }
-    ensures forks { memory.new.threads.forks ≡ memory.old.threads.forks }
-    ensures waits { memory.new.threads.waits ≡ memory.old.threads.waits }
-    ensures words { length memory.new.outside.globals.items ≡ length memory.old.outside.globals.items }
-    ensures fitting { (shapes : List Shape) → S.fits memory.old.outside.heap.store shapes → S.fits memory.new.outside.heap.store shapes }
-    ensures left { fuel.new.left ≡ fuel.old.left }
+    requires some { fuel.old.floor < fuel.old.left }
+    ensures counts { IfNone result (Counts fuel.old fuel.new) }
+    ensures halts { IfSome result (λ halt. (fuel.new.left ≤ fuel.old.left) × (fuel.new.points ≤ fuel.old.points) × (fuel.new.points ≡ fuel.old.points → fuel.new.floor ≡ fuel.old.floor) × (halt ≡ Other → (plain i.now.op ≡ false) × (at.new ≡ at.old)) × (halt ≡ Left → ⊥)) }
+    ensures keeps { KeepsWhole memory.old memory.new }
+    ensures strides { (k : Track) → slice_get (image_of image.now).program.code at.old.pc ≡ Some i.now
+        → Stands_in (image_of image.now).program k stack fuel.old.limit (fuel.old.left - fuel.old.floor) fuel.old.points r.old at.old memory.old
+        → Halts_in (image_of image.now).program (further k (fuel.old.points - fuel.new.points) (fuel.old.left - fuel.new.left)) stack
+        fuel.new.limit (fuel.new.left - fuel.new.floor) fuel.new.points r.new at.new memory.new (halted result) }
 {
-    match go_plainly(i, r, at, memory) {
-        Step::Went => None,
-        Step::Trapped(n) => Some(Halt::Trapped(n)),
-        Step::Other => match go_near(image, i, r, *at, memory, stack, fuel) {
-            Some(next) => {
-                *at = next;
-                None
-            }
-            None => Some(Halt::Other),
-        },
+    if is_plain(i.op) {
+        return go_plainly(image, i, r, at, memory, stack, fuel);
+    }
+    if i.op.is_point() {
+        go_past(image, i, r, at, memory, stack, fuel)
+    } else {
+        go_by(image, i, r, at, memory, stack, fuel)
     }
 }
 
@@ -247,23 +341,21 @@ fn go<S: Store>(
     stack: Stack,
     fuel: &mut Fuel,
 ) -> Halt
-    ensures forks { memory.new.threads.forks ≡ memory.old.threads.forks }
-    ensures waits { memory.new.threads.waits ≡ memory.old.threads.waits }
-    ensures words { length memory.new.outside.globals.items ≡ length memory.old.outside.globals.items }
-    ensures fitting { (shapes : List Shape) → S.fits memory.old.outside.heap.store shapes → S.fits memory.new.outside.heap.store shapes }
+    ensures counts { (fuel.new.left ≤ fuel.old.left) × (fuel.new.points ≤ fuel.old.points) × (fuel.new.points ≡ fuel.old.points → fuel.new.floor ≡ fuel.old.floor) }
+    ensures keeps { KeepsWhole memory.old memory.new }
+    ensures past { result ≡ Left → length (image_of image.now).program.code ≤ at.new.pc }
+    ensures other { result ≡ Other → fuel.new.floor < fuel.new.left → (i : Instruction) → slice_get (image_of image.now).program.code at.new.pc ≡ Some i → plain i.op ≡ false }
+    ensures strides { (k : Track) → Stands_in (image_of image.now).program k stack fuel.old.limit (fuel.old.left - fuel.old.floor) fuel.old.points r.old at.old memory.old
+        → Halts_in (image_of image.now).program (further k (fuel.old.points - fuel.new.points) (fuel.old.left - fuel.new.left)) stack
+        fuel.new.limit (fuel.new.left - fuel.new.floor) fuel.new.points r.new at.new memory.new result }
 {
     let code = image.code();
     'steps: while fuel.left > fuel.floor {
         if at.pc as usize >= code.len() {
             return Halt::Left;
         }
-        match go_on(image, &code[at.pc as usize], r, at, memory, stack, fuel) {
-            None => fuel.left -= 1,
-            Some(Halt::Trapped(n)) => {
-                fuel.left -= 1;
-                return Halt::Trapped(n);
-            }
-            Some(halt) => return halt,
+        if let Some(halt) = go_on(image, &code[at.pc as usize], r, at, memory, stack, fuel) {
+            return halt;
         }
     }
     Halt::Other
@@ -277,18 +369,26 @@ pub fn stride<S: Store>(
     r: &mut [u64; 16],
     at: &mut Place,
     memory: &mut Memory<S>,
+    stack: Stack,
     pace: &mut Pace,
 ) -> (Halt, u64)
-    ensures forks { memory.new.threads.forks ≡ memory.old.threads.forks }
-    ensures waits { memory.new.threads.waits ≡ memory.old.threads.waits }
-    ensures words { length memory.new.outside.globals.items ≡ length memory.old.outside.globals.items }
-    ensures fitting { (shapes : List Shape) → S.fits memory.old.outside.heap.store shapes → S.fits memory.new.outside.heap.store shapes }
+    requires { pace.old.left ≤ 4611686018427387904 }
+    ensures limit { pace.new.limit ≡ pace.old.limit }
+    ensures points { pace.new.points ≤ pace.old.points }
+    ensures left { pace.new.points ≡ pace.old.points → pace.new.left ≤ pace.old.left }
+    ensures few { result.1 ≤ 4611686018427387904 }
+    ensures keeps { KeepsWhole memory.old memory.new }
+    ensures past { result.0 ≡ Left → length (image_of image.now).program.code ≤ at.new.pc }
+    ensures other { result.0 ≡ Other → 1 ≤ pace.new.left → (i : Instruction) → slice_get (image_of image.now).program.code at.new.pc ≡ Some i → plain i.op ≡ false }
+    ensures strides { (k : Track) → Stands_in (image_of image.now).program k stack pace.old.limit pace.old.left pace.old.points r.old at.old memory.old
+        → Halts_in (image_of image.now).program (further k (pace.old.points - pace.new.points) result.1) stack
+        pace.new.limit pace.new.left pace.new.points r.new at.new memory.new result.0 }
 {
     let mut now = *at;
     let mut fuel = Fuel::of(pace);
-    let halt = go(image, r, &mut now, memory, pace.stack, &mut fuel);
+    let halt = go(image, r, &mut now, memory, stack, &mut fuel);
     *at = now;
     pace.left = fuel.left.saturating_sub(fuel.floor);
     pace.points = fuel.points;
-    (halt, MOST.saturating_sub(fuel.left))
+    (halt, MOST - fuel.left)
 }

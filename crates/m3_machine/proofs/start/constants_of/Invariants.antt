@@ -1,5 +1,6 @@
-use Rattle.std.specs.Prelude.{ℕ, ◌≤◌, length}
+use Rattle.std.specs.Prelude.{◌≡◌, take}
+use Rattle.m3_image.specs.Views.{image_view}
 use Rattle.m3_machine.proofs.start.constants_of.Given as goal
 
-abbrev pub invariant-loop-n : goal.invariant-loop-n
-invariant-loop-n l = length l.constants.items ≤ l.n
+abbrev pub invariant-constants : goal.invariant-constants
+invariant-constants l = l.constants.items ≡ take l.n (image_view l.image).program.constants

@@ -1,9 +1,8 @@
-use Rattle.std.specs.Prelude.{◌≡◌, ◌+◌, Some, Err}
+use Rattle.std.specs.Prelude.{◌≡◌, ◌+◌, Some}
 use Rattle.std.proofs.Common.{sym, rules}
 use Rattle.m3_base.specs.Words.{add_words}
 use Rattle.m3_sections.specs.Ranges.{containing}
 use Rattle.m3_decoded.specs.Ready.{image_of}
-use Rattle.m3_strides.specs.Calls.{method_at}
 use Rattle.m3_strides.proofs.Calling.{method_refused}
 use Rattle.m3_strides.proofs.near.called_method.Goals as goal
 

@@ -1,16 +1,20 @@
-use Rattle.std.specs.Prelude.{ℕ, ◌≡◌, length, List}
-use Rattle.m3_heap.specs.Shapes.{Shape}
+use Rattle.std.specs.Prelude.{◌≡◌, ◌≤◌, ◌-◌}
+use Rattle.m3_decoded.specs.Ready.{image_of}
+use Rattle.m3_strides.specs.Leading.{Track, KeepsWhole, Stands_in, further}
 use Rattle.m3_strides.proofs.strides.go.Given as goal
 
--- as many forks, waits and globals as before, and the cells fit where they did
+-- the memory keeps what it had, and where the turn stood at first, there it stands after so many points and instructions
 abbrev pub invariant-steps : goal.invariant-steps
 invariant-steps g l =
-    let old = l.initial.memory in
-    let now = l.memory in
-    (now.threads.forks ≡ old.threads.forks)
-    × (now.threads.waits ≡ old.threads.waits)
-    × (length now.outside.globals.items ≡ length old.outside.globals.items)
-    × ((shapes : List Shape) → g.S.Store.fits old.outside.heap.store shapes → g.S.Store.fits now.outside.heap.store shapes)
+    let p = (image_of l.image).program in
+    let first = l.initial.fuel in
+    let now = l.fuel in
+    (now.left ≤ first.left)
+    × (now.points ≤ first.points)
+    × (now.points ≡ first.points → now.floor ≡ first.floor)
+    × KeepsWhole l.initial.memory l.memory
+    × ((k : Track) → Stands_in p k l.stack first.limit (first.left - first.floor) first.points l.initial.r l.initial.at l.initial.memory
+    → Stands_in p (further k (first.points - now.points) (first.left - now.left)) l.stack now.limit (now.left - now.floor) now.points l.r l.at l.memory)
 
 abbrev pub decreases-steps : goal.decreases-steps
 decreases-steps g l = l.fuel.left

@@ -1,4 +1,4 @@
-use Rattle.std.specs.Prelude.{ℕ, ◌≡◌}
+use Rattle.std.specs.Prelude.{◌≡◌}
 use Rattle.m3_machine.proofs.machine.Machine.run.Given as goal
 
 abbrev pub invariant-turns : goal.invariant-turns

@@ -1,8 +1,0 @@
-use Rattle.std.specs.Prelude.{ℕ, ◌≡◌}
-use Rattle.m3_machine.proofs.machine.Machine.turn.Given as goal
-
-abbrev pub invariant-acts : goal.invariant-acts
-invariant-acts g l = g.O.Sink.faults l.out ≡ g.O.Sink.faults l.fn.out
-
-abbrev pub decreases-acts : goal.decreases-acts
-decreases-acts g l = l.fuel

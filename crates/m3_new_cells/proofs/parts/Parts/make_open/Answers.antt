@@ -1,0 +1,26 @@
+use Rattle.std.specs.Prelude.{ℕ, ◌≡◌, Result, slice_get}
+use Rattle.std.specs.Int.{cast_unsigned, w32}
+use Rattle.std.proofs.Common.{sym, ap, subst, ◌∙◌, rules}
+use Rattle.m3_base.specs.declared.outcomes.Outcome.{Outcome}
+use Rattle.m3_sections.specs.Parts.{CellType}
+use Rattle.m3_sections.specs.PartViews.{type_of}
+use Rattle.m3_strides.specs.Progress.{became}
+use Rattle.m3_strides.specs.NewTexts.{Makes_open, open_type, not_open}
+use Rattle.m3_new_cells.specs.Seen.{state_of, program_of}
+use Rattle.m3_new_cells.proofs.parts.Parts.make_open.Goals as goal
+
+pub returns-in-Err-clause-makes : goal.returns-in-Err-clause-makes
+returns-in-Err-clause-makes g c = λ fits t running.
+    let m = c.args.self.now in
+    let p = program_of m in
+    let kind : c.cast_unsigned-kind.result ≡ cast_unsigned w32 c.args.i.imm = search rules in
+    not_open c.in-Err.outcome (sym (ap (λ (k : ℕ). open_type (slice_get p.types k)) kind) ∙ c.in-Err.ensures)
+
+pub returns-in-Ok-clause-makes : goal.returns-in-Ok-clause-makes
+returns-in-Ok-clause-makes g c = λ fits t running.
+    let m = c.args.self.now in
+    let p = program_of m in
+    let kind : c.cast_unsigned-kind.result ≡ cast_unsigned w32 c.args.i.imm = search rules in
+    let told = sym (ap (λ (k : ℕ). open_type (slice_get p.types k)) kind) ∙ c.in-Ok.ensures in
+    subst (λ (r : Result CellType Outcome). Makes_open p t c.args.i (state_of m) r (became c.make_by_sizes.result (state_of c.make_by_sizes.new.self))) (sym told)
+    (c.make_by_sizes.ensures.makes (fits (type_of c.in-Ok.shape) told) t running)

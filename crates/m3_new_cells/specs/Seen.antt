@@ -1,0 +1,45 @@
+-- What a machine is seen as: its program and its state, and what else stays or changes with them.
+use Rattle.std.specs.Prelude.{ℕ, ◌≡◌, ◌++◌, Bool, List, Option, Some, IfSome}
+use Rattle.m3_heap.specs.declared.store.Store.{Ghosts}
+use Rattle.m3_threads.specs.declared.status.Thread.{Thread}
+use Rattle.m3_threads.specs.All.{thread_named}
+use Rattle.m3_sections.specs.Parts.{Program}
+use Rattle.m3_decoded.specs.Ready.{image_of}
+use Rattle.m3_new_cells.specs.declared.parts.Parts.{Parts}
+use Rattle.m3_strides.specs.State.{State}
+
+abbrev pub state_of : {S : Type 0} {g : Ghosts S} → Parts S g → State
+state_of {g = g} m = record {
+  all = m.memory.threads;
+  globals = m.memory.outside.globals.items;
+  heap = g.heap m.memory.outside.heap.store;
+  running = m.running;
+  taken = m.taken;
+  points = m.points;
+  instructions = m.instructions;
+  collections = m.collections;
+}
+
+-- the program of its image, with the constants that stand in its memory
+abbrev pub program_of : {S : Type 0} {g : Ghosts S} → Parts S g → Program
+program_of m = record (image_of m.image).program { constants = m.memory.outside.constants.items }
+
+-- its program and its input, the words of a stack, how many forks, waits and ends it carried out at most, and
+-- whether a collection ended in trap 9
+pub record Rest : Type 0 where
+  pub program : Program
+  pub input : List ℕ
+  pub stack : ℕ
+  pub made : ℕ
+  pub stuck : Bool
+
+abbrev pub rest_of : {S : Type 0} {g : Ghosts S} → Parts S g → Rest
+rest_of m = record { program = program_of m; input = m.input.now; stack = m.stack; made = m.made; stuck = m.stuck }
+
+-- the thread that runs
+abbrev pub Running : {S : Type 0} {g : Ghosts S} → Parts S g → Thread → Type 0
+Running m t = thread_named m.memory.threads m.running ≡ Some t
+
+-- a sink took these bytes, where it tells what it took
+abbrev pub Took : Option (List ℕ) → Option (List ℕ) → List ℕ → Type 0
+Took before after bytes = IfSome before (λ taken. after ≡ Some (taken ++ bytes))

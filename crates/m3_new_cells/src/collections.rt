@@ -1,0 +1,139 @@
+ghost use Rattle.std.specs.Prelude.{◌≡◌, ℕ, true, false, map, length};
+ghost use Rattle.std.specs.Bool.{OnTrue};
+ghost use Rattle.m3_sections.specs.Shapes.{shape_of};
+ghost use Rattle.m3_decoded.specs.Ready.{image_of};
+ghost use Rattle.m3_roots.specs.RoomSizes.{IsRoomFor};
+ghost use Rattle.m3_roots.specs.Collected.{Collected};
+ghost use Rattle.m3_strides.specs.Collecting.{Collects, Spoils};
+ghost use Rattle.m3_new_cells.specs.Seen.{state_of, program_of, rest_of};
+
+use crate::parts::Parts;
+use m3_decoded::Decoded;
+use m3_heap::{Closed, Steps, Store};
+use m3_memory::Outside;
+use m3_roots::{Room, collect};
+use m3_threads::Threads;
+use std::marker::Brand;
+use std::sync::ledger::{Blank, Ledger};
+
+/// A collection over globals and a heap that stand beside the threads.
+fn collect_in<S: Store, L: Ledger>(
+    globals: &mut [u64],
+    heap: &mut Closed<S>,
+    threads: &mut Threads,
+    image: &Decoded<'_>,
+    room: &mut Room,
+    steps: &mut Steps<L>,
+) -> bool
+    requires fitting { S.fits heap.old.store (map shape_of (image_of image.now).program.types) }
+    requires words { length globals.old ≡ (image_of image.now).program.globals.words }
+    ensures fitting { result ≡ true → S.fits heap.new.store (map shape_of (image_of image.now).program.types) }
+    ensures collected { IsRoomFor threads.old.stack room.old
+        → OnTrue result (Collected (image_of image.now).program (record { all = threads.old; globals = globals.old; heap = S.heap heap.old.store }) (record { all = threads.new; globals = globals.new; heap = S.heap heap.new.store })) }
+    ensures room { (stack : ℕ) → IsRoomFor stack room.old → IsRoomFor stack room.new }
+    ensures words { length globals.new ≡ length globals.old }
+    ensures forks { threads.new.forks ≡ threads.old.forks }
+    ensures waits { threads.new.waits ≡ threads.old.waits }
+{
+    collect(threads, globals, &mut heap.store, image, room, steps)
+}
+
+/// A collection over the threads and the memory outside their stacks. False comes exactly where it ends in trap 9.
+fn collect_outside<S: Store, L: Ledger>(
+    outside: &mut Outside<S>,
+    threads: &mut Threads,
+    image: &Decoded<'_>,
+    room: &mut Room,
+    steps: &mut Steps<L>,
+) -> bool
+    requires fitting { S.fits outside.old.heap.store (map shape_of (image_of image.now).program.types) }
+    requires words { length outside.old.globals.items ≡ (image_of image.now).program.globals.words }
+    ensures fitting { result ≡ true → S.fits outside.new.heap.store (map shape_of (image_of image.now).program.types) }
+    ensures collected { IsRoomFor threads.old.stack room.old
+        → OnTrue result (Collected (image_of image.now).program (record { all = threads.old; globals = outside.old.globals.items; heap = S.heap outside.old.heap.store }) (record { all = threads.new; globals = outside.new.globals.items; heap = S.heap outside.new.heap.store })) }
+    ensures room { (stack : ℕ) → IsRoomFor stack room.old → IsRoomFor stack room.new }
+    ensures words { length outside.new.globals.items ≡ length outside.old.globals.items }
+    ensures constants { outside.new.constants.items ≡ outside.old.constants.items }
+    ensures forks { threads.new.forks ≡ threads.old.forks }
+    ensures waits { threads.new.waits ≡ threads.old.waits }
+{
+    collect_in(
+        &mut outside.globals,
+        &mut outside.heap,
+        threads,
+        image,
+        room,
+        steps,
+    )
+}
+
+/// A collection whose steps are counted by a ledger of its own.
+fn collect_by<S: Store, L: Ledger>(
+    outside: &mut Outside<S>,
+    threads: &mut Threads,
+    image: &Decoded<'_>,
+    room: &mut Room,
+    blank: Blank,
+) -> bool
+    requires name { blank.name ≡ L.name }
+    requires parts { blank.parts ≡ L.parts }
+    requires whole { blank.parts ≡ 1 }
+    requires fitting { ∥ S.fits outside.old.heap.store (map shape_of (image_of image.now).program.types) ∥₁ }
+    requires words { length outside.old.globals.items ≡ (image_of image.now).program.globals.words }
+    ensures fitting { result ≡ true → ∥ S.fits outside.new.heap.store (map shape_of (image_of image.now).program.types) ∥₁ }
+    ensures collected { IsRoomFor threads.old.stack room.old
+        → OnTrue result (Collected (image_of image.now).program (record { all = threads.old; globals = outside.old.globals.items; heap = S.heap outside.old.heap.store }) (record { all = threads.new; globals = outside.new.globals.items; heap = S.heap outside.new.heap.store })) }
+    ensures room { (stack : ℕ) → IsRoomFor stack room.old → IsRoomFor stack room.new }
+    ensures words { length outside.new.globals.items ≡ length outside.old.globals.items }
+    ensures constants { outside.new.constants.items ≡ outside.old.constants.items }
+    ensures forks { threads.new.forks ≡ threads.old.forks }
+    ensures waits { threads.new.waits ≡ threads.old.waits }
+{
+    let mut steps = Steps::<L>::new(blank);
+    collect_outside(outside, threads, image, room, &mut steps)
+}
+
+fn collect_now<S: Store>(
+    outside: &mut Outside<S>,
+    threads: &mut Threads,
+    image: &Decoded<'_>,
+    room: &mut Room,
+) -> bool
+    requires fitting { ∥ S.fits outside.old.heap.store (map shape_of (image_of image.now).program.types) ∥₁ }
+    requires words { length outside.old.globals.items ≡ (image_of image.now).program.globals.words }
+    ensures fitting { result ≡ true → ∥ S.fits outside.new.heap.store (map shape_of (image_of image.now).program.types) ∥₁ }
+    ensures collected { IsRoomFor threads.old.stack room.old
+        → OnTrue result (Collected (image_of image.now).program (record { all = threads.old; globals = outside.old.globals.items; heap = S.heap outside.old.heap.store }) (record { all = threads.new; globals = outside.new.globals.items; heap = S.heap outside.new.heap.store })) }
+    ensures room { (stack : ℕ) → IsRoomFor stack room.old → IsRoomFor stack room.new }
+    ensures words { length outside.new.globals.items ≡ length outside.old.globals.items }
+    ensures constants { outside.new.constants.items ≡ outside.old.constants.items }
+    ensures forks { threads.new.forks ≡ threads.old.forks }
+    ensures waits { threads.new.waits ≡ threads.old.waits }
+{
+    collect_by::<S, Brand>(outside, threads, image, room, Blank::new(1))
+}
+
+impl<'a, S: Store> Parts<'a, S> {
+    /// Collects the heap. False comes exactly where that ends in trap 9.
+    pub fn collect(&mut self) -> bool
+        ensures rest { rest_of self.new ≡ record (rest_of self.old) { stuck = self.new.stuck } }
+        ensures sizes { self.new.sizes.items ≡ self.old.sizes.items }
+        ensures good { result ≡ true → Collects (program_of self.old) (state_of self.old) (state_of self.new) }
+        ensures bad { result ≡ false → Spoils (state_of self.old) (state_of self.new) }
+    {
+        if self.stuck || self.depth() != Some(self.stack) {
+            return false;
+        }
+        let done = collect_now(
+            &mut self.memory.outside,
+            &mut self.memory.threads,
+            &self.image,
+            &mut self.room,
+        );
+        self.stuck = !done;
+        if done {
+            self.collections = self.collections.saturating_add(1);
+        }
+        done
+    }
+}

@@ -1,0 +1,36 @@
+ghost use Rattle.std.specs.Prelude.{◌≡◌, ◌≤◌, ◌+◌, false, map, length};
+ghost use Rattle.m3_sections.specs.Shapes.{shape_of};
+ghost use Rattle.m3_decoded.specs.Ready.{image_of};
+ghost use Rattle.m3_roots.specs.RoomSizes.{IsRoomFor};
+
+use m3_decoded::Decoded;
+use m3_heap::Store;
+use m3_memory::Memory;
+use m3_roots::Room;
+
+/// What a machine has: the image that it runs, the input, its words, the thread that went last, the place in the
+/// input, and how many points were passed, instructions executed and collections made.
+#[derive(Drop)]
+pub struct Parts<'a, S: Store> {
+    pub image: Decoded<'a>,
+    pub input: &'a [u8],
+    pub memory: Memory<S>,
+    pub room: Room,
+    pub sizes: Vec<u64>,
+    pub stack: u64,
+    pub running: u64,
+    pub taken: usize,
+    pub points: u64,
+    pub instructions: u128,
+    pub collections: u64,
+    // how many forks, waits and ends were carried out at most
+    pub made: u64,
+    // a collection ended in trap 9, and what it left isn't looked at any more
+    pub stuck: bool,
+    pub ghost small: { stack ≤ 1048576 },
+    pub ghost counted: { memory.threads.forks + memory.threads.waits ≤ made },
+    pub ghost words: { length memory.outside.globals.items ≡ (image_of image).program.globals.words },
+    pub ghost loaded: { memory.outside.constants.items ≡ (image_of image).program.constants },
+    pub ghost roomy: { IsRoomFor stack room },
+    pub ghost fitting: { stuck ≡ false → ∥ S.fits memory.outside.heap.store (map shape_of (image_of image).program.types) ∥₁ },
+}
