@@ -8,13 +8,14 @@ use m3_source::frame_words;
 use std::alloc::Global;
 
 /// The first procedure whose frame is larger than its share; none where all are within it.
-pub fn first_large(
+pub fn first_large<'a>(
     alloc: Global,
-    core: &Core<'_>,
-    procs: &[Proc<'_>],
+    arena: &'a Bump,
+    core: &Core<'a>,
+    procs: &[Proc<'a>],
 ) -> Result<Option<String>, NoMemory> {
     for (number, proc) in procs.iter().enumerate() {
-        let words = words_of_frame(alloc, proc)?;
+        let words = words_of_frame(alloc, arena, proc)?;
         let most = frame_words(core, place_number(number)?);
         if u64::from(words) > most {
             return Ok(Some(format!(in alloc; "P{number} has {words} words for {most}")?));
@@ -24,9 +25,8 @@ pub fn first_large(
 }
 
 /// The words of the frame that a procedure gets.
-fn words_of_frame(alloc: Global, proc: &Proc<'_>) -> Result<u32, NoMemory> {
-    let owner = Bump::new(alloc);
-    let derived = derive(alloc, &owner, proc)?;
+fn words_of_frame<'a>(alloc: Global, arena: &'a Bump, proc: &Proc<'a>) -> Result<u32, NoMemory> {
+    let derived = derive(alloc, arena, proc)?;
     let placed = allocate(alloc, &derived)?;
     Ok(placed.frame)
 }

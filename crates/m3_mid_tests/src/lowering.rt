@@ -101,7 +101,7 @@ fn run_of<'a>(
     expected: &[u8],
 ) -> Result<String, NoMemory> {
     let procs = lower_all(alloc, arena, storage)?;
-    match first_wrong(alloc, storage, procs)? {
+    match first_wrong(alloc, arena, storage, procs)? {
         Some(wrong) => Ok(wrong),
         None => run_lowered(alloc, arena, storage, procs, input, expected),
     }
@@ -114,21 +114,22 @@ fn validity_of<'a>(
     storage: &'a Storage<'a>,
 ) -> Result<String, NoMemory> {
     let procs = lower_all(alloc, arena, storage)?;
-    match first_wrong(alloc, storage, procs)? {
+    match first_wrong(alloc, arena, storage, procs)? {
         Some(wrong) => Ok(wrong),
         None => Ok(String::from_str(alloc, "valid")?),
     }
 }
 
 /// The first procedure that isn't well formed, or whose frame is too large.
-fn first_wrong(
+fn first_wrong<'a>(
     alloc: Global,
-    storage: &Storage<'_>,
-    procs: &[Proc<'_>],
+    arena: &'a Bump,
+    storage: &'a Storage<'a>,
+    procs: &'a [Proc<'a>],
 ) -> Result<Option<String>, NoMemory> {
     match first_broken(alloc, storage, procs)? {
         Some(broken) => Ok(Some(broken)),
-        None => first_large(alloc, storage.core, procs),
+        None => first_large(alloc, arena, storage.core, procs),
     }
 }
 
