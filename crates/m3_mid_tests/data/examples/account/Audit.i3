@@ -1,0 +1,4 @@
+INTERFACE Audit;
+IMPORT Account;
+PROCEDURE Moves(account: Account.T): CARDINAL;
+END Audit.

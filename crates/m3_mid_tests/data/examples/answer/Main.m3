@@ -1,0 +1,5 @@
+MODULE Main;
+IMPORT IO;
+BEGIN
+  IO.PutInt(6 * 7);
+END Main.

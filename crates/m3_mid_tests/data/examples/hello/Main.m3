@@ -1,0 +1,5 @@
+MODULE Main;
+IMPORT IO;
+BEGIN
+  IO.Put("Hello, World!\n")
+END Main.

@@ -1,0 +1,4 @@
+INTERFACE Name;
+TYPE T = TEXT;
+PROCEDURE Before(a, b: T): BOOLEAN;
+END Name.

@@ -1,0 +1,1 @@
+INTERFACE Names = SortedList(Name) END Names.

@@ -1,0 +1,1 @@
+MODULE Names = SortedList(Name) END Names.

@@ -1,0 +1,4 @@
+INTERFACE Number;
+TYPE T = INTEGER;
+PROCEDURE Before(a, b: T): BOOLEAN;
+END Number.

@@ -1,0 +1,1 @@
+INTERFACE Numbers = SortedList(Number) END Numbers.

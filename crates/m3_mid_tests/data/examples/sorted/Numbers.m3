@@ -1,0 +1,1 @@
+MODULE Numbers = SortedList(Number) END Numbers.

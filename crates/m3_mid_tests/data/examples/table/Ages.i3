@@ -1,0 +1,1 @@
+INTERFACE Ages = Table(TextKey, Number) END Ages.

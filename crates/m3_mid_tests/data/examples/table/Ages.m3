@@ -1,0 +1,1 @@
+MODULE Ages = Table(TextKey, Number) END Ages.

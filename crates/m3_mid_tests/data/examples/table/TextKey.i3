@@ -1,0 +1,5 @@
+INTERFACE TextKey;
+TYPE T = TEXT;
+PROCEDURE Hash(key: T): CARDINAL;
+PROCEDURE Equal(a, b: T): BOOLEAN;
+END TextKey.
