@@ -1,13 +1,13 @@
 ghost use Rattle.std.specs.Prelude.{◌<◌, All, length};
 
 use crate::globals::declare_globals;
-use crate::limits::judge_limits;
-use crate::listing::{Lists, list_all};
 use crate::units::check_units;
 use bumpalo::Bump;
 use m3_base::{Refused, Source};
 use m3_consts::declare;
 use m3_core::Core;
+use m3_limits::{Lists, judge_limits};
+use m3_listing::list_all;
 use m3_operands::Checker;
 use m3_program::read_program;
 use m3_scopes::Program;
@@ -15,9 +15,9 @@ use m3_sizes::SizedTypes;
 use m3_types::{TypeGraph, TypeId, TypeNode};
 use std::alloc::Global;
 
-/// The checked program of some sources, whose trees stand in the arena, or the least of all rules that
-/// they break: by phase, unit, place and rule. A phase is judged only where no rule of an earlier one
-/// is broken.
+/// The checked program of some sources, whose trees stand in the arena, or the least of all rules
+/// that they break: by phase, unit, place and rule. A phase is judged only where no rule of an
+/// earlier one is broken.
 pub fn check<'a>(
     alloc: Global,
     arena: &'a Bump,
@@ -74,7 +74,8 @@ fn take_types<'a>(checker: &mut Checker<'_, 'a>) -> TypeGraph<'a> {
     std::mem::replace(types, empty)
 }
 
-/// Defines what stood for types that were refused, since no place of a whole graph is left reserved.
+/// Defines what stood for types that were refused, since no place of a whole graph is left
+/// reserved.
 fn give_up(types: &mut TypeGraph<'_>, refused: TypeId) {
     if types.is_reserved(refused) {
         types.set(refused, TypeNode::Null);

@@ -1,10 +1,12 @@
-use crate::globals::given_unit;
 use crate::modules::check_module;
+use m3_assignments::initial_value;
 use m3_base::{NoMemory, Refused, place_number};
 use m3_exprs::expression;
-use m3_operands::{Checker, judge_declaration};
-use m3_stmts::{check_procedure, initial_value};
+use m3_listing::given_unit;
+use m3_operands::Checker;
+use m3_stmts::check_procedure;
 use m3_syntax::{Decl, Unit, UnitKind, VarDecl};
+use m3_type_names::judge_declaration;
 
 /// Checks the expressions and statements of all units.
 pub fn check_units(checker: &mut Checker<'_, '_>) -> Result<(), NoMemory> {

@@ -1,9 +1,11 @@
-use crate::judging_values::judge_all;
+use crate::judging::judge_all;
 use bumpalo::Bump;
 use m3_base::{NoMemory, Refused};
 use m3_declared::{Basic, Declared};
 use m3_declarer::Declarer;
+use m3_defining::{define_all, name_all};
 use m3_gather::gather;
+use m3_reserving::reserve_all;
 use m3_scopes::Program;
 use m3_settle::settle_all;
 use m3_types::{TypeGraph, TypeNode};
@@ -41,9 +43,9 @@ pub fn declare<'a>(
     let eval = Evaluator::new(alloc, arena, program, declared);
     let gathered = gather(alloc, program)?;
     let mut declarer = Declarer::new(alloc, eval, gathered);
-    declarer.reserve_all()?;
-    declarer.name_all()?;
-    declarer.define_all()?;
+    reserve_all(&mut declarer)?;
+    name_all(&mut declarer)?;
+    define_all(&mut declarer)?;
     settle_all(&mut declarer)?;
     judge_all(&mut declarer)?;
     declarer.least.check()?;

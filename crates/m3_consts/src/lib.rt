@@ -2,17 +2,12 @@
 //! 2.6.15).
 //!
 //! `declare` goes in steps, each over a list: one walk gathers what is to be typed (`m3_gather`);
-//! places in the graph, names and what no constant decides come first (`m3_declarer`); then the
-//! tasks are settled that take constants (`m3_settle`); and here the rules are judged that take
-//! all types and constants.
+//! places in the graph (`m3_reserving`), names and what no constant decides (`m3_defining`) come
+//! first; then the tasks are settled that take constants (`m3_settle`); and then the rules are
+//! judged that take all types and constants, here those on initial values and labels.
 #![tactic(auto)]
 
 mod declaring;
-mod judging_methods;
-mod judging_parts;
-mod judging_recursion;
-mod judging_reveals;
-mod judging_values;
-mod wideness;
+mod judging;
 
 pub use declaring::declare;

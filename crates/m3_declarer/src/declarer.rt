@@ -2,12 +2,12 @@ use indexmap::IndexMap;
 use m3_base::{Least, NoMemory, Pos, Refusal};
 use m3_core::{Value, ValueId};
 use m3_declared::Doubtful;
-use m3_evaluate::expression;
+use m3_early_names::type_of;
 use m3_gather::Gathered;
-use m3_scopes::EntityId;
-use m3_syntax::{Expr, Signature, TypeExp};
+use m3_scopes::{Entity, EntityId};
+use m3_syntax::{Decl, Expr, Init, Signature, TypeExp};
 use m3_types::{ConstId, TypeId, TypeNode};
-use m3_worth::{Assumed, Evaluator, Known, Need, Reason, Worth};
+use m3_worth::{Assumed, Evaluator, Need, Reason};
 use std::alloc::Global;
 
 const PHASE: u8 = 5;
@@ -21,8 +21,8 @@ pub enum Written<'a> {
     Signature(&'a Signature<'a>),
 }
 
-/// A type whose definition is a task: its unit, how it is written, and where rule 46 is reported: at its
-/// name, or where it has none at its first token.
+/// A type whose definition is a task: its unit, how it is written, and where rule 46 is reported:
+/// at its name, or where it has none at its first token.
 #[derive(Clone, Copy)]
 pub struct Plan<'a> {
     pub unit: u32,
@@ -155,111 +155,10 @@ impl<'p, 'a> Declarer<'p, 'a> {
 
     /// The type of a type expression of the unit that is read, or what stands for a refused one.
     pub fn kind_of(&self, kind: &TypeExp<'a>) -> TypeId {
-        match self.eval.type_of(kind) {
+        match type_of(&self.eval, kind) {
             Some(kind) => kind,
             None => self.eval.declared.basic.refused,
         }
-    }
-
-    /// What an expression is worth.
-    pub fn worth(
-        &mut self,
-        value: &'a Expr<'a>,
-        is_constant: bool,
-    ) -> Result<Option<Worth<'a>>, NoMemory> {
-        let lacking = self.eval.lacks.len();
-        self.eval.is_constant = is_constant;
-        self.eval.flaw = None;
-        self.eval.assumed.clear();
-        let worth = expression(&mut self.eval, value)?;
-        self.assume(value)?;
-        if self.eval.lacks.len() > lacking {
-            return Ok(None);
-        }
-        if let Some(flaw) = self.eval.flaw {
-            self.reasons.push(flaw)?;
-            return Ok(None);
-        }
-        let refused = self.eval.declared.basic.refused;
-        match worth {
-            Some(worth) if worth.kind != refused => Ok(Some(worth)),
-            _ => {
-                if is_constant {
-                    let unit = self.eval.unit;
-                    self.doubts.push(Doubtful { unit, value })?;
-                }
-                Ok(None)
-            }
-        }
-    }
-
-    /// Keeps what the judging of an expression assumed.
-    fn assume(&mut self, value: &'a Expr<'a>) -> Result<(), NoMemory> {
-        for assumed in &self.eval.assumed {
-            let assumed = *assumed;
-            self.assumed.push(Promise { assumed, value })?;
-        }
-        self.eval.assumed.clear();
-        Ok(())
-    }
-
-    /// The type and the value of a constant expression (rules 40 to 43).
-    pub fn constant(
-        &mut self,
-        value: &'a Expr<'a>,
-    ) -> Result<Option<(TypeId, Value<'a>)>, NoMemory> {
-        let Some(worth) = self.worth(value, true)? else {
-            return Ok(None);
-        };
-        match worth.value {
-            Known::Value(known) => Ok(Some((worth.kind, known))),
-            Known::Varies(reason) => {
-                self.reasons.push(reason)?;
-                Ok(None)
-            }
-        }
-    }
-
-    /// The value of a constant expression as one of a type (rules 43 and 44).
-    pub fn constant_of(
-        &mut self,
-        value: &'a Expr<'a>,
-        to: TypeId,
-    ) -> Result<Option<Value<'a>>, NoMemory> {
-        let Some((kind, known)) = self.constant(value)? else {
-            return Ok(None);
-        };
-        if self.was_refused(to) {
-            return Ok(None);
-        }
-        let pos = value.pos();
-        let fits = self.eval.fits(pos, kind, to, true)?;
-        self.assume(value)?;
-        if !self.has_all() {
-            return Ok(None);
-        }
-        if !fits {
-            self.refuse(pos, 44)?;
-            return Ok(None);
-        }
-        let worth = Worth {
-            kind,
-            value: Known::Value(known),
-            is_fixed: false,
-        };
-        match self.eval.converted(pos, worth, to)?.value {
-            Known::Value(converted) => Ok(Some(converted)),
-            Known::Varies(reason) => {
-                self.reasons.push(reason)?;
-                Ok(None)
-            }
-        }
-    }
-
-    /// Whether a type was worked out and refused.
-    fn was_refused(&self, kind: TypeId) -> bool {
-        matches!(self.eval.definition(kind), TypeNode::Reserved)
-            && self.eval.settled.contains(&Need::Node(kind))
     }
 
     /// Whether what was written has no definition, since it was refused.
@@ -288,5 +187,37 @@ impl<'p, 'a> Declarer<'p, 'a> {
     pub fn place_of(&self, id: EntityId) -> Option<(u32, Pos)> {
         let entity = self.eval.program.binds.entity(id)?;
         Some((entity.unit, entity.pos))
+    }
+}
+
+impl<'a> Declarer<'_, 'a> {
+    /// Defines a reserved place.
+    pub fn set(&mut self, kind: TypeId, node: TypeNode<'a>) {
+        if self.eval.declared.types.is_reserved(kind) {
+            self.eval.declared.types.set(kind, node);
+        }
+    }
+}
+
+/// The type and the value that the declaration of a variable or formal gives it.
+pub fn init_of<'a>(entity: &Entity<'a>) -> Option<&'a Init<'a>> {
+    match entity.declaration? {
+        Decl::Var { variables, .. } => match variables.get(entity.place as usize) {
+            Some(row) => Some(&row.init),
+            None => None,
+        },
+        Decl::Procedure { signature, .. } => match signature.formals.get(entity.place as usize) {
+            Some(formal) => Some(&formal.init),
+            None => None,
+        },
+        _ => None,
+    }
+}
+
+/// The type of an exception's argument.
+pub fn argument_of<'a>(entity: &Entity<'a>) -> Option<&'a TypeExp<'a>> {
+    match entity.declaration? {
+        Decl::Exception { exceptions, .. } => exceptions.get(entity.place as usize)?.argument,
+        _ => None,
     }
 }

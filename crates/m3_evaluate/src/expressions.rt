@@ -1,8 +1,10 @@
-use crate::calls::{Called, begun, given_by, with_actual};
-use crate::operators::{denied, operated, signs_applied, thing_of};
 use m3_base::{NoMemory, Pos};
+use m3_const_calls::{Called, begun, given_by, with_actual};
+use m3_const_constructors::{Part, Parts, add_part, parts_for, whole};
+use m3_const_operators::{denied, operated, signs_applied, thing_of};
+use m3_const_selectors::{Index, dereference, dot, element};
 use m3_core::Value;
-use m3_operate::{Index, Part, Parts, add_part, dereference, dot, element, parts_for, whole};
+use m3_early_names::{thing_named, type_of};
 use m3_syntax::{Actual, Element, Expr, Selector, TypeExp};
 use m3_worth::{Evaluator, Thing, Worth};
 
@@ -23,7 +25,7 @@ fn operand_thing<'a>(
     value: &Expr<'a>,
 ) -> Result<Thing<'a>, NoMemory> {
     match value {
-        Expr::Name(name) => eval.name(*name),
+        Expr::Name(name) => thing_named(eval, *name),
         Expr::Number { value, .. } => Ok(eval.number(eval.declared.basic.integer, *value)),
         Expr::CharLit { value, .. } => {
             Ok(eval.number(eval.declared.basic.character, i64::from(*value)))
@@ -150,7 +152,7 @@ fn call<'a>(
 }
 
 fn type_thing<'a>(eval: &Evaluator<'_, 'a>, kind: &TypeExp<'a>) -> Thing<'a> {
-    match eval.type_of(kind) {
+    match type_of(eval, kind) {
         Some(kind) => Thing::Type(kind),
         None => Thing::Bad,
     }
@@ -168,7 +170,7 @@ fn constructor<'a>(eval: &mut Evaluator<'_, 'a>, value: &Expr<'a>) -> Result<Thi
     else {
         return Ok(Thing::Bad);
     };
-    let kind = match eval.type_of(kind) {
+    let kind = match type_of(eval, kind) {
         Some(kind) => kind,
         None => eval.declared.basic.refused,
     };

@@ -1,4 +1,5 @@
-use m3_constructors::Part;
+use m3_constructor_parts::Part;
+use m3_operand_names::inner_name;
 use m3_operands::{Checker, Given, Thing};
 use m3_syntax::{Actual, Expr, Name};
 
@@ -11,7 +12,7 @@ fn given<'a>(
     Given {
         pos: value.pos(),
         name,
-        inner: checker.inner_name(value),
+        inner: inner_name(checker, value),
         thing,
     }
 }

@@ -1,13 +1,16 @@
 use crate::elements::{actual_given, named, one, range};
-use crate::operators::combined;
-use crate::prefixes::{nots, signed};
-use crate::selectors::{Index, dereference, dot, indexed};
 use bumpalo::collections::into_bump_slice;
 use m3_base::{NoMemory, Pos};
 use m3_calls::call;
-use m3_constructors::{Part, Written, constructor};
+use m3_chains::{parenthesized, value_of};
+use m3_constructor_parts::{Part, Written};
+use m3_constructors::constructor;
+use m3_operand_names::{inner_name, thing_named};
 use m3_operands::{Checker, Given, Thing, Valued};
+use m3_operations::{combined, nots, signed};
+use m3_selectors::{Index, dereference, dot, indexed};
 use m3_syntax::{Actual, Element, Expr, Operation, Selector};
+use m3_type_names::type_of;
 
 /// An expression as a value; none where something in it was refused.
 pub fn expression<'a>(
@@ -15,7 +18,7 @@ pub fn expression<'a>(
     value: &Expr<'a>,
 ) -> Result<Option<Valued<'a>>, NoMemory> {
     let thing = operand(checker, value)?;
-    checker.value_of(value.pos(), &thing)
+    value_of(checker, value.pos(), &thing)
 }
 
 /// An expression that is assigned, returned, bound or given to something.
@@ -23,7 +26,7 @@ pub fn given<'a>(checker: &mut Checker<'_, 'a>, value: &Expr<'a>) -> Result<Give
     Ok(Given {
         pos: value.pos(),
         name: None,
-        inner: checker.inner_name(value),
+        inner: inner_name(checker, value),
         thing: operand(checker, value)?,
     })
 }
@@ -33,7 +36,7 @@ pub fn given<'a>(checker: &mut Checker<'_, 'a>, value: &Expr<'a>) -> Result<Give
 pub fn operand<'a>(checker: &mut Checker<'_, 'a>, value: &Expr<'a>) -> Result<Thing<'a>, NoMemory> {
     match value {
         Expr::Missing { .. } => Ok(Thing::Bad),
-        Expr::Name(name) => checker.name(*name),
+        Expr::Name(name) => thing_named(checker, *name),
         Expr::Number { pos, value } => {
             checker.number(*pos, checker.declared.basic.integer, *value)
         }
@@ -43,7 +46,7 @@ pub fn operand<'a>(checker: &mut Checker<'_, 'a>, value: &Expr<'a>) -> Result<Th
         Expr::TextLit { pos, .. } => checker.text(*pos),
         Expr::Parenthesis { pos, inner } => {
             let thing = operand(checker, inner)?;
-            checker.parenthesized(*pos, &thing)
+            parenthesized(checker, *pos, &thing)
         }
         Expr::Not {
             pos,
@@ -74,7 +77,7 @@ fn operations<'a>(checker: &mut Checker<'_, 'a>, value: &Expr<'a>) -> Result<Thi
         return Ok(Thing::Bad);
     };
     let thing = operand(checker, first)?;
-    let first = checker.value_of(first.pos(), &thing)?;
+    let first = value_of(checker, first.pos(), &thing)?;
     let rights = right_operands(checker, rest)?;
     combined(checker, *pos, first, rest, rights)
 }
@@ -88,7 +91,7 @@ fn right_operands<'a>(
     let mut row = Vec::new(checker.arena);
     for operation in rest {
         let thing = operand(checker, operation.right)?;
-        let value = checker.value_of(operation.right.pos(), &thing)?;
+        let value = value_of(checker, operation.right.pos(), &thing)?;
         row.push(value)?;
     }
     Ok(into_bump_slice(row))
@@ -144,7 +147,7 @@ fn index_row<'a>(
     for index in indexes {
         let thing = operand(checker, index)?;
         let pos = index.pos();
-        let value = checker.value_of(pos, &thing)?;
+        let value = value_of(checker, pos, &thing)?;
         row.push(Index { pos, value })?;
     }
     Ok(into_bump_slice(row))
@@ -171,7 +174,7 @@ fn actual_thing<'a>(
 ) -> Result<Thing<'a>, NoMemory> {
     match actual {
         Actual::Value(value) | Actual::Named(_, value) => operand(checker, value),
-        Actual::Type(kind) => match checker.type_of(kind) {
+        Actual::Type(kind) => match type_of(checker, kind) {
             Some(kind) => Ok(Thing::Type(kind)),
             None => Ok(Thing::Bad),
         },
@@ -192,7 +195,7 @@ fn constructed<'a>(checker: &mut Checker<'_, 'a>, value: &Expr<'a>) -> Result<Th
         return Ok(Thing::Bad);
     };
     let parts = parts(checker, elements)?;
-    let kind = checker.type_of(kind);
+    let kind = type_of(checker, kind);
     let written = Written {
         pos: *pos,
         brace: *brace,

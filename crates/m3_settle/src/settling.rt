@@ -1,7 +1,7 @@
-use crate::making::{make_constant, make_kind, make_methods, make_node};
-use crate::reveals::{list_reveals, note_reveals};
 use m3_base::{NoMemory, place_number};
 use m3_declarer::Declarer;
+use m3_making::{make_constant, make_kind, make_methods, make_node};
+use m3_reveals::{list_reveals, note_reveals};
 use m3_scopes::{EntityId, EntityKind};
 use m3_types::TypeId;
 use m3_worth::Need;
@@ -120,8 +120,8 @@ fn push_lacks<'a>(declarer: &mut Declarer<'_, 'a>, stack: &mut Vec<Need>) -> Res
     Ok(())
 }
 
-/// Refuses the tasks from a place of the stack on that are begun (rule 46): those that have names, or
-/// all where none has one.
+/// Refuses the tasks from a place of the stack on that are begun (rule 46): those that have names,
+/// or all where none has one.
 fn refuse_cycle<'a>(
     declarer: &mut Declarer<'_, 'a>,
     stack: &[Need],

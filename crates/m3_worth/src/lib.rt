@@ -8,12 +8,8 @@
 //! together; whoever asked works them out, and asks once more.
 #![tactic(auto)]
 
-mod conversions;
 mod evaluator;
-mod kinds;
 mod members;
-mod names;
-mod values;
 mod worth;
 
 pub use evaluator::{Assumed, Evaluator, Need, both};
