@@ -16,7 +16,7 @@ pub fn method_constant<'a>(
     };
     let mut all = Vec::new(eval.arena);
     all.push(Formal {
-        name: b"eval",
+        name: b"self",
         mode: Mode::Value,
         kind,
         default: None,
