@@ -1,13 +1,5 @@
-use m3_scopes::{Entity, EntityId, EntityKind, Linker};
-use m3_syntax::Decl;
-
-/// Whether a procedure is declared with a body.
-pub fn has_body(entity: &Entity<'_>) -> bool {
-    match entity.declaration {
-        Some(Decl::Procedure { body, .. }) => body.is_some(),
-        _ => false,
-    }
-}
+use m3_outermost::has_body;
+use m3_scopes::{EntityKind, Linker};
 
 /// Refuses each head of a given interface that has a body nowhere (rule 32).
 pub fn judge_bodies(linker: &mut Linker<'_>) {
@@ -27,22 +19,5 @@ fn judge_body(linker: &mut Linker<'_>, place: usize) {
         && !has_body(&entity);
     if is_head && entity.body.is_none() {
         linker.note(entity.pos, 32);
-    }
-}
-
-/// Makes a procedure of the module that is read the body of a head. Refuses a second body (rule
-/// 33).
-pub fn join_body(linker: &mut Linker<'_>, head: EntityId, mine: EntityId, body: &Entity<'_>) {
-    if !has_body(body) {
-        return;
-    }
-    let first = match linker.entity_of(head) {
-        Some(head) => head.body,
-        None => None,
-    };
-    if first.is_some() {
-        linker.note(body.pos, 33);
-    } else if let Some(head) = linker.binds.entity_mut(head) {
-        head.body = Some(mine);
     }
 }

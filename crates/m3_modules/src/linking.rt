@@ -1,7 +1,11 @@
-use crate::{bodies, cycles, order, outermost, reveals};
+use crate::bodies::judge_bodies;
+use crate::mains::main_module;
+use crate::reveals::judge_reveals;
 use m3_base::{NoMemory, Refused};
+use m3_outermost::{add_infos, declare_units, judge_units, walk_units};
 use m3_scopes::{Linker, Program};
 use m3_syntax::Unit;
+use m3_unit_order::{body_order, judge_imports};
 use std::alloc::Global;
 
 /// Links the units of a program. `units` are those that generics were written out in, `given` those
@@ -34,12 +38,12 @@ fn linked<'a>(
 ) -> Result<Vec<u32>, Refused> {
     add_units(linker, alloc, given, built_in)?;
     read_units(linker)?;
-    cycles::judge_imports(linker, alloc)?;
-    let main = outermost::main_module(linker);
-    reveals::judge_reveals(linker);
-    bodies::judge_bodies(linker);
+    judge_imports(linker, alloc)?;
+    let main = main_module(linker);
+    judge_reveals(linker);
+    judge_bodies(linker);
     linker.least.check()?;
-    Ok(order::body_order(alloc, linker.infos.as_slice(), main)?)
+    Ok(body_order(alloc, linker.infos.as_slice(), main)?)
 }
 
 /// Judges the names of the units, and adds the built-in ones with what each is.
@@ -50,16 +54,16 @@ fn add_units<'a>(
     built_in: &[Unit<'a>],
 ) -> Result<(), NoMemory> {
     let given_units = linker.units.len();
-    outermost::judge_units(linker, alloc, given)?;
+    judge_units(linker, alloc, given)?;
     for unit in built_in {
         linker.units.push(*unit)?;
     }
-    outermost::add_infos(linker, alloc, given_units)
+    add_infos(linker, alloc, given_units)
 }
 
 /// Makes the entities of all units, and finds what each name stands for.
 fn read_units(linker: &mut Linker<'_>) -> Result<(), NoMemory> {
     linker.declare_predeclared()?;
-    outermost::declare_units(linker)?;
-    outermost::walk_units(linker)
+    declare_units(linker)?;
+    walk_units(linker)
 }

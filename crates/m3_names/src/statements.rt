@@ -1,10 +1,9 @@
-use crate::declarations::{
+use m3_base::NoMemory;
+use m3_declaration_names::{
     declare_all, declare_formals, walk_constants, walk_exceptions, walk_reveals, walk_types,
     walk_variables,
 };
-use crate::expressions::{walk_actuals, walk_expression};
-use crate::types::{walk_signature, walk_type};
-use m3_base::NoMemory;
+use m3_phrase_names::{walk_actuals, walk_expression, walk_signature, walk_type};
 use m3_scopes::{EntityKind, Linker};
 use m3_syntax::{
     Binding, Block, Decl, Handler, Label, Name, ProcedureBody, Signature, Stmt, TypeBranch,

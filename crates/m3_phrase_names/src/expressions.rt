@@ -76,6 +76,7 @@ fn walk_selector<'a>(linker: &mut Linker<'a>, selector: &Selector<'a>) -> Result
     }
 }
 
+/// The names in the actuals of a call.
 #[cycle(phrases)]
 pub fn walk_actuals<'a>(linker: &mut Linker<'a>, actuals: &[Actual<'a>]) -> Result<(), NoMemory> {
     for actual in actuals {

@@ -1,6 +1,5 @@
-use crate::expressions::walk_expression;
-use crate::types::{walk_init, walk_type};
 use m3_base::{NoMemory, place_number};
+use m3_phrase_names::{walk_expression, walk_init, walk_type};
 use m3_scopes::{Entity, EntityId, EntityKind, Linker, Revealed};
 use m3_syntax::{ConstDecl, Decl, ExceptionDecl, Name, Revelation, Signature, TypeDecl, VarDecl};
 
@@ -155,6 +154,7 @@ fn declare_formal<'a>(
     Ok(())
 }
 
+/// The names in the constants of a row.
 pub fn walk_constants<'a>(
     linker: &mut Linker<'a>,
     constants: &[ConstDecl<'a>],
@@ -168,6 +168,7 @@ pub fn walk_constants<'a>(
     Ok(())
 }
 
+/// The names in the types of a row.
 pub fn walk_types<'a>(linker: &mut Linker<'a>, types: &[TypeDecl<'a>]) -> Result<(), NoMemory> {
     for declared in types {
         walk_type(linker, declared.kind)?;
@@ -175,6 +176,7 @@ pub fn walk_types<'a>(linker: &mut Linker<'a>, types: &[TypeDecl<'a>]) -> Result
     Ok(())
 }
 
+/// The names in the types of exceptions' arguments.
 pub fn walk_exceptions<'a>(
     linker: &mut Linker<'a>,
     exceptions: &[ExceptionDecl<'a>],
@@ -187,6 +189,7 @@ pub fn walk_exceptions<'a>(
     Ok(())
 }
 
+/// The names in what a row gives its variables.
 pub fn walk_variables<'a>(
     linker: &mut Linker<'a>,
     variables: &[VarDecl<'a>],

@@ -90,6 +90,7 @@ pub fn walk_signature<'a>(
     walk_raises(linker, &signature.raises)
 }
 
+/// The names in what a declaration gives its names: a type, a value, or both.
 #[cycle(phrases)]
 pub fn walk_init<'a>(linker: &mut Linker<'a>, init: &Init<'a>) -> Result<(), NoMemory> {
     match init {
