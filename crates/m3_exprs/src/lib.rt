@@ -2,7 +2,6 @@
 //! breaks (the report, section 2.6).
 #![tactic(auto)]
 
-mod elements;
 mod expressions;
 
 pub use expressions::{call_actuals, expression, given, operand};

@@ -2,25 +2,10 @@ use crate::sequences::statements;
 use bumpalo::collections::into_bump_slice;
 use m3_base::NoMemory;
 use m3_bodies::Body;
-use m3_core::{CoreStmt, Handler as CoreHandler};
+use m3_core::{CoreStmt, Handler};
 use m3_exceptions::handler_head;
 use m3_operands::Checker;
-use m3_syntax::{Handler, Stmt};
-
-#[cycle(statements)]
-fn handler<'a>(
-    checker: &mut Checker<'_, 'a>,
-    body: &mut Body<'a>,
-    handler: &Handler<'a>,
-) -> Result<CoreHandler<'a>, NoMemory> {
-    let head = handler_head(checker, body, handler.exceptions, handler.argument)?;
-    let row = statements(checker, body, handler.body)?;
-    Ok(CoreHandler {
-        exceptions: head.exceptions,
-        variable: head.variable,
-        body: row,
-    })
-}
+use m3_syntax::Stmt;
 
 /// TRY EXCEPT and TRY FINALLY.
 #[cycle(statements)]
@@ -67,8 +52,13 @@ fn handled<'a>(
     let row = statements(checker, body, row)?;
     let mut checked = Vec::new(checker.arena);
     for one in *handlers {
-        let one = handler(checker, body, one)?;
-        checked.push(one)?;
+        let head = handler_head(checker, body, one.exceptions, one.argument)?;
+        let row = statements(checker, body, one.body)?;
+        checked.push(Handler {
+            exceptions: head.exceptions,
+            variable: head.variable,
+            body: row,
+        })?;
     }
     let otherwise = match otherwise {
         Some(row) => Some(statements(checker, body, row)?),

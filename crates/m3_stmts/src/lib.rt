@@ -4,7 +4,6 @@
 
 mod branches;
 mod exceptions;
-mod leaves;
 mod locks;
 mod loops;
 mod procedures;

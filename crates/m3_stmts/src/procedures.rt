@@ -49,9 +49,12 @@ pub fn block<'a>(
     block: &Block<'a>,
 ) -> Result<CoreStmt<'a>, NoMemory> {
     let variables = declare_locals(checker, body, block.declarations)?;
+    let level = checker.level;
     for declaration in block.declarations {
         judge_declaration(checker, declaration);
-        check_inner(checker, body.number, declaration)?;
+        checker.level = level.saturating_add(1);
+        check_procedure(checker, Some(body.number), declaration)?;
+        checker.level = level;
     }
     let initial = initial_values(checker, block.declarations)?;
     let statements = statements(checker, body, block.body)?;
@@ -61,18 +64,4 @@ pub fn block<'a>(
         initial,
         body: statements,
     })
-}
-
-/// Checks a procedure inside another.
-#[cycle(statements)]
-fn check_inner<'a>(
-    checker: &mut Checker<'_, 'a>,
-    around: u32,
-    declaration: &Decl<'a>,
-) -> Result<(), NoMemory> {
-    let level = checker.level;
-    checker.level = level.saturating_add(1);
-    check_procedure(checker, Some(around), declaration)?;
-    checker.level = level;
-    Ok(())
 }

@@ -1,6 +1,5 @@
 use crate::branches::{alternatives, choice, type_choice};
 use crate::exceptions::attempt;
-use crate::leaves::simple;
 use crate::locks::locked;
 use crate::loops::{for_loop, plain_loop};
 use crate::procedures::block;
@@ -9,6 +8,7 @@ use bumpalo::collections::into_bump_slice;
 use m3_base::NoMemory;
 use m3_bodies::Body;
 use m3_core::CoreStmt;
+use m3_exceptions::simple;
 use m3_operands::Checker;
 use m3_syntax::Stmt;
 

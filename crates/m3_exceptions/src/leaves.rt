@@ -1,8 +1,8 @@
+use crate::raises::raise;
 use m3_assignments::{assign, call_statement, eval, give_back};
 use m3_base::NoMemory;
 use m3_bodies::Body;
 use m3_core::CoreStmt;
-use m3_exceptions::raise;
 use m3_operands::Checker;
 use m3_syntax::Stmt;
 
