@@ -1,45 +1,24 @@
 ghost use Rattle.std.specs.Prelude.{◌≡◌, ◌<◌, ◌≤◌, IfOk, IfErr, OnOk, OnSome, length};
 ghost use Rattle.m3_cursor.specs.Readers.{Follows};
-ghost use Rattle.m3_base.specs.declared.refusals.Refused.TheVariants.{Rule};
-ghost use Rattle.m3_parser.specs.Refusals.{IsRefusal};
-ghost use Rattle.m3_parser.specs.Refusals as spec;
+ghost use Rattle.m3_stops.specs.Refusals.{IsRefusal};
 
-use crate::closings::first_wrong_closing;
 use bumpalo::Bump;
-use m3_base::{NoMemory, Pos, Refusal, Refused};
-use m3_cursor::{Reader, Stop, Why, name_list, names_up_to};
+use m3_base::{NoMemory, Refused};
+use m3_cursor::{Reader, name_list, names_up_to};
 use m3_statements::{block, declaration_list};
-use m3_syntax::{Import, ImportItem, Kept, Lexed, Name, Sign, Token, Unit, UnitKind, Word};
+use m3_stops::{MAX_TOKENS, refusal_of, too_many_tokens, wrong_closing};
+use m3_syntax::{Import, ImportItem, Kept, Lexed, Name, Sign, Unit, UnitKind, Word};
 use std::alloc::Global;
-
-/// How many tokens a file may have.
-const MAX_TOKENS: usize = 500_000;
 
 /// How many constructs may be open at a place.
 const MAX_OPEN: u32 = 200;
 
-/// The rule that a token breaks with which no text of the grammar goes on.
-const UNEXPECTED_TOKEN: u16 = 10;
-
-/// The rule that a file breaks that ends too early.
-const END_OF_FILE: u16 = 11;
-
-/// The rule that a closing name breaks that differs from the name that it closes.
-const END_NAME_DIFFERS: u16 = 12;
-
-/// The rule that a token breaks that lies inside too many constructs.
-const NESTING_TOO_DEEP: u16 = 13;
-
-/// The rule that token 500,001 breaks.
-const TOO_MANY_TOKENS: u16 = 14;
-
-/// The unit of a file (the report, section 2.5), given its tokens. Its names and texts borrow those
-/// of the tokens, and its tree stands in the arena.
+/// The unit of a file (the report, section 2.5), given its tokens. Its names and texts borrow
+/// those of the tokens, and its tree stands in the arena.
 ///
-/// An `Err` is the first broken rule of 10 to 14: of phase 2, with its place, and with the file of
-/// `lexed.end` as its unit. Rule 12 is judged only where no other is broken. Want of memory is the
-/// other
-/// `Err`.
+/// An `Err` is the first broken rule of 10 to 14: of phase 2, with its place, and with the file
+/// of `lexed.end` as its unit. Rule 12 is judged only where no other is broken. Want of memory is
+/// the other `Err`.
 pub fn parse<'a>(alloc: Global, arena: &'a Bump, lexed: &Lexed<'a>) -> Result<Unit<'a>, Refused>
     ensures tokens { IfOk result (λ unit. unit.tokens ≡ length lexed.now.tokens.items) }
     ensures within_limit { OnOk result (length lexed.now.tokens.items ≤ 500000) }
@@ -56,86 +35,10 @@ pub fn parse<'a>(alloc: Global, arena: &'a Bump, lexed: &Lexed<'a>) -> Result<Un
     }
     let mut unit = unit?;
     unit.tokens = count as u32;
-    match first_wrong_closing(&unit) {
-        Some(pos) => Err(end_name_differs(lexed, pos)),
+    match reader.wrong_closing() {
+        Some(left) => Err(wrong_closing(lexed, left)),
         None => Ok(unit),
     }
-}
-
-/// What a file is refused for whose reading stopped: token 500,001 where that was taken before.
-#[tactic(auto, using(crate::proofs::RefusalLaws::refused_at))]
-fn refusal_of(lexed: &Lexed<'_>, stop: Stop) -> Refused
-    ensures { IsRefusal lexed.now.end lexed.now.tokens.items result }
-{
-    let taken = lexed.tokens.len().saturating_sub(stop.left);
-    if taken > MAX_TOKENS {
-        return too_many_tokens(lexed);
-    }
-    let rest = &lexed.tokens.as_slice()[taken..];
-    match stop.why {
-        Why::NoMemory => Refused::NoMemory,
-        Why::Unexpected => unexpected(lexed.end, rest),
-        Why::TooDeep => refusal(lexed.end, rest, NESTING_TOO_DEEP),
-    }
-}
-
-/// The refusal of the first token, which may not stand there, or of the end of the file, which
-/// comes too early.
-fn unexpected(end: Pos, rest: &[Token<'_>]) -> Refused
-    ensures { result ≡ Rule (spec.unexpected end rest.now) }
-{
-    if rest.is_empty() {
-        refusal(end, rest, END_OF_FILE)
-    } else {
-        refusal(end, rest, UNEXPECTED_TOKEN)
-    }
-}
-
-fn refusal(end: Pos, rest: &[Token<'_>], rule: u16) -> Refused
-    ensures { result ≡ Rule (spec.broken rule end rest.now) }
-{
-    Refused::Rule(Refusal {
-        phase: 2,
-        unit: end.file,
-        pos: first_place(rest, end),
-        rule,
-    })
-}
-
-/// The refusal of token 500,001.
-fn too_many_tokens(lexed: &Lexed<'_>) -> Refused
-    requires { 500000 < length lexed.now.tokens.items }
-    ensures { IsRefusal lexed.now.end lexed.now.tokens.items result }
-{
-    let rest = &lexed.tokens.as_slice()[MAX_TOKENS..];
-    Refused::Rule(Refusal {
-        phase: 2,
-        unit: lexed.end.file,
-        pos: first_place(rest, lexed.end),
-        rule: TOO_MANY_TOKENS,
-    })
-}
-
-/// The place of the first token, or the end of the file.
-fn first_place(tokens: &[Token<'_>], end: Pos) -> Pos
-    ensures { result ≡ spec.place_at end tokens.now }
-{
-    match tokens {
-        [] => end,
-        [token, ..] => token.pos,
-    }
-}
-
-/// The refusal of a closing name that is another than the one that it closes.
-fn end_name_differs(lexed: &Lexed<'_>, pos: Pos) -> Refused
-    ensures { IsRefusal lexed.now.end lexed.now.tokens.items result }
-{
-    Refused::Rule(Refusal {
-        phase: 2,
-        unit: lexed.end.file,
-        pos,
-        rule: END_NAME_DIFFERS,
-    })
 }
 
 /// The unit that all tokens make. The number of tokens is left at 0.
@@ -157,9 +60,9 @@ fn unit<'a>(reader: &mut Reader<'_, 'a>) -> Result<Unit<'a>, NoMemory>
     } else {
         module(reader)
     };
-    let closing = reader.take_name();
+    let closing = reader.take_closing(&name);
     reader.take_sign(Sign::Dot);
-    if reader.kind().is_some() {
+    if !reader.is_at_end() {
         reader.unexpected();
     }
     Ok(Unit {

@@ -2,8 +2,9 @@ ghost use Rattle.std.specs.Prelude.{◌≡◌, ◌+◌, ◌<◌, ◌≤◌, OnSo
 ghost use Rattle.m3_cursor.specs.Readers.{Follows};
 
 use crate::operands::operand;
-use crate::settings::{Found, Level, Setting, Want, level_of};
-use m3_cursor::{Reader, begins_expression, operator_of};
+use crate::settings::{Found, Setting, Want};
+use m3_cursor::{Reader, begins_expression};
+use m3_grammar::{Level, level_of, operator_of};
 use m3_syntax::{Expr, Operation, Operator, PrefixSign, Sign, Word};
 
 /// An expression (the report, section 2.6). `room` is that of what surrounds it: the expression
@@ -122,13 +123,12 @@ fn infix(reader: &mut Reader<'_, '_>, level: Level) -> Option<Operator>
     ensures follows { Follows reader.old reader.new }
     ensures past { OnSome result (length reader.new.rest.now < length reader.old.rest.now) }
 {
-    let kind = reader.kind()?;
-    let operator = operator_of(kind)?;
-    if level_of(operator) == level && reader.skip(kind) {
-        Some(operator)
-    } else {
-        None
+    let operator = operator_of(reader.kind()?)?;
+    if level_of(operator) != level {
+        return None;
     }
+    reader.step();
+    Some(operator)
 }
 
 /// What stands between the operators of a level.

@@ -87,7 +87,7 @@ fn primary<'a>(reader: &mut Reader<'_, 'a>, setting: Setting) -> Found<'a>
             Found::Value(Expr::CharLit { pos, value })
         }
         Some(TokenKind::TextLit) => {
-            let text = reader.take_text(TokenKind::TextLit);
+            let text = reader.take_text();
             Found::Value(Expr::TextLit { pos, text })
         }
         Some(TokenKind::Symbol(Sign::OpenParen)) => parenthesis(reader, setting),

@@ -187,7 +187,7 @@ fn procedure<'a>(reader: &mut Reader<'_, 'a>, room: u32, pos: Pos) -> Decl<'a>
     let signature = signature(reader, room);
     let body = if reader.skip_sign(Sign::Equal) {
         let block = block(reader, room);
-        let closing = reader.take_name();
+        let closing = reader.take_closing(&name);
         Some(ProcedureBody { block, closing })
     } else {
         None

@@ -1,4 +1,5 @@
-use Rattle.std.proofs.Common.{◌≤◌, length, ◌+◌, ◌*◌}
+use Rattle.std.proofs.Common.{length, ◌+◌, ◌*◌}
+use Rattle.m3_cursor.specs.Readers.{Follows}
 use Rattle.m3_phrases.proofs.Looseness.{looseness}
 use Rattle.m3_phrases.proofs.+expressions.Given as goal
 
@@ -123,79 +124,79 @@ abbrev pub decreases-types::untraced : goal.decreases-types::untraced
 decreases-types::untraced l = 64 * l.room + 12
 
 abbrev pub invariant-operands::actuals-actuals : goal.invariant-operands::actuals-actuals
-invariant-operands::actuals-actuals l = length l.reader.rest.now ≤ length l.initial.reader.rest.now
+invariant-operands::actuals-actuals l = Follows l.initial.reader l.reader
 
 abbrev pub decreases-operands::actuals-actuals : goal.decreases-operands::actuals-actuals
 decreases-operands::actuals-actuals l = length l.reader.rest.now
 
 abbrev pub invariant-types::array-indexes : goal.invariant-types::array-indexes
-invariant-types::array-indexes l = length l.reader.rest.now ≤ length l.initial.reader.rest.now
+invariant-types::array-indexes l = Follows l.initial.reader l.reader
 
 abbrev pub decreases-types::array-indexes : goal.decreases-types::array-indexes
 decreases-types::array-indexes l = length l.reader.rest.now
 
 abbrev pub invariant-operands::elements-elements : goal.invariant-operands::elements-elements
-invariant-operands::elements-elements l = length l.reader.rest.now ≤ length l.initial.reader.rest.now
+invariant-operands::elements-elements l = Follows l.initial.reader l.reader
 
 abbrev pub decreases-operands::elements-elements : goal.decreases-operands::elements-elements
 decreases-operands::elements-elements l = length l.reader.rest.now
 
 abbrev pub invariant-members::fields-fields : goal.invariant-members::fields-fields
-invariant-members::fields-fields l = length l.reader.rest.now ≤ length l.initial.reader.rest.now
+invariant-members::fields-fields l = Follows l.initial.reader l.reader
 
 abbrev pub decreases-members::fields-fields : goal.decreases-members::fields-fields
 decreases-members::fields-fields l = length l.reader.rest.now
 
 abbrev pub invariant-members::formals-formals : goal.invariant-members::formals-formals
-invariant-members::formals-formals l = length l.reader.rest.now ≤ length l.initial.reader.rest.now
+invariant-members::formals-formals l = Follows l.initial.reader l.reader
 
 abbrev pub decreases-members::formals-formals : goal.decreases-members::formals-formals
 decreases-members::formals-formals l = length l.reader.rest.now
 
 abbrev pub invariant-operands::indexes-indexes : goal.invariant-operands::indexes-indexes
-invariant-operands::indexes-indexes l = length l.reader.rest.now ≤ length l.initial.reader.rest.now
+invariant-operands::indexes-indexes l = Follows l.initial.reader l.reader
 
 abbrev pub decreases-operands::indexes-indexes : goal.decreases-operands::indexes-indexes
 decreases-operands::indexes-indexes l = length l.reader.rest.now
 
 abbrev pub invariant-members::methods-methods : goal.invariant-members::methods-methods
-invariant-members::methods-methods l = length l.reader.rest.now ≤ length l.initial.reader.rest.now
+invariant-members::methods-methods l = Follows l.initial.reader l.reader
 
 abbrev pub decreases-members::methods-methods : goal.decreases-members::methods-methods
 decreases-members::methods-methods l = length l.reader.rest.now
 
 abbrev pub invariant-expressions::negation-words : goal.invariant-expressions::negation-words
-invariant-expressions::negation-words l = length l.reader.rest.now ≤ length l.initial.reader.rest.now
+invariant-expressions::negation-words l = Follows l.initial.reader l.reader
 
 abbrev pub decreases-expressions::negation-words : goal.decreases-expressions::negation-words
 decreases-expressions::negation-words l = length l.reader.rest.now
 
 abbrev pub invariant-types::object_parts-parts : goal.invariant-types::object_parts-parts
-invariant-types::object_parts-parts l = length l.reader.rest.now ≤ length l.initial.reader.rest.now
+invariant-types::object_parts-parts l = Follows l.initial.reader l.reader
 
 abbrev pub decreases-types::object_parts-parts : goal.decreases-types::object_parts-parts
 decreases-types::object_parts-parts l = length l.reader.rest.now
 
 abbrev pub invariant-expressions::operations-operations : goal.invariant-expressions::operations-operations
-invariant-expressions::operations-operations l = length l.reader.rest.now ≤ length l.initial.reader.rest.now
+invariant-expressions::operations-operations l = Follows l.initial.reader l.reader
 
 abbrev pub decreases-expressions::operations-operations : goal.decreases-expressions::operations-operations
 decreases-expressions::operations-operations l = length l.reader.rest.now
 
 abbrev pub invariant-members::overrides-overrides : goal.invariant-members::overrides-overrides
-invariant-members::overrides-overrides l = length l.reader.rest.now ≤ length l.initial.reader.rest.now
+invariant-members::overrides-overrides l = Follows l.initial.reader l.reader
 
 abbrev pub decreases-members::overrides-overrides : goal.decreases-members::overrides-overrides
 decreases-members::overrides-overrides l = length l.reader.rest.now
 
 abbrev pub invariant-operands::selected-selectors : goal.invariant-operands::selected-selectors
-invariant-operands::selected-selectors l = length l.reader.rest.now ≤ length l.initial.reader.rest.now
+invariant-operands::selected-selectors l = Follows l.initial.reader l.reader
 
 abbrev pub decreases-operands::selected-selectors : goal.decreases-operands::selected-selectors
 decreases-operands::selected-selectors l = length l.reader.rest.now
 
 abbrev pub invariant-expressions::signed-signs : goal.invariant-expressions::signed-signs
-invariant-expressions::signed-signs l = length l.reader.rest.now ≤ length l.initial.reader.rest.now
+invariant-expressions::signed-signs l = Follows l.initial.reader l.reader
 
 abbrev pub decreases-expressions::signed-signs : goal.decreases-expressions::signed-signs
 decreases-expressions::signed-signs l = length l.reader.rest.now
