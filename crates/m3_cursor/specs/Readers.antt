@@ -13,12 +13,20 @@ pub data IsRest (file : List Token) : List Token → Type 0 where
   whole : IsRest file file
   next : (token : Token) {rest : List Token} → IsRest file (token ∷ rest) → IsRest file rest
 
--- No token has come back, no fault is forgotten, and the tokens are still those of the same file.
+-- what a reader keeps: how many faults of each sort it had, and the file that it reads
+pub data Kept : Type 0 where
+  kept : (stops closings : ℕ) (file : List Token) → Kept
+
+-- The reader still has those faults, and stands in that file.
+pub data Keeps : Kept → Reader → Type 0 where
+  keeps : {stops closings : ℕ} {file : List Token} {reader : Reader} → stops ≤ faults reader.stop → closings ≤ faults reader.wrong_closing
+      → IsRest file reader.rest.now → Keeps (kept stops closings file) reader
+
+-- No token has come back, and whatever was kept is still kept. Said of everything that may be kept, it is passed on
+-- from call to call without a lemma.
 pub record Follows (old new : Reader) : Type 0 where
   pub onward : length new.rest.now ≤ length old.rest.now
-  pub stopped : faults old.stop ≤ faults new.stop
-  pub closed : faults old.wrong_closing ≤ faults new.wrong_closing
-  pub within : (file : List Token) → IsRest file old.rest.now → IsRest file new.rest.now
+  pub still : (what : Kept) → Keeps what old → Keeps what new
 
 -- Unless reading has stopped, the tokens that were read are such a row.
 abbrev pub Reads : Reader → Reader → (List Token → List Token → Type 0) → Type 0

@@ -62,26 +62,17 @@ pub fn qualid_list<'a>(reader: &mut Reader<'_, 'a>) -> &'a [Qualid<'a>]
 pub fn raises<'a>(reader: &mut Reader<'_, 'a>) -> Raises<'a>
     ensures { Follows reader.old reader.new }
 {
-    let is_given = reader.skip_word(Word::Raises);
-    if is_given && reader.skip_word(Word::Any) {
-        Raises::Any
-    } else {
-        Raises::Only(raised(reader, is_given))
+    if !reader.skip_word(Word::Raises) {
+        return Raises::Only(reader.no_items());
     }
-}
-
-/// The qualified names in braces behind RAISES, where it is given.
-fn raised<'a>(reader: &mut Reader<'_, 'a>, is_given: bool) -> &'a [Qualid<'a>]
-    ensures { Follows reader.old reader.new }
-{
-    if !is_given {
-        return reader.no_items();
+    if reader.skip_word(Word::Any) {
+        return Raises::Any;
     }
     reader.take_sign(Sign::OpenBrace);
     if reader.skip_sign(Sign::CloseBrace) {
-        return reader.no_items();
+        return Raises::Only(reader.no_items());
     }
     let names = qualid_list(reader);
     reader.take_sign(Sign::CloseBrace);
-    names
+    Raises::Only(names)
 }

@@ -1,5 +1,7 @@
-ghost use Rattle.std.specs.Prelude.{◌≡◌, ◌<◌, ◌≤◌, IfOk, IfErr, OnOk, OnSome, length};
-ghost use Rattle.m3_cursor.specs.Readers.{Follows};
+ghost use Rattle.std.specs.Prelude.{◌≡◌, ◌<◌, ◌≤◌, IfOk, IfErr, OnOk, OnSome, List, length};
+ghost use Rattle.m3_syntax.specs.declared.tokens.Token.{Token};
+ghost use Rattle.m3_cursor.specs.Readers.{Follows, IsRest};
+ghost use Rattle.m3_parser.specs.Places.{HasPlaces};
 ghost use Rattle.m3_stops.specs.Refusals.{IsRefusal};
 
 use bumpalo::Bump;
@@ -22,6 +24,8 @@ const MAX_OPEN: u32 = 200;
 pub fn parse<'a>(alloc: Global, arena: &'a Bump, lexed: &Lexed<'a>) -> Result<Unit<'a>, Refused>
     ensures tokens { IfOk result (λ unit. unit.tokens ≡ length lexed.now.tokens.items) }
     ensures within_limit { OnOk result (length lexed.now.tokens.items ≤ 500000) }
+    ensures places { IfOk result (HasPlaces lexed.now.tokens.items) }
+    ensures closed { IfOk result (λ unit. unit.closing.text.now ≡ unit.name.text.now) }
     ensures refused { IfErr result (IsRefusal lexed.now.end lexed.now.tokens.items) }
 {
     let mut reader = Reader::new(alloc, arena, lexed)?;
@@ -43,36 +47,73 @@ pub fn parse<'a>(alloc: Global, arena: &'a Bump, lexed: &Lexed<'a>) -> Result<Un
 
 /// The unit that all tokens make. The number of tokens is left at 0.
 fn unit<'a>(reader: &mut Reader<'_, 'a>) -> Result<Unit<'a>, NoMemory>
-    ensures { Follows reader.old reader.new }
+    ensures follows { Follows reader.old reader.new }
+    ensures places { (file : List Token) → IsRest file reader.old.rest.now → reader.new.stop ≡ None
+        → IfOk result (HasPlaces file) }
+    ensures closed { reader.new.wrong_closing ≡ None
+        → IfOk result (λ unit. unit.closing.text.now ≡ unit.name.text.now) }
 {
     let pos = reader.pos();
+    let words = first_words(reader);
+    let name = reader.take_name();
+    let kind = unit_kind(reader, words);
+    let closing = reader.take_closing(&name);
+    end_of_file(reader);
+    Ok(Unit {
+        pos,
+        is_unsafe: words.is_unsafe,
+        name,
+        kind: kind?,
+        closing,
+        tokens: 0,
+    })
+}
+
+/// What the words before a unit's name say of it.
+#[derive(Clone, Copy)]
+struct FirstWords {
+    is_unsafe: bool,
+    is_generic: bool,
+    is_interface: bool,
+}
+
+fn first_words(reader: &mut Reader<'_, '_>) -> FirstWords
+    ensures { Follows reader.old reader.new }
+{
     let is_unsafe = reader.skip_word(Word::Unsafe);
     let is_generic = !is_unsafe && reader.skip_word(Word::Generic);
     let is_interface = reader.skip_word(Word::Interface);
     if !is_interface {
         reader.take_word(Word::Module);
     }
-    let name = reader.take_name();
-    let kind = if is_generic {
-        generic(reader, is_interface)
-    } else if is_interface {
+    FirstWords {
+        is_unsafe,
+        is_generic,
+        is_interface,
+    }
+}
+
+/// What stands in a unit behind its name, up to its closing name.
+fn unit_kind<'a>(reader: &mut Reader<'_, 'a>, words: FirstWords) -> Result<UnitKind<'a>, NoMemory>
+    ensures { Follows reader.old reader.new }
+{
+    if words.is_generic {
+        generic(reader, words.is_interface)
+    } else if words.is_interface {
         interface(reader)
     } else {
         module(reader)
-    };
-    let closing = reader.take_closing(&name);
+    }
+}
+
+/// Goes past the dot that ends a file.
+fn end_of_file(reader: &mut Reader<'_, '_>)
+    ensures { Follows reader.old reader.new }
+{
     reader.take_sign(Sign::Dot);
     if !reader.is_at_end() {
         reader.unexpected();
     }
-    Ok(Unit {
-        pos,
-        is_unsafe,
-        name,
-        kind: kind?,
-        closing,
-        tokens: 0,
-    })
 }
 
 /// What stands in an interface behind its name, up to its closing name.
