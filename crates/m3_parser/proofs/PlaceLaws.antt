@@ -1,5 +1,5 @@
 -- The tokens that a reader takes are those of its file, and so are their places.
-use Rattle.std.proofs.Common.{suc, ◌≤◌, List, [], ◌∷◌, sym, length, arith}
+use Rattle.std.proofs.Common.{suc, ◌≡◌, ◌≤◌, List, [], ◌∷◌, sym, subst, length, arith}
 use Rattle.std.specs.List.{Contains}
 use Rattle.m3_base.specs.declared.places.Pos.{Pos}
 use Rattle.m3_syntax.specs.declared.names.Name.{Name}
@@ -7,6 +7,10 @@ use Rattle.m3_syntax.specs.declared.tokens.Token.{Token}
 use Rattle.m3_grammar.specs.Tokens.{IsAt, IsName}
 use Rattle.m3_cursor.specs.Readers.{IsRest, whole, next}
 use Rattle.m3_stops.specs.Refusals.{IsPlaceOfToken, IsPlaceOfName}
+
+-- before anything is taken, all of the file is left
+pub all_left : (file rest : List Token) → rest ≡ file → IsRest file rest
+all_left file rest e = subst (λ x. IsRest file x) (sym e) whole
 
 -- what a rest of a file contains, the file contains
 contained : {file rest : List Token} → IsRest file rest → (token : Token) → Contains rest token → Contains file token

@@ -29,19 +29,41 @@ pub fn parse<'a>(alloc: Global, arena: &'a Bump, lexed: &Lexed<'a>) -> Result<Un
     ensures refused { IfErr result (IsRefusal lexed.now.end lexed.now.tokens.items) }
 {
     let mut reader = Reader::new(alloc, arena, lexed)?;
-    let unit = unit(&mut reader);
-    if let Some(stop) = reader.stop() {
-        return Err(refusal_of(lexed, stop));
+    let found = unit(&mut reader);
+    match reader.stop() {
+        Some(stop) => Err(refusal_of(lexed, stop)),
+        None => match found {
+            Ok(unit) => finished(lexed, unit, reader.wrong_closing()),
+            Err(_) => Err(Refused::NoMemory),
+        },
     }
+}
+
+/// The unit of a file that was read to its end, with the number of its tokens, where these aren't
+/// too many and no closing name, given how many tokens were left there, is wrong.
+fn finished<'a>(
+    lexed: &Lexed<'a>,
+    unit: Unit<'a>,
+    wrong: Option<usize>,
+) -> Result<Unit<'a>, Refused>
+    requires places { HasPlaces lexed.now.tokens.items unit }
+    requires closed { wrong ≡ None → unit.closing.text.now ≡ unit.name.text.now }
+    ensures tokens { IfOk result (λ found. found.tokens ≡ length lexed.now.tokens.items) }
+    ensures within_limit { OnOk result (length lexed.now.tokens.items ≤ 500000) }
+    ensures places { IfOk result (HasPlaces lexed.now.tokens.items) }
+    ensures closed { IfOk result (λ found. found.closing.text.now ≡ found.name.text.now) }
+    ensures refused { IfErr result (IsRefusal lexed.now.end lexed.now.tokens.items) }
+{
     let count = lexed.tokens.len();
     if count > MAX_TOKENS {
         return Err(too_many_tokens(lexed));
     }
-    let mut unit = unit?;
-    unit.tokens = count as u32;
-    match reader.wrong_closing() {
+    match wrong {
         Some(left) => Err(wrong_closing(lexed, left)),
-        None => Ok(unit),
+        None => Ok(Unit {
+            tokens: count as u32,
+            ..unit
+        }),
     }
 }
 
