@@ -1,16 +1,18 @@
-use Rattle.std.proofs.Common.{length, ◌+◌, ◌*◌}
+use Rattle.std.proofs.Common.{◌≡◌, None, length, ◌+◌, ◌*◌}
 use Rattle.m3_cursor.specs.Readers.{Follows}
+use Rattle.m3_phrases.specs.Spelled.{ReadsOperations, ReadsSelectors}
 use Rattle.m3_phrases.proofs.Looseness.{looseness}
+use Rattle.m3_phrases.proofs.Begun.{IndexesBegun, ActualsBegun}
 use Rattle.m3_phrases.proofs.+expressions.Given as goal
 
 abbrev pub decreases-expressions::expression : goal.decreases-expressions::expression
 decreases-expressions::expression l = 64 * l.room + 1
 
 abbrev pub decreases-expressions::negation : goal.decreases-expressions::negation
-decreases-expressions::negation l = 64 * l.setting.calls + 27
+decreases-expressions::negation l = 64 * l.setting.calls + 30
 
 abbrev pub decreases-expressions::operations : goal.decreases-expressions::operations
-decreases-expressions::operations l = 64 * l.setting.calls + (20 + 3 * looseness l.level)
+decreases-expressions::operations l = 64 * l.setting.calls + (21 + 4 * looseness l.level)
 
 abbrev pub decreases-expressions::phrase : goal.decreases-expressions::phrase
 decreases-expressions::phrase l = 64 * l.room + 0
@@ -19,7 +21,7 @@ abbrev pub decreases-expressions::signed : goal.decreases-expressions::signed
 decreases-expressions::signed l = 64 * l.setting.calls + 18
 
 abbrev pub decreases-expressions::tighter : goal.decreases-expressions::tighter
-decreases-expressions::tighter l = 64 * l.setting.calls + (19 + 3 * looseness l.level)
+decreases-expressions::tighter l = 64 * l.setting.calls + (19 + 4 * looseness l.level)
 
 abbrev pub decreases-members::assigned : goal.decreases-members::assigned
 decreases-members::assigned l = 64 * l.room + 2
@@ -73,7 +75,7 @@ abbrev pub decreases-operands::selected : goal.decreases-operands::selected
 decreases-operands::selected l = 64 * l.setting.calls + 15
 
 abbrev pub decreases-operands::selector : goal.decreases-operands::selector
-decreases-operands::selector l = 64 * l.setting.calls + 14
+decreases-operands::selector l = 64 * l.setting.calls + 13
 
 abbrev pub decreases-operands::without_brace : goal.decreases-operands::without_brace
 decreases-operands::without_brace l = 64 * l.setting.calls + 16
@@ -124,7 +126,7 @@ abbrev pub decreases-types::untraced : goal.decreases-types::untraced
 decreases-types::untraced l = 64 * l.room + 12
 
 abbrev pub invariant-operands::actuals-actuals : goal.invariant-operands::actuals-actuals
-invariant-operands::actuals-actuals l = Follows l.initial.reader l.reader
+invariant-operands::actuals-actuals l = record { follows : Follows l.initial.reader l.reader; reads : l.reader.stop ≡ None → ActualsBegun l.initial.reader.rest.now l.reader.rest.now l.actuals.items }
 
 abbrev pub decreases-operands::actuals-actuals : goal.decreases-operands::actuals-actuals
 decreases-operands::actuals-actuals l = length l.reader.rest.now
@@ -154,7 +156,7 @@ abbrev pub decreases-members::formals-formals : goal.decreases-members::formals-
 decreases-members::formals-formals l = length l.reader.rest.now
 
 abbrev pub invariant-operands::indexes-indexes : goal.invariant-operands::indexes-indexes
-invariant-operands::indexes-indexes l = Follows l.initial.reader l.reader
+invariant-operands::indexes-indexes l = record { follows : Follows l.initial.reader l.reader; reads : l.reader.stop ≡ None → IndexesBegun l.initial.reader.rest.now l.reader.rest.now l.indexes.items }
 
 abbrev pub decreases-operands::indexes-indexes : goal.decreases-operands::indexes-indexes
 decreases-operands::indexes-indexes l = length l.reader.rest.now
@@ -165,23 +167,17 @@ invariant-members::methods-methods l = Follows l.initial.reader l.reader
 abbrev pub decreases-members::methods-methods : goal.decreases-members::methods-methods
 decreases-members::methods-methods l = length l.reader.rest.now
 
-abbrev pub invariant-expressions::negation-words : goal.invariant-expressions::negation-words
-invariant-expressions::negation-words l = Follows l.initial.reader l.reader
-
-abbrev pub decreases-expressions::negation-words : goal.decreases-expressions::negation-words
-decreases-expressions::negation-words l = length l.reader.rest.now
-
 abbrev pub invariant-types::object_parts-parts : goal.invariant-types::object_parts-parts
 invariant-types::object_parts-parts l = Follows l.initial.reader l.reader
 
 abbrev pub decreases-types::object_parts-parts : goal.decreases-types::object_parts-parts
 decreases-types::object_parts-parts l = length l.reader.rest.now
 
-abbrev pub invariant-expressions::operations-operations : goal.invariant-expressions::operations-operations
-invariant-expressions::operations-operations l = Follows l.initial.reader l.reader
+abbrev pub invariant-expressions::more_operations-operations : goal.invariant-expressions::more_operations-operations
+invariant-expressions::more_operations-operations l = record { follows : Follows l.initial.reader l.reader; reads : ReadsOperations l.level l.initial.reader l.reader l.operations.items }
 
-abbrev pub decreases-expressions::operations-operations : goal.decreases-expressions::operations-operations
-decreases-expressions::operations-operations l = length l.reader.rest.now
+abbrev pub decreases-expressions::more_operations-operations : goal.decreases-expressions::more_operations-operations
+decreases-expressions::more_operations-operations l = length l.reader.rest.now
 
 abbrev pub invariant-members::overrides-overrides : goal.invariant-members::overrides-overrides
 invariant-members::overrides-overrides l = Follows l.initial.reader l.reader
@@ -189,14 +185,17 @@ invariant-members::overrides-overrides l = Follows l.initial.reader l.reader
 abbrev pub decreases-members::overrides-overrides : goal.decreases-members::overrides-overrides
 decreases-members::overrides-overrides l = length l.reader.rest.now
 
-abbrev pub invariant-operands::selected-selectors : goal.invariant-operands::selected-selectors
-invariant-operands::selected-selectors l = Follows l.initial.reader l.reader
+abbrev pub invariant-operands::selectors-selectors : goal.invariant-operands::selectors-selectors
+invariant-operands::selectors-selectors l = record { follows : Follows l.initial.reader l.reader; reads : ReadsSelectors l.initial.reader l.reader l.selectors.items }
 
-abbrev pub decreases-operands::selected-selectors : goal.decreases-operands::selected-selectors
-decreases-operands::selected-selectors l = length l.reader.rest.now
+abbrev pub decreases-operands::selectors-selectors : goal.decreases-operands::selectors-selectors
+decreases-operands::selectors-selectors l = length l.reader.rest.now
 
-abbrev pub invariant-expressions::signed-signs : goal.invariant-expressions::signed-signs
-invariant-expressions::signed-signs l = Follows l.initial.reader l.reader
+abbrev pub decreases-expressions::more_operations : goal.decreases-expressions::more_operations
+decreases-expressions::more_operations l = 64 * l.setting.calls + (20 + 4 * looseness l.level)
 
-abbrev pub decreases-expressions::signed-signs : goal.decreases-expressions::signed-signs
-decreases-expressions::signed-signs l = length l.reader.rest.now
+abbrev pub decreases-operands::selectors : goal.decreases-operands::selectors
+decreases-operands::selectors l = 64 * l.setting.calls + 14
+
+abbrev pub decreases-operands::object_of : goal.decreases-operands::object_of
+decreases-operands::object_of l = 64 * l.setting.calls + 15
