@@ -14,7 +14,7 @@ use Rattle.m3_build.specs.declared.tokens.Kind.{Kind}
 use Rattle.m3_build.specs.declared.tokens.Kind.TheVariants.{Module, Main, Import, Io, Begin, End, PutInt, Semicolon, Dot, Open, Close, Operator, Literal}
 use Rattle.m3_build.specs.declared.tokens.Token.{Token}
 use Rattle.m3_build.specs.PlainForm.{is_space, is_line_feed, number_of, IsLiteral, IsSpelled, begins_word, Begins, Spells}
-use Rattle.m3_build.specs.Lexing.{keyword, literal, word_kind, sign_kind, with_token, with_word, with_byte, line_after, and_then, lexed}
+use Rattle.m3_build.specs.Lexing.{keyword, literal, word_kind, sign_kind, with_token, with_word, with_byte, line_after, then_lexed, lexed}
 use Rattle.m3_build.proofs.Numbers.{below}
 use Rattle.m3_build.proofs.Parsings.{found_nothing, found_same}
 
@@ -159,8 +159,8 @@ dark_line line b e = ap (λ t. cond t (line + 1) line) (no_feed b e)
 space_other : (b : ℕ) → is_space b ≡ true → is_ascii_alphanumeric b ≡ false
 space_other b e = grind (arith, nat_tests)
 
-read_byte : (tokens : List Token) (line b : ℕ) (text : List ℕ) → is_ascii_alphanumeric b ≡ false → lexed tokens line [] (b ∷ text) ≡ and_then (with_byte tokens line b) (λ more. lexed more (line_after line b) [] text)
-read_byte tokens line b text e = ap (λ t. cond t (lexed tokens line (b ∷ []) text) (and_then (with_byte tokens line b) (λ more. lexed more (line_after line b) [] text))) e
+read_byte : (tokens : List Token) (line b : ℕ) (text : List ℕ) → is_ascii_alphanumeric b ≡ false → lexed tokens line [] (b ∷ text) ≡ then_lexed (with_byte tokens line b) (λ more. lexed more (line_after line b) [] text)
+read_byte tokens line b text e = ap (λ t. cond t (lexed tokens line (b ∷ []) text) (then_lexed (with_byte tokens line b) (λ more. lexed more (line_after line b) [] text))) e
 
 lines_of : (b : ℕ) (space : List ℕ) (line : ℕ) → line + count_by is_line_feed (b ∷ space) ≡ line_after line b + count_by is_line_feed space
 lines_of b space line =
@@ -177,7 +177,7 @@ read_space [] tokens line rest e = let z : line ≡ line + 0 = omega arith in ap
 read_space (b ∷ space) tokens line rest e =
     let p = and_parts (is_space b) (list_all is_space space) e in
     read_byte tokens line b (space ++ rest) (space_other b p.0)
-    ∙ ap (λ t. and_then (cond t (Some tokens) (with_token tokens line (sign_kind b))) (λ more. lexed more (line_after line b) [] (space ++ rest))) p.0
+    ∙ ap (λ t. then_lexed (cond t (Some tokens) (with_token tokens line (sign_kind b))) (λ more. lexed more (line_after line b) [] (space ++ rest))) p.0
     ∙ read_space space tokens (line_after line b) rest p.1
     ∙ ap (λ l. lexed tokens l [] rest) (sym (lines_of b space line))
 
@@ -185,21 +185,21 @@ read_letters : (bytes : List ℕ) (tokens : List Token) (line : ℕ) (word rest 
 read_letters [] tokens line word rest e = ap (λ w. lexed tokens line w rest) (sym (append-nil word))
 read_letters (b ∷ bytes) tokens line word rest e =
     let p = and_parts (is_ascii_alphanumeric b) (list_all is_ascii_alphanumeric bytes) e in
-    ap (λ t. cond t (lexed tokens line (word ++ b ∷ []) (bytes ++ rest)) (and_then (with_word tokens line word) (λ ended. and_then (with_byte ended line b) (λ more. lexed more (line_after line b) [] (bytes ++ rest))))) p.0
+    ap (λ t. cond t (lexed tokens line (word ++ b ∷ []) (bytes ++ rest)) (then_lexed (with_word tokens line word) (λ ended. then_lexed (with_byte ended line b) (λ more. lexed more (line_after line b) [] (bytes ++ rest))))) p.0
     ∙ read_letters bytes tokens line (word ++ b ∷ []) rest p.1
     ∙ ap (λ w. lexed tokens line w rest) (append_assoc word (b ∷ []) bytes)
 
-then_some : (o : Option (List Token)) → and_then o (λ t. Some t) ≡ o
+then_some : (o : Option (List Token)) → then_lexed o (λ t. Some t) ≡ o
 then_some None = refl
 then_some (Some x) = refl
 
-read_end : (tokens : List Token) (line : ℕ) (word rest : List ℕ) → begins_word rest ≡ false → lexed tokens line word rest ≡ and_then (with_word tokens line word) (λ ended. lexed ended line [] rest)
+read_end : (tokens : List Token) (line : ℕ) (word rest : List ℕ) → begins_word rest ≡ false → lexed tokens line word rest ≡ then_lexed (with_word tokens line word) (λ ended. lexed ended line [] rest)
 read_end tokens line word [] e = sym (then_some (with_word tokens line word))
 read_end tokens line word (b ∷ rest) e =
-    ap (λ t. cond t (lexed tokens line (word ++ b ∷ []) rest) (and_then (with_word tokens line word) (λ ended. and_then (with_byte ended line b) (λ more. lexed more (line_after line b) [] rest)))) e
+    ap (λ t. cond t (lexed tokens line (word ++ b ∷ []) rest) (then_lexed (with_word tokens line word) (λ ended. then_lexed (with_byte ended line b) (λ more. lexed more (line_after line b) [] rest)))) e
     ∙ sym (same_then (with_word tokens line word) _ _ (λ ended. read_byte ended line b rest e))
   where
-    same_then : (o : Option (List Token)) (f g : List Token → Option (List Token)) → ((t : List Token) → f t ≡ g t) → and_then o f ≡ and_then o g
+    same_then : (o : Option (List Token)) (f g : List Token → Option (List Token)) → ((t : List Token) → f t ≡ g t) → then_lexed o f ≡ then_lexed o g
     same_then None f g h = refl
     same_then (Some t) f g h = h t
 
@@ -216,14 +216,14 @@ read_token : (tokens : List Token) (line : ℕ) (k : Kind) (bytes rest : List �
 read_token tokens line k bytes rest (inl w) apart h =
     read_letters bytes tokens line [] rest w.letters
     ∙ read_end tokens line bytes rest (no_letter (begins_word bytes) (begins_word rest) apart w.begins)
-    ∙ ap (λ o. and_then o (λ ended. lexed ended line [] rest)) (with_word_kind tokens line k bytes w.kind h)
+    ∙ ap (λ o. then_lexed o (λ ended. lexed ended line [] rest)) (with_word_kind tokens line k bytes w.kind h)
 read_token tokens line k bytes rest (inr s) apart h =
     let b = s.byte in
     ap (λ x. lexed tokens line [] (x ++ rest)) s.one
     ∙ read_byte tokens line b rest s.other
-    ∙ ap (λ t. and_then (cond t (Some tokens) (with_token tokens line (sign_kind b))) (λ more. lexed more (line_after line b) [] rest)) s.dark
-    ∙ ap (λ o. and_then (with_token tokens line o) (λ more. lexed more (line_after line b) [] rest)) s.kind
-    ∙ ap (λ t. and_then (cond t (Some (tokens ++ token_at k line ∷ [])) None) (λ more. lexed more (line_after line b) [] rest)) (above (length tokens) 2000 h)
+    ∙ ap (λ t. then_lexed (cond t (Some tokens) (with_token tokens line (sign_kind b))) (λ more. lexed more (line_after line b) [] rest)) s.dark
+    ∙ ap (λ o. then_lexed (with_token tokens line o) (λ more. lexed more (line_after line b) [] rest)) s.kind
+    ∙ ap (λ t. then_lexed (cond t (Some (tokens ++ token_at k line ∷ [])) None) (λ more. lexed more (line_after line b) [] rest)) (above (length tokens) 2000 h)
     ∙ ap (λ l. lexed (tokens ++ token_at k line ∷ []) l [] rest) (dark_line line b s.dark)
 
 pub spelled_read : (more tokens : List Token) (line : ℕ) (text : List ℕ) → Spells line more text → length tokens + length more ≤ 2000 → lexed tokens line [] text ≡ Some (tokens ++ more)
@@ -285,7 +285,7 @@ token_added tokens all line (Some k) e =
     (λ t e. (k, refl, sym (found_same (tokens ++ token_at k line ∷ []) all e), below (length tokens) 2000 t))
     (λ t e. absurd (found_nothing all e)) e
 
-then_parts : {P : Type 0} (o : Option (List Token)) (next : List Token → Option (List Token)) (all : List Token) → ((t : List Token) → o ≡ Some t → next t ≡ Some all → P) → and_then o next ≡ Some all → P
+then_parts : {P : Type 0} (o : Option (List Token)) (next : List Token → Option (List Token)) (all : List Token) → ((t : List Token) → o ≡ Some t → next t ≡ Some all → P) → then_lexed o next ≡ Some all → P
 then_parts None next all f e = absurd (found_nothing all e)
 then_parts (Some t) next all f e = f t refl e
 

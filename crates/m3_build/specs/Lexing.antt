@@ -61,12 +61,12 @@ with_byte tokens line b = if is_space b then Some tokens else with_token tokens 
 abbrev pub line_after : ℕ → ℕ → ℕ
 line_after line b = if is_line_feed b then line + 1 else line
 
-abbrev pub and_then : Option (List Token) → (List Token → Option (List Token)) → Option (List Token)
-and_then None next = None
-and_then (Some tokens) next = next tokens
+abbrev pub then_lexed : Option (List Token) → (List Token → Option (List Token)) → Option (List Token)
+then_lexed None next = None
+then_lexed (Some tokens) next = next tokens
 
 abbrev pub lexed : List Token → ℕ → List ℕ → List ℕ → Option (List Token)
 lexed tokens line word [] = with_word tokens line word
 lexed tokens line word (b ∷ bytes) =
     if is_ascii_alphanumeric b then lexed tokens line (word ++ b ∷ []) bytes
-    else and_then (with_word tokens line word) (λ ended. and_then (with_byte ended line b) (λ more. lexed more (line_after line b) [] bytes))
+    else then_lexed (with_word tokens line word) (λ ended. then_lexed (with_byte ended line b) (λ more. lexed more (line_after line b) [] bytes))

@@ -1,8 +1,10 @@
-use crate::actuals::checked_actuals;
-use crate::matching::matched;
 use bumpalo::collections::into_bump_slice;
+use m3_actuals::{checked_actuals, matched};
+use m3_arithmetic_calls::built;
+use m3_assigning::judge_all;
 use m3_base::{NoMemory, Pos};
 use m3_core::{Actual, BuiltinCall, CoreExpr, Routine};
+use m3_operand_types::result_type;
 use m3_operands::{Checker, Given, Thing};
 use m3_scopes::EntityId;
 use m3_types::TypeId;
@@ -69,16 +71,16 @@ pub fn built_in_call<'a>(
 ) -> Result<Thing<'a>, NoMemory> {
     let (Some(signature), Some(routine)) = (checker.declared.kind_of(id), routine_of(checker, id))
     else {
-        checker.judge_all(actuals)?;
+        judge_all(checker, actuals)?;
         return Ok(Thing::Bad);
     };
     let Some(order) = matched(checker, signature, actuals)? else {
-        checker.judge_all(actuals)?;
+        judge_all(checker, actuals)?;
         return Ok(checker.bad(parenthesis, 55));
     };
     match checked_actuals(checker, parenthesis, signature, actuals, order)? {
         Some(row) => {
-            let kind = checker.result_of(signature);
+            let kind = result_type(checker, signature);
             in_order(checker, pos, routine, row, kind)
         }
         None => Ok(Thing::Bad),
@@ -87,8 +89,8 @@ pub fn built_in_call<'a>(
 
 fn routine_of(checker: &Checker<'_, '_>, id: EntityId) -> Option<Routine> {
     let entity = checker.program.binds.entity(id)?;
-    let unit = checker.program.units.get(entity.unit as usize)?;
-    routine_named(unit.name.text, entity.name)
+    let info = checker.program.infos.get(entity.unit as usize)?;
+    routine_named(info.name.text, entity.name)
 }
 
 /// The call with its actuals in the order of the formals.
@@ -121,13 +123,4 @@ fn in_order<'a>(
         kind,
     };
     built(checker, call)
-}
-
-/// A call of a routine as an operand.
-pub fn built<'a>(checker: &Checker<'_, 'a>, call: BuiltinCall<'a>) -> Result<Thing<'a>, NoMemory> {
-    let kept = checker.box_up(call)?;
-    match call.kind {
-        Some(kind) => checker.value(CoreExpr::Builtin(&**kept), kind),
-        None => Ok(Thing::Builtin(kept)),
-    }
 }

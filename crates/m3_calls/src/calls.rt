@@ -1,10 +1,12 @@
-use crate::actuals::checked_actuals;
 use crate::built_in::built_in_call;
-use crate::matching::matched;
-use crate::predeclared::predeclared_call;
+use m3_actuals::{checked_actuals, matched};
+use m3_assigning::judge_all;
 use m3_base::{NoMemory, Pos};
+use m3_chains::{chain_from, chain_thing, read_chain, with_step};
 use m3_core::{Actual, Step};
+use m3_operand_types::{is_procedure, result_type};
 use m3_operands::{Checker, Draft, Given, Method, State, Thing};
+use m3_predeclared_calls::predeclared_call;
 use m3_types::TypeId;
 
 /// A call of what a chain gives so far: `pos` is the chain's first token, where what can't be
@@ -22,11 +24,11 @@ pub fn call<'a>(
         }
         Thing::Routine(routine) => built_in_call(checker, pos, parenthesis, *routine, actuals),
         Thing::Method(method) => method_call(checker, parenthesis, method, actuals),
-        Thing::Value(value) if checker.is_procedure(value.kind) => {
-            let callee = checker.begin(pos, value)?;
+        Thing::Value(value) if is_procedure(checker, value.kind) => {
+            let callee = chain_from(checker, pos, value)?;
             procedure_call(checker, parenthesis, &callee, actuals)
         }
-        Thing::Chain(draft) if checker.is_procedure(draft.kind) => {
+        Thing::Chain(draft) if is_procedure(checker, draft.kind) => {
             procedure_call(checker, parenthesis, draft, actuals)
         }
         other => no_call(checker, pos, other, actuals),
@@ -40,7 +42,7 @@ fn no_call<'a>(
     thing: &Thing<'a>,
     actuals: &[Given<'a>],
 ) -> Result<Thing<'a>, NoMemory> {
-    checker.judge_all(actuals)?;
+    judge_all(checker, actuals)?;
     match thing {
         Thing::Bad => Ok(Thing::Bad),
         _ => Ok(checker.bad(pos, 56)),
@@ -57,8 +59,8 @@ fn procedure_call<'a>(
     let Some(actuals) = actuals_of(checker, parenthesis, signature, actuals)? else {
         return Ok(Thing::Bad);
     };
-    let kind = checker.result_of(signature);
-    let callee = checker.read(callee)?;
+    let kind = result_type(checker, signature);
+    let callee = read_chain(checker, callee)?;
     called(checker, &callee, Step::Call { actuals, kind }, kind)
 }
 
@@ -71,7 +73,7 @@ fn method_call<'a>(
     let Some(actuals) = actuals_of(checker, parenthesis, method.signature, actuals)? else {
         return Ok(Thing::Bad);
     };
-    let kind = checker.result_of(method.signature);
+    let kind = result_type(checker, method.signature);
     let step = Step::MethodCall {
         owner: method.owner,
         method: method.place,
@@ -89,15 +91,15 @@ fn called<'a>(
     kind: Option<TypeId>,
 ) -> Result<Thing<'a>, NoMemory> {
     let shown = kind.unwrap_or(draft.kind);
-    let draft = checker.step(draft, step, shown, State::Value)?;
+    let draft = with_step(checker, draft, step, shown, State::Value)?;
     match kind {
-        Some(_) => Ok(checker.chain_thing(draft)),
+        Some(_) => Ok(chain_thing(checker, draft)),
         None => Ok(Thing::Call(draft)),
     }
 }
 
-/// The checked actuals of a call; none where something was refused. Which formal each is for is judged
-/// first (rule 55).
+/// The checked actuals of a call; none where something was refused. Which formal each is for is
+/// judged first (rule 55).
 fn actuals_of<'a>(
     checker: &mut Checker<'_, 'a>,
     parenthesis: Pos,
@@ -108,7 +110,7 @@ fn actuals_of<'a>(
         Some(order) => checked_actuals(checker, parenthesis, signature, actuals, order),
         None => {
             checker.note(parenthesis, 55);
-            checker.judge_all(actuals)?;
+            judge_all(checker, actuals)?;
             Ok(None)
         }
     }

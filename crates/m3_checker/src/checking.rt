@@ -1,23 +1,24 @@
 ghost use Rattle.std.specs.Prelude.{◌<◌, All, length};
 
 use crate::globals::declare_globals;
-use crate::limits::judge_limits;
-use crate::listing::{Lists, list_all};
 use crate::units::check_units;
 use bumpalo::Bump;
 use m3_base::{Refused, Source};
-use m3_consts::declare;
+use m3_consts::{Declarations, declare};
 use m3_core::Core;
+use m3_declarer::Doubtful;
+use m3_limits::{Lists, judge_limits};
+use m3_listing::list_all;
 use m3_operands::Checker;
 use m3_program::read_program;
-use m3_scopes::Program;
+use m3_scopes::{Linked, Program};
 use m3_sizes::SizedTypes;
 use m3_types::{TypeGraph, TypeId, TypeNode};
 use std::alloc::Global;
 
-/// The checked program of some sources, whose trees stand in the arena, or the least of all rules that
-/// they break: by phase, unit, place and rule. A phase is judged only where no rule of an earlier one
-/// is broken.
+/// The checked program of some sources, whose trees stand in the arena, or the least of all rules
+/// that they break: by phase, unit, place and rule. A phase is judged only where no rule of an
+/// earlier one is broken.
 pub fn check<'a>(
     alloc: Global,
     arena: &'a Bump,
@@ -25,8 +26,8 @@ pub fn check<'a>(
 ) -> Result<Core<'a>, Refused>
     requires { All (λ source. length source.text.now < 4294967295) sources.now }
 {
-    let program = read_program(alloc, arena, sources)?;
-    check_program(alloc, arena, sources, &program)
+    let linked = read_program(alloc, arena, sources)?;
+    check_program(alloc, arena, sources, &linked)
 }
 
 /// The checked program of a linked one.
@@ -34,11 +35,11 @@ fn check_program<'a>(
     alloc: Global,
     arena: &'a Bump,
     sources: &[Source<'a>],
-    program: &Program<'a>,
+    linked: &Linked<'a>,
 ) -> Result<Core<'a>, Refused> {
-    let declared = declare(alloc, arena, program)?;
-    let mut checker = Checker::new(alloc, arena, program, declared);
-    let lists = check_all(&mut checker, sources)?;
+    let Declarations { declared, doubtful } = declare(alloc, arena, linked)?;
+    let mut checker = Checker::new(alloc, arena, &linked.program, declared);
+    let lists = check_all(&mut checker, linked, &doubtful, sources)?;
     let types = SizedTypes::measure(alloc, take_types(&mut checker))?;
     let core = Core {
         types,
@@ -51,20 +52,22 @@ fn check_program<'a>(
         files: lists.files,
         alerted: lists.alerted,
     };
-    within_limits(alloc, program, &lists, core)
+    within_limits(alloc, &linked.program, &lists, core)
 }
 
 /// Checks what a program's declarations declare, and lists what the checked program has.
 fn check_all<'a>(
     checker: &mut Checker<'_, 'a>,
+    linked: &Linked<'a>,
+    doubtful: &[Doubtful<'a>],
     sources: &[Source<'a>],
 ) -> Result<Lists<'a>, Refused> {
-    declare_globals(checker)?;
-    check_units(checker)?;
+    declare_globals(checker, &linked.units)?;
+    check_units(checker, doubtful, &linked.units)?;
     checker.least.check()?;
     let refused = checker.declared.basic.refused;
     give_up(&mut checker.declared.types, refused);
-    Ok(list_all(checker, sources)?)
+    Ok(list_all(checker, linked, sources)?)
 }
 
 /// The graph of types of a checker that is done with it.
@@ -74,7 +77,8 @@ fn take_types<'a>(checker: &mut Checker<'_, 'a>) -> TypeGraph<'a> {
     std::mem::replace(types, empty)
 }
 
-/// Defines what stood for types that were refused, since no place of a whole graph is left reserved.
+/// Defines what stood for types that were refused, since no place of a whole graph is left
+/// reserved.
 fn give_up(types: &mut TypeGraph<'_>, refused: TypeId) {
     if types.is_reserved(refused) {
         types.set(refused, TypeNode::Null);

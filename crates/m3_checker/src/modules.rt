@@ -1,8 +1,10 @@
 use bumpalo::collections::into_bump_slice;
+use m3_assignments::initial_values;
 use m3_base::NoMemory;
+use m3_bodies::Body;
 use m3_core::{CoreStmt, ProcDef};
 use m3_operands::Checker;
-use m3_stmts::{Body, initial_values, statements};
+use m3_stmts::statements;
 use m3_syntax::{Block, Unit};
 use m3_types::{Formal, Raises, TypeNode};
 

@@ -1,35 +1,44 @@
-use crate::globals::given_unit;
 use crate::modules::check_module;
+use m3_assignments::initial_value;
 use m3_base::{NoMemory, Refused, place_number};
+use m3_declarer::Doubtful;
 use m3_exprs::expression;
-use m3_operands::{Checker, judge_declaration};
-use m3_stmts::{check_procedure, initial_value};
+use m3_listing::is_given;
+use m3_operands::Checker;
+use m3_stmts::check_procedure;
 use m3_syntax::{Decl, Unit, UnitKind, VarDecl};
+use m3_type_names::judge_declaration;
 
-/// Checks the expressions and statements of all units.
-pub fn check_units(checker: &mut Checker<'_, '_>) -> Result<(), NoMemory> {
+/// Checks the doubtful expressions of declarations, and the expressions and statements of all
+/// units.
+pub fn check_units<'a>(
+    checker: &mut Checker<'_, 'a>,
+    doubtful: &[Doubtful<'a>],
+    units: &[Unit<'a>],
+) -> Result<(), NoMemory> {
     if let Err(Refused::Rule(refusal)) = checker.declared.later.check() {
         checker.least.note(refusal);
     }
-    check_constants(checker)?;
-    for place in 0..checker.program.units.len() {
+    check_constants(checker, doubtful)?;
+    for (place, unit) in units.iter().enumerate() {
         checker.unit = place_number(place)?;
         checker.level = 0;
-        if let Some(unit) = given_unit(checker, place) {
-            check_unit(checker, &unit)?;
+        if is_given(checker, place) {
+            check_unit(checker, unit)?;
         }
     }
     Ok(())
 }
 
 /// Judges the constant expressions of declarations that break a rule of expressions.
-fn check_constants(checker: &mut Checker<'_, '_>) -> Result<(), NoMemory> {
-    for place in 0..checker.declared.doubtful.len() {
-        if let Some(doubtful) = checker.declared.doubtful.get(place).copied() {
-            checker.steps.clear();
-            checker.unit = doubtful.unit;
-            expression(checker, doubtful.value)?;
-        }
+fn check_constants<'a>(
+    checker: &mut Checker<'_, 'a>,
+    doubtful: &[Doubtful<'a>],
+) -> Result<(), NoMemory> {
+    for one in doubtful {
+        checker.steps.clear();
+        checker.unit = one.unit;
+        expression(checker, one.value)?;
     }
     Ok(())
 }

@@ -1,6 +1,7 @@
 //! The command line of `m3c`: what its words ask for.
 #![tactic(auto)]
 
+mod defaults;
 mod limits;
 mod words;
 

@@ -1,5 +1,5 @@
 //! What a run may do and use.
-ghost use Rattle.std.specs.Prelude.{◌≤◌, IfSome};
+ghost use Rattle.std.specs.Prelude.{◌≤◌, ◌<◌, ◌^◌, IfSome};
 
 use clap::ArgMatches;
 
@@ -11,6 +11,7 @@ pub struct Limits {
     pub heap: u64,
     pub stack: u64,
     pub threads: u32,
+    pub ghost points_fit: { points < 2 ^ 63 },
     pub ghost heap_fits: { (64 ≤ heap) × (heap ≤ 67108864) },
     pub ghost stack_fits: { (1024 ≤ stack) × (stack ≤ 1048576) },
     pub ghost threads_fit: { (1 ≤ threads) × (threads ≤ 64) },
@@ -47,28 +48,6 @@ const THREADS: Range = Range {
     most: 64,
     usual: 8,
 };
-
-impl Limits {
-    /// Those of a run without options.
-    pub fn usual() -> Limits {
-        Limits {
-            points: 1_000_000_000,
-            heap: 1_048_576,
-            stack: 65_536,
-            threads: 8,
-        }
-    }
-
-    /// Those of `bench`.
-    pub fn of_bench() -> Limits {
-        Limits {
-            points: 1_000_000,
-            heap: 32_768,
-            stack: 16_384,
-            threads: 8,
-        }
-    }
-}
 
 /// The number that decimal digits say. None exactly where they are none, or another byte is among
 /// them, or the number is past 64 bits.

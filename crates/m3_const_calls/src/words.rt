@@ -43,8 +43,8 @@ pub fn result_of_call<'a>(
 /// The routine of Word that an entity is.
 pub fn word_routine_of<'a>(eval: &Evaluator<'_, 'a>, id: EntityId) -> Option<WordRoutine> {
     let entity = eval.program.binds.entity(id)?;
-    let unit = eval.program.units.get(entity.unit as usize)?;
-    if unit.name.text == b"Word".as_slice() {
+    let info = eval.program.infos.get(entity.unit as usize)?;
+    if info.name.text == b"Word".as_slice() {
         routine_named(entity.name)
     } else {
         None

@@ -1,7 +1,8 @@
 use crate::method_constants::method_constant;
 use m3_base::{NoMemory, Pos};
 use m3_core::{Value, ValueId};
-use m3_early_names::{entity_thing, field_kind, method_kind, newest_member, own_member};
+use m3_declared::{field_kind, method_kind};
+use m3_early_names::{entity_thing, newest_member, own_member};
 use m3_early_types::{
     bounds_of, fits, is_array, is_known_reference, is_reference, plain_node, seen_structure,
 };
@@ -84,7 +85,7 @@ fn type_member<'a>(
         return Ok(Thing::Bad);
     };
     match found.member {
-        Member::Method(method) => match method_kind(eval, found.owner, method) {
+        Member::Method(method) => match method_kind(eval.definition(found.owner), method) {
             Some(signature) => method_constant(eval, kind, signature, name.text),
             None => Ok(Thing::Bad),
         },
@@ -116,11 +117,11 @@ fn value_member<'a>(
         return Ok(Thing::Bad);
     };
     match found.member {
-        Member::Field(field) => match field_kind(eval, found.owner, field) {
+        Member::Field(field) => match field_kind(eval.definition(found.owner), field) {
             Some(kind) => Ok(Thing::Value(behind(eval, pos, worth, kind))),
             None => Ok(Thing::Bad),
         },
-        Member::Method(method) => match method_kind(eval, found.owner, method) {
+        Member::Method(method) => match method_kind(eval.definition(found.owner), method) {
             Some(signature) => Ok(Thing::Method(signature)),
             None => Ok(Thing::Bad),
         },
@@ -137,7 +138,7 @@ fn field<'a>(
     let Some(Member::Field(field)) = own_member(eval, record.kind, name.text)? else {
         return Ok(Thing::Bad);
     };
-    let Some(kind) = field_kind(eval, record.kind, field) else {
+    let Some(kind) = field_kind(eval.definition(record.kind), field) else {
         return Ok(Thing::Bad);
     };
     if kind == eval.declared.basic.refused {

@@ -1,7 +1,6 @@
 use m3_base::NoMemory;
 use m3_core::Value;
-use m3_declared::Doubtful;
-use m3_declarer::{Declarer, Promise};
+use m3_declarer::{Declarer, Doubtful, Promise};
 use m3_early_types::{converted, fits};
 use m3_evaluate::expression;
 use m3_syntax::Expr;

@@ -1,9 +1,8 @@
-//! Sets, arrays and records that are written out, whose parts were checked (the report, section 2.6.8).
+//! Sets, arrays and records that are written out, whose parts were checked (the report, section
+//! 2.6.8).
 #![tactic(auto)]
 
-mod arrays;
-mod constructors;
+mod constructing;
 mod records;
-mod sets;
 
-pub use constructors::{Part, Written, constructor};
+pub use constructing::constructor;

@@ -1,8 +1,10 @@
-use crate::constructors::{Judged, Made, Part, Written, judge_part};
 use bumpalo::Bump;
 use bumpalo::collections::into_bump_slice;
+use m3_assigning::assigned;
 use m3_base::{NoMemory, Pos, place_number};
+use m3_constructor_parts::{Judged, Made, Part, Written, judge_part};
 use m3_core::{CoreExpr, FieldValue};
+use m3_members::own_member;
 use m3_operands::{Checker, Given, Member};
 use m3_syntax::Name;
 use m3_types::{Field, TypeId, TypeNode};
@@ -95,7 +97,7 @@ fn field_named<'a>(
     kind: TypeId,
     name: Name<'a>,
 ) -> Result<Option<u32>, NoMemory> {
-    match checker.own_member(kind, name.text)? {
+    match own_member(checker, kind, name.text)? {
         Some(Member::Field(place)) => Ok(Some(place)),
         _ => Ok(None),
     }
@@ -109,7 +111,7 @@ fn add_field<'a>(
     given: &Given<'a>,
 ) -> Result<(), NoMemory> {
     let value = match fields.get(field as usize) {
-        Some(known) => checker.assigned(given, known.kind)?,
+        Some(known) => assigned(checker, given, known.kind)?,
         None => None,
     };
     match value {
@@ -122,7 +124,8 @@ fn add_field<'a>(
     Ok(())
 }
 
-/// Gives each field that is left out its default. Where its type was refused nothing more is judged.
+/// Gives each field that is left out its default. Where its type was refused nothing more is
+/// judged.
 fn add_defaults<'a>(
     checker: &Checker<'_, 'a>,
     making: &mut Making<'a>,

@@ -2,11 +2,11 @@ use crate::judging::judge_all;
 use bumpalo::Bump;
 use m3_base::{NoMemory, Refused};
 use m3_declared::{Basic, Declared};
-use m3_declarer::Declarer;
+use m3_declarer::{Declarer, Doubtful};
 use m3_defining::{define_all, name_all};
 use m3_gather::gather;
 use m3_reserving::reserve_all;
-use m3_scopes::Program;
+use m3_scopes::Linked;
 use m3_settle::settle_all;
 use m3_types::{TypeGraph, TypeNode};
 use m3_worth::Evaluator;
@@ -29,25 +29,36 @@ fn basic_types(types: &mut TypeGraph<'_>) -> Result<Basic, NoMemory> {
     })
 }
 
+/// What the declarations of a program declare, and their constant expressions that are to be judged
+/// with the expressions of bodies.
+#[derive(Drop)]
+pub struct Declarations<'a> {
+    pub declared: Declared<'a>,
+    pub doubtful: Vec<Doubtful<'a>>,
+}
+
 /// The types and constants of all declarations of a linked program, and the types of all its type
 /// expressions. The least broken rule of types and constants (rules 40 to 49) is the answer where
 /// there is one.
 pub fn declare<'a>(
     alloc: Global,
     arena: &'a Bump,
-    program: &Program<'a>,
-) -> Result<Declared<'a>, Refused> {
+    linked: &Linked<'a>,
+) -> Result<Declarations<'a>, Refused> {
     let mut types = TypeGraph::new(alloc);
     let basic = basic_types(&mut types)?;
     let declared = Declared::new(alloc, types, basic);
-    let eval = Evaluator::new(alloc, arena, program, declared);
-    let gathered = gather(alloc, program)?;
-    let mut declarer = Declarer::new(alloc, eval, gathered);
-    reserve_all(&mut declarer)?;
+    let eval = Evaluator::new(alloc, arena, &linked.program, declared);
+    let gathered = gather(alloc, linked)?;
+    let mut declarer = Declarer::new(alloc, eval, &linked.declarations, gathered);
+    reserve_all(&mut declarer, &linked.units)?;
     name_all(&mut declarer)?;
     define_all(&mut declarer)?;
     settle_all(&mut declarer)?;
-    judge_all(&mut declarer)?;
+    judge_all(&mut declarer, &linked.units)?;
     declarer.least.check()?;
-    Ok(declarer.eval.declared)
+    Ok(Declarations {
+        declared: declarer.eval.declared,
+        doubtful: declarer.doubtful,
+    })
 }

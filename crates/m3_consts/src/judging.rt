@@ -1,21 +1,21 @@
 use m3_base::{NoMemory, Pos, place_number};
 use m3_constant_values::worth_of;
 use m3_declaration_rules::{judge_arguments, judge_bodies, judge_brands};
-use m3_declared::{Constant, Doubtful};
-use m3_declarer::{Declarer, Promise};
+use m3_declared::Constant;
+use m3_declarer::{Declarer, Doubtful, Promise};
 use m3_early_types::{assignability, converted};
-use m3_gather::LabelAt;
+use m3_gathered::LabelAt;
 use m3_method_rules::judge_methods;
 use m3_recursive_types::judge_recursion;
 use m3_reveals::judge_reveals;
 use m3_subtype::Assign;
-use m3_syntax::{Decl, Expr, Init, VarDecl};
+use m3_syntax::{Decl, Expr, Init, Unit, VarDecl};
 use m3_type_rules::judge_parts;
 use m3_types::TypeId;
 use m3_worth::{Known, Worth};
 
 /// Judges what takes all types and constants.
-pub fn judge_all<'a>(declarer: &mut Declarer<'_, 'a>) -> Result<(), NoMemory> {
+pub fn judge_all<'a>(declarer: &mut Declarer<'_, 'a>, units: &[Unit<'a>]) -> Result<(), NoMemory> {
     judge_recursion(declarer)?;
     judge_parts(declarer)?;
     judge_methods(declarer)?;
@@ -24,7 +24,7 @@ pub fn judge_all<'a>(declarer: &mut Declarer<'_, 'a>) -> Result<(), NoMemory> {
     judge_arguments(declarer)?;
     judge_brands(declarer)?;
     judge_bodies(declarer)?;
-    judge_interface_variables(declarer)?;
+    judge_interface_variables(declarer, units)?;
     tell_labels(declarer)
 }
 
@@ -57,7 +57,7 @@ fn judge_promise<'a>(
     if assumed.is_wanted {
         declarer.note(assumed.unit, assumed.pos, 44);
     } else {
-        declarer.eval.declared.doubtful.push(Doubtful {
+        declarer.doubtful.push(Doubtful {
             unit: assumed.unit,
             value: promise.value,
         })?;
@@ -66,9 +66,11 @@ fn judge_promise<'a>(
 }
 
 /// The initial values of interface variables: each is a constant (rule 49 at the variable).
-fn judge_interface_variables<'a>(declarer: &mut Declarer<'_, 'a>) -> Result<(), NoMemory> {
-    let program = declarer.eval.program;
-    for (place, unit) in program.units.iter().enumerate() {
+fn judge_interface_variables<'a>(
+    declarer: &mut Declarer<'_, 'a>,
+    units: &[Unit<'a>],
+) -> Result<(), NoMemory> {
+    for (place, unit) in units.iter().enumerate() {
         if is_interface(declarer, place) {
             declarer.eval.unit = place_number(place)?;
             judge_declarations(declarer, unit.declarations())?;

@@ -10,4 +10,4 @@
 mod declaring;
 mod judging;
 
-pub use declaring::declare;
+pub use declaring::{Declarations, declare};

@@ -2,7 +2,7 @@ use bumpalo::Bump;
 use m3_base::{Pos, Refused, Source};
 use m3_consts::declare;
 use m3_program::read_program;
-use m3_scopes::Program;
+use m3_scopes::Linked;
 use m3_trial::{Trial, copies, place_text, refused_text};
 use std::alloc::{AllocError, Global};
 
@@ -33,18 +33,18 @@ fn judged(alloc: Global, sources: &[Source<'_>]) -> Result<Option<Pos>, Refused>
     let owner = Bump::new(alloc);
     let arena = &owner;
     let copies = copies(alloc, arena, sources)?;
-    let program = read_program(alloc, arena, copies.as_slice())?;
-    first_doubt(alloc, arena, &program)
+    let linked = read_program(alloc, arena, copies.as_slice())?;
+    first_doubt(alloc, arena, &linked)
 }
 
 fn first_doubt<'a>(
     alloc: Global,
     arena: &'a Bump,
-    program: &Program<'a>,
+    linked: &Linked<'a>,
 ) -> Result<Option<Pos>, Refused> {
-    let declared = declare(alloc, arena, program)?;
-    declared.later.check()?;
-    match declared.doubtful.first() {
+    let declarations = declare(alloc, arena, linked)?;
+    declarations.declared.later.check()?;
+    match declarations.doubtful.first() {
         Some(doubt) => Ok(Some(doubt.value.pos())),
         None => Ok(None),
     }

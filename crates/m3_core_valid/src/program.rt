@@ -6,12 +6,13 @@ use m3_core::{Core, ExcDef, ProcDef, Value, ValueId, VarDef, VarKind};
 use m3_types::TypeNode;
 use std::alloc::Global;
 
-/// Whether a checked tree is well formed: each variable, field, method, procedure, exception, text
-/// and constant that a node names is there and of the kind that the node is defined for, each type
-/// is a type of the program, and each call and constructor has what it needs, each once. That the
-/// types of the parts fit each other isn't judged.
+/// Whether a checked tree is well formed: the graph of its types is, each variable, field, method,
+/// procedure, exception, text and constant that a node names is there and of the kind that the node
+/// is defined for, each type is a type of the program, and each call and constructor has what it
+/// needs, each once. That the types of the parts fit each other isn't judged.
 pub fn is_well_formed(alloc: Global, core: &Core<'_>) -> Result<bool, NoMemory> {
     let mut judge = Judge::new(alloc, core);
+    judge_types(&mut judge)?;
     judge_globals(&mut judge, core.globals)?;
     judge_exceptions(&mut judge, core.exceptions);
     judge_values(&mut judge, core.values);
@@ -21,6 +22,13 @@ pub fn is_well_formed(alloc: Global, core: &Core<'_>) -> Result<bool, NoMemory> 
         judge_proc(&mut judge, place_number(place)?, proc)?;
     }
     Ok(judge.is_good)
+}
+
+/// The definitions of the types.
+fn judge_types(judge: &mut Judge<'_, '_>) -> Result<(), NoMemory> {
+    let have_form = m3_forms::is_well_formed(judge.alloc, &judge.types.graph)?;
+    judge.expect(have_form);
+    Ok(())
 }
 
 fn judge_globals<'a>(judge: &mut Judge<'_, 'a>, globals: &[VarDef<'a>]) -> Result<(), NoMemory> {

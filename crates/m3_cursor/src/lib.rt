@@ -6,6 +6,6 @@ mod kinds;
 mod names;
 mod reader;
 
-pub use kinds::{begins_expression, begins_type, goes_on, operator_of};
-pub use names::{name_list, names_up_to, qualid, qualid_list, raises};
-pub use reader::{Reader, Stop, Why};
+pub use kinds::{begins_expression, begins_type, goes_on};
+pub use names::{name_list, names_between, qualid, qualid_list, raises};
+pub use reader::Reader;

@@ -18,10 +18,11 @@ pub fn name_list<'a>(reader: &mut Reader<'_, 'a>) -> &'a [Name<'a>]
     reader.row(names)
 }
 
-/// Names with commas between them, maybe none, up to and with the sign that closes them.
-pub fn names_up_to<'a>(reader: &mut Reader<'_, 'a>, close: Sign) -> &'a [Name<'a>]
+/// Names with commas between them, maybe none, between two signs.
+pub fn names_between<'a>(reader: &mut Reader<'_, 'a>, open: Sign, close: Sign) -> &'a [Name<'a>]
     ensures { Follows reader.old reader.new }
 {
+    reader.take_sign(open);
     if reader.skip_sign(close) {
         return reader.no_items();
     }
@@ -62,26 +63,17 @@ pub fn qualid_list<'a>(reader: &mut Reader<'_, 'a>) -> &'a [Qualid<'a>]
 pub fn raises<'a>(reader: &mut Reader<'_, 'a>) -> Raises<'a>
     ensures { Follows reader.old reader.new }
 {
-    let is_given = reader.skip_word(Word::Raises);
-    if is_given && reader.skip_word(Word::Any) {
-        Raises::Any
-    } else {
-        Raises::Only(raised(reader, is_given))
+    if !reader.skip_word(Word::Raises) {
+        return Raises::Only(reader.no_items());
     }
-}
-
-/// The qualified names in braces behind RAISES, where it is given.
-fn raised<'a>(reader: &mut Reader<'_, 'a>, is_given: bool) -> &'a [Qualid<'a>]
-    ensures { Follows reader.old reader.new }
-{
-    if !is_given {
-        return reader.no_items();
+    if reader.skip_word(Word::Any) {
+        return Raises::Any;
     }
     reader.take_sign(Sign::OpenBrace);
     if reader.skip_sign(Sign::CloseBrace) {
-        return reader.no_items();
+        return Raises::Only(reader.no_items());
     }
     let names = qualid_list(reader);
     reader.take_sign(Sign::CloseBrace);
-    names
+    Raises::Only(names)
 }

@@ -1,37 +1,28 @@
-ghost use Rattle.std.specs.Prelude.{◌≡◌, ◌+◌, ◌<◌, ◌≤◌, IsTrue, IfSome, IfNone, IsSome, length};
-ghost use Rattle.m3_cursor.specs.Readers.{Follows, IsWrittenAt};
+ghost use Rattle.std.specs.Prelude.{◌≡◌, ◌+◌, ◌<◌, ◌≤◌, ◌++◌, [], ◌∷◌, length};
+ghost use Rattle.std.specs.Prelude.{IsTrue, IsFalse, IfSome, IfNone, OnSome, IfOk, IsSome};
+ghost use Rattle.m3_syntax.specs.declared.tokens.TokenKind.{TokenKind};
+ghost use Rattle.m3_grammar.specs.Tokens.{IsAt, IsToken, IsWritten, IsWord, IsSign, IsName, first_kind};
+ghost use Rattle.m3_cursor.specs.Readers.{Follows, Reads};
 
 use bumpalo::Bump;
 use m3_base::{NoMemory, Pos};
+use m3_grammar::{is_sign, is_word};
+use m3_stops::{Stop, Why};
 use m3_syntax::{Expr, Lexed, Name, Sign, Token, TokenKind, TypeExp, Word};
 use std::alloc::Global;
 
-/// Why the reading of a file stopped.
-#[derive(Clone, Copy, Debug, PartialEq, Eq)]
-pub enum Why {
-    /// The token there may not stand there, or the file ends too early.
-    Unexpected,
-    /// The token there lies inside too many constructs.
-    TooDeep,
-    NoMemory,
-}
-
-/// The first error in a file, and how many tokens were left there.
-#[derive(Clone, Copy, Debug)]
-pub struct Stop {
-    pub why: Why,
-    pub left: usize,
-}
-
 /// Reads the tokens of a file from the first to the last. It keeps the first error, and stands at
-/// the end of the tokens from then on, where nothing more is taken; so whoever reads goes on as if
-/// nothing had happened, and asks at the end by `stop`.
+/// the end of the tokens from then on, where nothing more is taken; so whoever reads goes on as
+/// if nothing had happened, and asks at the end by `stop`.
 pub struct Reader<'t, 'a> {
     alloc: Global,
     arena: &'a Bump,
     rest: &'t [Token<'a>],
     end: Pos,
     stop: Option<Stop>,
+    /// How many tokens were left at the first closing name that differs from the name that it
+    /// closes.
+    wrong_closing: Option<usize>,
     no_expr: &'a Expr<'a>,
     no_type: &'a TypeExp<'a>,
 }
@@ -44,6 +35,7 @@ impl Drop for Reader<'_, '_> {
             rest: _,
             end: _,
             stop: _,
+            wrong_closing: _,
             no_expr: _,
             no_type: _,
         } = self;
@@ -56,7 +48,9 @@ impl<'t, 'a> Reader<'t, 'a> {
         alloc: Global,
         arena: &'a Bump,
         lexed: &'t Lexed<'a>,
-    ) -> Result<Reader<'t, 'a>, NoMemory> {
+    ) -> Result<Reader<'t, 'a>, NoMemory>
+        ensures { IfOk result (λ reader. reader.rest.now ≡ lexed.now.tokens.items) }
+    {
         let end = lexed.end;
         let no_expr = &*arena.try_alloc(Expr::Missing { pos: end })?;
         let no_type = &*arena.try_alloc(TypeExp::Missing { pos: end })?;
@@ -66,14 +60,25 @@ impl<'t, 'a> Reader<'t, 'a> {
             rest: lexed.tokens.as_slice(),
             end,
             stop: None,
+            wrong_closing: None,
             no_expr,
             no_type,
         })
     }
 
     /// The first error, if there was one.
-    pub fn stop(&self) -> Option<Stop> {
+    pub fn stop(&self) -> Option<Stop>
+        ensures { result ≡ self.now.stop }
+    {
         self.stop
+    }
+
+    /// How many tokens were left at the first closing name that differs from the name that it
+    /// closes, if one does.
+    pub fn wrong_closing(&self) -> Option<usize>
+        ensures { result ≡ self.now.wrong_closing }
+    {
+        self.wrong_closing
     }
 
     pub fn alloc(&self) -> Global {
@@ -85,7 +90,9 @@ impl<'t, 'a> Reader<'t, 'a> {
     }
 
     /// What the token here is, or None at the end.
-    pub fn kind(&self) -> Option<TokenKind> {
+    pub fn kind(&self) -> Option<TokenKind>
+        ensures { result ≡ first_kind self.now.rest.now }
+    {
         match self.rest {
             [] => None,
             [token, ..] => Some(token.kind),
@@ -101,45 +108,59 @@ impl<'t, 'a> Reader<'t, 'a> {
     }
 
     /// The place of the token here, or of the end of the file.
-    pub fn pos(&self) -> Pos {
+    pub fn pos(&self) -> Pos
+        ensures { IsAt result self.now.rest.now }
+    {
         match self.rest {
             [] => self.end,
             [token, ..] => token.pos,
         }
     }
 
-    pub fn is_word(&self, word: Word) -> bool {
-        self.kind() == Some(TokenKind::Keyword(word))
+    /// How the token here is written; nothing at the end.
+    fn text(&self) -> &'a [u8]
+        ensures { IsWritten result.now self.now.rest.now }
+    {
+        match self.rest {
+            [] => &[],
+            [token, ..] => token.text,
+        }
     }
 
-    pub fn is_sign(&self, sign: Sign) -> bool {
-        self.kind() == Some(TokenKind::Symbol(sign))
+    pub fn is_word(&self, word: Word) -> bool
+        ensures { IsTrue result → first_kind self.now.rest.now ≡ Some (TokenKind.Keyword word) }
+    {
+        match self.kind() {
+            Some(kind) => is_word(kind, word),
+            None => false,
+        }
     }
 
-    pub fn is_name(&self) -> bool {
-        self.kind() == Some(TokenKind::Ident)
+    pub fn is_sign(&self, sign: Sign) -> bool
+        ensures { IsTrue result → first_kind self.now.rest.now ≡ Some (TokenKind.Symbol sign) }
+    {
+        match self.kind() {
+            Some(kind) => is_sign(kind, sign),
+            None => false,
+        }
+    }
+
+    pub fn is_name(&self) -> bool
+        ensures { IsTrue result → first_kind self.now.rest.now ≡ Some TokenKind.Ident }
+    {
+        matches!(self.kind(), Some(TokenKind::Ident))
     }
 
     /// Goes past the token here, if there is one.
     pub fn step(&mut self)
-        ensures { Follows self.old self.new }
+        ensures follows { Follows self.old self.new }
+        ensures past { (kind : TokenKind) → first_kind self.old.rest.now ≡ Some kind
+            → length self.new.rest.now < length self.old.rest.now }
+        ensures reads { (kind : TokenKind) → first_kind self.old.rest.now ≡ Some kind
+            → IsToken kind self.old.rest.now self.new.rest.now }
     {
         if let [_, rest @ ..] = self.rest {
             self.rest = rest;
-        }
-    }
-
-    /// Goes past the token here, if it is of this kind, and tells whether it is.
-    pub fn skip(&mut self, kind: TokenKind) -> bool
-        ensures follows { Follows self.old self.new }
-        ensures past { IsTrue result → length self.new.rest.now < length self.old.rest.now }
-    {
-        match self.rest {
-            [token, rest @ ..] if token.kind == kind => {
-                self.rest = rest;
-                true
-            }
-            _ => false,
         }
     }
 
@@ -147,21 +168,35 @@ impl<'t, 'a> Reader<'t, 'a> {
     pub fn skip_word(&mut self, word: Word) -> bool
         ensures follows { Follows self.old self.new }
         ensures past { IsTrue result → length self.new.rest.now < length self.old.rest.now }
+        ensures reads { IsTrue result → IsWord word self.old.rest.now self.new.rest.now }
+        ensures stays { IsFalse result → self.new ≡ self.old }
     {
-        self.skip(TokenKind::Keyword(word))
+        let is_here = self.is_word(word);
+        if is_here {
+            self.step();
+        }
+        is_here
     }
 
     /// Goes past the token here, if it is this sign, and tells whether it is.
     pub fn skip_sign(&mut self, sign: Sign) -> bool
         ensures follows { Follows self.old self.new }
         ensures past { IsTrue result → length self.new.rest.now < length self.old.rest.now }
+        ensures reads { IsTrue result → IsSign sign self.old.rest.now self.new.rest.now }
+        ensures stays { IsFalse result → self.new ≡ self.old }
     {
-        self.skip(TokenKind::Symbol(sign))
+        let is_here = self.is_sign(sign);
+        if is_here {
+            self.step();
+        }
+        is_here
     }
 
     /// Goes past the token here, which has to be this keyword, and gives its place.
     pub fn take_word(&mut self, word: Word) -> Pos
-        ensures { Follows self.old self.new }
+        ensures follows { Follows self.old self.new }
+        ensures reads { Reads self.old self.new (IsWord word) }
+        ensures place { IsAt result self.old.rest.now }
     {
         let pos = self.pos();
         if !self.skip_word(word) {
@@ -172,7 +207,9 @@ impl<'t, 'a> Reader<'t, 'a> {
 
     /// Goes past the token here, which has to be this sign, and gives its place.
     pub fn take_sign(&mut self, sign: Sign) -> Pos
-        ensures { Follows self.old self.new }
+        ensures follows { Follows self.old self.new }
+        ensures reads { Reads self.old self.new (IsSign sign) }
+        ensures place { IsAt result self.old.rest.now }
     {
         let pos = self.pos();
         if !self.skip_sign(sign) {
@@ -184,28 +221,46 @@ impl<'t, 'a> Reader<'t, 'a> {
     /// Goes past the token here, which has to be an identifier, and gives it.
     pub fn take_name(&mut self) -> Name<'a>
         ensures follows { Follows self.old self.new }
-        ensures own { IfNone self.new.stop (IsWrittenAt result.text.now self.old.rest.now) }
+        ensures reads { Reads self.old self.new (λ before after. IsName before after result) }
     {
         let pos = self.pos();
-        let text = self.take_text(TokenKind::Ident);
+        let text = self.text();
+        if self.is_name() {
+            self.step();
+        } else {
+            self.unexpected();
+        }
         Name { text, pos }
     }
 
-    /// Goes past the token here, which has to be of this kind, and gives it as it is written.
-    pub fn take_text(&mut self, kind: TokenKind) -> &'a [u8]
+    /// Goes past the token here, which has to be an identifier and is to be the same as a name,
+    /// and gives it. The first that differs is kept.
+    pub fn take_closing(&mut self, name: &Name<'a>) -> Name<'a>
         ensures follows { Follows self.old self.new }
-        ensures own { IfNone self.new.stop (IsWrittenAt result.now self.old.rest.now) }
+        ensures reads { Reads self.old self.new (λ before after. IsName before after result) }
+        ensures same { self.new.wrong_closing ≡ None → result.text.now ≡ name.now.text.now }
     {
-        match self.rest {
-            [token, rest @ ..] if token.kind == kind => {
-                self.rest = rest;
-                token.text
-            }
-            _ => {
-                self.unexpected();
-                &[]
-            }
+        let left = self.rest.len();
+        let closing = self.take_name();
+        if closing.text != name.text && self.wrong_closing.is_none() {
+            self.wrong_closing = Some(left);
         }
+        closing
+    }
+
+    /// Goes past the token here, which has to be a text literal, and gives it as it is written.
+    pub fn take_text(&mut self) -> &'a [u8]
+        ensures follows { Follows self.old self.new }
+        ensures reads { Reads self.old self.new (IsToken TokenKind.TextLit) }
+        ensures written { IsWritten result.now self.old.rest.now }
+    {
+        let text = self.text();
+        if self.kind() == Some(TokenKind::TextLit) {
+            self.step();
+        } else {
+            self.unexpected();
+        }
+        text
     }
 
     /// Keeps an error, if it is the first, and goes to the end.
@@ -244,6 +299,8 @@ impl<'t, 'a> Reader<'t, 'a> {
     pub fn inside(&mut self, room: u32) -> Option<u32>
         ensures follows { Follows self.old self.new }
         ensures less { IfSome result (λ r. r + 1 ≡ room) }
+        ensures stays { OnSome result (self.new ≡ self.old) }
+        ensures stopped { IfNone result (IsSome self.new.stop) }
     {
         if room == 0 {
             self.too_deep();
@@ -255,7 +312,9 @@ impl<'t, 'a> Reader<'t, 'a> {
 
     /// Puts an item behind others.
     pub fn put<T: Copy>(&mut self, items: &mut Vec<T>, item: T)
-        ensures { Follows self.old self.new }
+        ensures follows { Follows self.old self.new }
+        ensures reads { Reads self.old self.new (λ before after. after ≡ before) }
+        ensures items { self.new.stop ≡ None → items.new.items ≡ items.old.items ++ item ∷ [] }
     {
         if items.push(item).is_err() {
             self.fail(Why::NoMemory);
@@ -263,13 +322,17 @@ impl<'t, 'a> Reader<'t, 'a> {
     }
 
     /// The row of no items.
-    pub fn no_items<T>(&self) -> &'a [T] {
+    pub fn no_items<T>(&self) -> &'a [T]
+        ensures { result.now ≡ [] }
+    {
         &[]
     }
 
     /// Keeps a row of items.
     pub fn row<T: Copy>(&mut self, items: Vec<T>) -> &'a [T]
-        ensures { Follows self.old self.new }
+        ensures follows { Follows self.old self.new }
+        ensures reads { Reads self.old self.new (λ before after. after ≡ before) }
+        ensures items { self.new.stop ≡ None → result.now ≡ items.items }
     {
         if items.is_empty() {
             return &[];
@@ -285,10 +348,12 @@ impl<'t, 'a> Reader<'t, 'a> {
 
     /// Keeps an expression.
     pub fn expr(&mut self, expr: Expr<'a>) -> &'a Expr<'a>
-        ensures { Follows self.old self.new }
+        ensures follows { Follows self.old self.new }
+        ensures reads { Reads self.old self.new (λ before after. after ≡ before) }
+        ensures kept { self.new.stop ≡ None → result.now ≡ expr.entry }
     {
         let spare = self.no_expr;
-        let kept = kept_expr(self.arena, expr);
+        let kept = kept(self.arena, expr);
         if kept.is_err() {
             self.fail(Why::NoMemory);
         }
@@ -297,10 +362,12 @@ impl<'t, 'a> Reader<'t, 'a> {
 
     /// Keeps a type.
     pub fn type_exp(&mut self, kind: TypeExp<'a>) -> &'a TypeExp<'a>
-        ensures { Follows self.old self.new }
+        ensures follows { Follows self.old self.new }
+        ensures reads { Reads self.old self.new (λ before after. after ≡ before) }
+        ensures kept { self.new.stop ≡ None → result.now ≡ kind.entry }
     {
         let spare = self.no_type;
-        let kept = kept_type(self.arena, kind);
+        let kept = kept(self.arena, kind);
         if kept.is_err() {
             self.fail(Why::NoMemory);
         }
@@ -308,12 +375,10 @@ impl<'t, 'a> Reader<'t, 'a> {
     }
 }
 
-fn kept_expr<'a>(arena: &'a Bump, expr: Expr<'a>) -> Result<&'a Expr<'a>, NoMemory> {
-    let kept = arena.try_alloc(expr)?;
-    Ok(&*kept)
-}
-
-fn kept_type<'a>(arena: &'a Bump, kind: TypeExp<'a>) -> Result<&'a TypeExp<'a>, NoMemory> {
-    let kept = arena.try_alloc(kind)?;
+/// Keeps a node in the arena.
+fn kept<'a, T: Copy>(arena: &'a Bump, node: T) -> Result<&'a T, NoMemory>
+    ensures { IfOk result (λ kept. kept.now ≡ node) }
+{
+    let kept = arena.try_alloc(node)?;
     Ok(&*kept)
 }

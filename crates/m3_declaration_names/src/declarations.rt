@@ -1,6 +1,6 @@
-use m3_base::{NoMemory, place_number};
+use m3_base::{NoMemory, Pos};
 use m3_phrase_names::{walk_expression, walk_init, walk_type};
-use m3_scopes::{Entity, EntityId, EntityKind, Linker, Revealed};
+use m3_scopes::{Declaration, Entity, EntityId, EntityKind, Linker, Revealed};
 use m3_syntax::{ConstDecl, Decl, ExceptionDecl, Name, Revelation, Signature, TypeDecl, VarDecl};
 
 /// Declares the names of declarations in the innermost scope, which is that of a unit itself where
@@ -16,24 +16,16 @@ pub fn declare_all<'a>(
     Ok(())
 }
 
-/// A declared name of a row, with what it declares.
-struct Declared<'a> {
-    name: Name<'a>,
-    kind: EntityKind,
-    place: usize,
-}
-
 fn declare_one<'a>(
     linker: &mut Linker<'a>,
-    declaration: &'a Decl<'a>,
     is_outermost: bool,
-    declared: Declared<'a>,
+    name: Name<'a>,
+    kind: EntityKind,
+    declaration: Declaration<'a>,
 ) -> Result<(), NoMemory> {
-    let Declared { name, kind, place } = declared;
-    let place = place_number(place)?;
+    let declaration = linker.keep(declaration)?;
     let entity = Entity {
         declaration: Some(declaration),
-        place,
         is_outermost,
         ..linker.entity(name, kind)
     };
@@ -46,75 +38,100 @@ fn declare_row<'a>(
     is_outermost: bool,
 ) -> Result<(), NoMemory> {
     match declaration {
-        Decl::Const { constants, .. } => {
-            for (place, constant) in constants.iter().enumerate() {
-                let declared = Declared {
-                    name: constant.name,
-                    kind: EntityKind::Constant,
-                    place,
-                };
-                declare_one(linker, declaration, is_outermost, declared)?;
-            }
-            Ok(())
-        }
-        Decl::Type { types, .. } => {
-            for (place, kind) in types.iter().enumerate() {
-                let declared = Declared {
-                    name: kind.name,
-                    kind: if kind.is_opaque {
-                        EntityKind::Opaque
-                    } else {
-                        EntityKind::Type
-                    },
-                    place,
-                };
-                declare_one(linker, declaration, is_outermost, declared)?;
-            }
-            Ok(())
-        }
-        Decl::Exception { exceptions, .. } => {
-            for (place, exception) in exceptions.iter().enumerate() {
-                let declared = Declared {
-                    name: exception.name,
-                    kind: EntityKind::Exception,
-                    place,
-                };
-                declare_one(linker, declaration, is_outermost, declared)?;
-            }
-            Ok(())
-        }
-        Decl::Var { variables, .. } => {
-            for (place, row) in variables.iter().enumerate() {
-                declare_variables(linker, declaration, is_outermost, place, row.names)?;
-            }
-            Ok(())
-        }
-        Decl::Procedure { name, .. } => {
-            let declared = Declared {
-                name: *name,
-                kind: EntityKind::Procedure,
-                place: 0,
+        Decl::Const { constants, .. } => declare_constants(linker, constants, is_outermost),
+        Decl::Type { types, .. } => declare_types(linker, types, is_outermost),
+        Decl::Exception { exceptions, .. } => declare_exceptions(linker, exceptions, is_outermost),
+        Decl::Var { variables, .. } => declare_variables(linker, variables, is_outermost),
+        Decl::Procedure {
+            pos,
+            name,
+            signature,
+            body,
+        } => {
+            let declaration = linker.keep(Declaration::Procedure {
+                pos: *pos,
+                signature,
+            })?;
+            let entity = Entity {
+                declaration: Some(declaration),
+                has_body: body.is_some(),
+                is_outermost,
+                ..linker.entity(*name, EntityKind::Procedure)
             };
-            declare_one(linker, declaration, is_outermost, declared)
+            linker.declare(*name, entity)
         }
         Decl::Reveal { .. } => Ok(()),
     }
 }
 
+fn declare_constants<'a>(
+    linker: &mut Linker<'a>,
+    constants: &'a [ConstDecl<'a>],
+    is_outermost: bool,
+) -> Result<(), NoMemory> {
+    for constant in constants {
+        let declaration = Declaration::Constant(constant);
+        let kind = EntityKind::Constant;
+        declare_one(linker, is_outermost, constant.name, kind, declaration)?;
+    }
+    Ok(())
+}
+
+fn declare_types<'a>(
+    linker: &mut Linker<'a>,
+    types: &'a [TypeDecl<'a>],
+    is_outermost: bool,
+) -> Result<(), NoMemory> {
+    for declared in types {
+        let kind = if declared.is_opaque {
+            EntityKind::Opaque
+        } else {
+            EntityKind::Type
+        };
+        let declaration = Declaration::Type(declared);
+        declare_one(linker, is_outermost, declared.name, kind, declaration)?;
+    }
+    Ok(())
+}
+
+fn declare_exceptions<'a>(
+    linker: &mut Linker<'a>,
+    exceptions: &'a [ExceptionDecl<'a>],
+    is_outermost: bool,
+) -> Result<(), NoMemory> {
+    for exception in exceptions {
+        let declaration = Declaration::Exception(exception);
+        let kind = EntityKind::Exception;
+        declare_one(linker, is_outermost, exception.name, kind, declaration)?;
+    }
+    Ok(())
+}
+
 fn declare_variables<'a>(
     linker: &mut Linker<'a>,
-    declaration: &'a Decl<'a>,
+    variables: &'a [VarDecl<'a>],
     is_outermost: bool,
-    place: usize,
-    names: &'a [Name<'a>],
 ) -> Result<(), NoMemory> {
-    for name in names {
-        let declared = Declared {
-            name: *name,
-            kind: EntityKind::Variable,
-            place,
-        };
-        declare_one(linker, declaration, is_outermost, declared)?;
+    for row in variables {
+        declare_row_of_variables(linker, row, is_outermost)?;
+    }
+    Ok(())
+}
+
+fn declare_row_of_variables<'a>(
+    linker: &mut Linker<'a>,
+    row: &'a VarDecl<'a>,
+    is_outermost: bool,
+) -> Result<(), NoMemory> {
+    for name in row.names {
+        let declaration = Declaration::Variable(&row.init);
+        declare_one(
+            linker,
+            is_outermost,
+            *name,
+            EntityKind::Variable,
+            declaration,
+        )?;
     }
     Ok(())
 }
@@ -123,12 +140,17 @@ fn declare_variables<'a>(
 /// where the signature is walked.
 pub fn declare_formals<'a>(
     linker: &mut Linker<'a>,
-    declaration: &'a Decl<'a>,
+    procedure: Pos,
     signature: &'a Signature<'a>,
 ) -> Result<(), NoMemory> {
-    for (place, formal) in signature.formals.iter().enumerate() {
+    for formal in signature.formals {
+        let declaration = Declaration::Formal {
+            init: &formal.init,
+            procedure,
+            signature,
+        };
         for name in formal.names {
-            declare_formal(linker, declaration, place, *name)?;
+            declare_formal(linker, declaration, *name)?;
         }
     }
     Ok(())
@@ -136,14 +158,12 @@ pub fn declare_formals<'a>(
 
 fn declare_formal<'a>(
     linker: &mut Linker<'a>,
-    declaration: &'a Decl<'a>,
-    place: usize,
+    declaration: Declaration<'a>,
     name: Name<'a>,
 ) -> Result<(), NoMemory> {
-    let place = place_number(place)?;
+    let declaration = linker.keep(declaration)?;
     let entity = Entity {
         declaration: Some(declaration),
-        place,
         ..linker.entity(name, EntityKind::Formal)
     };
     let id = linker.binds.add(entity)?;
@@ -200,26 +220,22 @@ pub fn walk_variables<'a>(
     Ok(())
 }
 
-/// The names in the revelations of one row, the row's place among the unit's declarations being
-/// given. A revelation stands in the outermost scope (rule 34) and reveals an opaque type of a
-/// given unit (rule 35).
+/// The names in the revelations of one row. A revelation stands in the outermost scope (rule 34)
+/// and reveals an opaque type of a given unit (rule 35).
 pub fn walk_reveals<'a>(
     linker: &mut Linker<'a>,
-    declaration: usize,
-    reveals: &[Revelation<'a>],
+    reveals: &'a [Revelation<'a>],
     is_outermost: bool,
 ) -> Result<(), NoMemory> {
-    let declaration = place_number(declaration)?;
-    for (place, reveal) in reveals.iter().enumerate() {
+    for reveal in reveals {
         walk_type(linker, reveal.kind)?;
         linker.qualid(&reveal.name)?;
         let pos = reveal.name.first.pos;
         if is_outermost {
-            let place = place_number(place)?;
+            let declaration = linker.keep(Declaration::Reveal(reveal))?;
             linker.reveals.push(Revealed {
                 unit: linker.unit,
                 declaration,
-                place,
                 opaque: EntityId(0),
                 is_partial: reveal.is_partial,
                 pos,

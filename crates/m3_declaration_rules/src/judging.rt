@@ -1,9 +1,8 @@
 use crate::wideness::{Words, new_words, words_of};
 use m3_base::{NoMemory, place_number};
-use m3_declarer::{Declarer, argument_of};
+use m3_declarer::Declarer;
 use m3_early_types::is_subtype;
-use m3_scopes::{Entity, EntityId, EntityKind};
-use m3_syntax::Decl;
+use m3_scopes::{Declaration, Entity, EntityId, EntityKind};
 
 /// Rule 49 on the arguments of exceptions.
 pub fn judge_arguments<'a>(declarer: &mut Declarer<'_, 'a>) -> Result<(), NoMemory> {
@@ -26,7 +25,7 @@ fn judge_argument<'a>(
     let (EntityKind::Exception, Some(kind), Some(exp)) = (
         entity.kind,
         declarer.eval.declared.kind_of(id),
-        argument_of(entity),
+        declarer.argument_of(entity),
     ) else {
         return Ok(());
     };
@@ -79,7 +78,7 @@ fn judge_body<'a>(
     ) else {
         return Ok(());
     };
-    let Some(Decl::Procedure { pos, .. }) = entity.declaration else {
+    let Some(Declaration::Procedure { pos, .. }) = declarer.declaration(&entity) else {
         return Ok(());
     };
     if declarer.is_refused(wanted) || declarer.is_refused(kind) {
@@ -87,7 +86,7 @@ fn judge_body<'a>(
     }
     declarer.eval.unit = entity.unit;
     if !is_subtype(&declarer.eval, kind, wanted)? {
-        declarer.note(entity.unit, *pos, 49);
+        declarer.note(entity.unit, pos, 49);
     }
     Ok(())
 }

@@ -2,7 +2,6 @@ use indexmap::IndexMap;
 use m3_base::{Least, NoMemory, Pos};
 use m3_core::{Value, ValueId};
 use m3_scopes::EntityId;
-use m3_syntax::Expr;
 use m3_types::{TypeGraph, TypeId};
 use std::alloc::Global;
 
@@ -22,13 +21,6 @@ pub struct Basic {
     pub refused: TypeId,
 }
 
-/// A constant expression of a declaration that breaks a rule of expressions, with its unit.
-#[derive(Clone, Copy)]
-pub struct Doubtful<'a> {
-    pub unit: u32,
-    pub value: &'a Expr<'a>,
-}
-
 /// A constant: its type and its value.
 #[derive(Clone, Copy, Debug)]
 pub struct Constant {
@@ -46,8 +38,6 @@ pub struct Declared<'a> {
     pub texts: Vec<&'a [u8]>,
     /// The least broken rule of expressions and statements that was met in declarations.
     pub later: Least,
-    /// The constant expressions that are to be judged with the expressions of bodies.
-    pub doubtful: Vec<Doubtful<'a>>,
     named: IndexMap<EntityId, TypeId>,
     kinds: IndexMap<EntityId, TypeId>,
     constants: IndexMap<EntityId, Constant>,
@@ -68,7 +58,6 @@ impl<'a> Declared<'a> {
             values: Vec::new(alloc),
             texts: Vec::new(alloc),
             later: Least::new(),
-            doubtful: Vec::new(alloc),
             named: IndexMap::new(alloc),
             kinds: IndexMap::new(alloc),
             constants: IndexMap::new(alloc),

@@ -3,5 +3,7 @@
 #![tactic(auto)]
 
 mod declared;
+mod kinds;
 
-pub use declared::{Basic, Constant, Declared, Doubtful};
+pub use declared::{Basic, Constant, Declared};
+pub use kinds::{field_kind, method_kind};

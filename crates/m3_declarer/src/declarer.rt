@@ -1,11 +1,10 @@
 use indexmap::IndexMap;
 use m3_base::{Least, NoMemory, Pos, Refusal};
 use m3_core::{Value, ValueId};
-use m3_declared::Doubtful;
 use m3_early_names::type_of;
-use m3_gather::Gathered;
-use m3_scopes::{Entity, EntityId};
-use m3_syntax::{Decl, Expr, Init, Signature, TypeExp};
+use m3_gathered::Gathered;
+use m3_scopes::{Declaration, Entity, EntityId};
+use m3_syntax::{Expr, Init, Signature, TypeExp};
 use m3_types::{ConstId, TypeId, TypeNode};
 use m3_worth::{Assumed, Evaluator, Need, Reason};
 use std::alloc::Global;
@@ -54,6 +53,13 @@ pub struct MethodValue<'a> {
     pub procedure: Option<TypeId>,
 }
 
+/// A constant expression of a declaration that breaks a rule of expressions, with its unit.
+#[derive(Clone, Copy)]
+pub struct Doubtful<'a> {
+    pub unit: u32,
+    pub value: &'a Expr<'a>,
+}
+
 /// What an expression assumes, with the expression.
 #[derive(Clone, Copy)]
 pub struct Promise<'a> {
@@ -65,6 +71,8 @@ pub struct Promise<'a> {
 #[derive(Drop)]
 pub struct Declarer<'p, 'a> {
     pub eval: Evaluator<'p, 'a>,
+    /// What declares the entities, by its places in this list.
+    pub declarations: &'p [Declaration<'a>],
     pub gathered: Gathered<'a>,
     pub least: Least,
     pub plans: IndexMap<TypeId, Plan<'a>>,
@@ -74,7 +82,8 @@ pub struct Declarer<'p, 'a> {
     pub assumed: Vec<Promise<'a>>,
     pub new_brands: Vec<BrandAt<'a>>,
     pub new_values: Vec<MethodValue<'a>>,
-    /// What was noted so far.
+    /// What was noted so far. The doubtful expressions are to be judged with those of bodies.
+    pub doubtful: Vec<Doubtful<'a>>,
     pub promises: Vec<Promise<'a>>,
     pub brands: Vec<BrandAt<'a>>,
     pub values: Vec<MethodValue<'a>>,
@@ -89,9 +98,15 @@ pub struct Declarer<'p, 'a> {
 }
 
 impl<'p, 'a> Declarer<'p, 'a> {
-    pub fn new(alloc: Global, eval: Evaluator<'p, 'a>, gathered: Gathered<'a>) -> Declarer<'p, 'a> {
+    pub fn new(
+        alloc: Global,
+        eval: Evaluator<'p, 'a>,
+        declarations: &'p [Declaration<'a>],
+        gathered: Gathered<'a>,
+    ) -> Declarer<'p, 'a> {
         Declarer {
             eval,
+            declarations,
             gathered,
             least: Least::new(),
             plans: IndexMap::new(alloc),
@@ -100,6 +115,7 @@ impl<'p, 'a> Declarer<'p, 'a> {
             assumed: Vec::new(alloc),
             new_brands: Vec::new(alloc),
             new_values: Vec::new(alloc),
+            doubtful: Vec::new(alloc),
             promises: Vec::new(alloc),
             brands: Vec::new(alloc),
             values: Vec::new(alloc),
@@ -197,27 +213,25 @@ impl<'a> Declarer<'_, 'a> {
             self.eval.declared.types.set(kind, node);
         }
     }
-}
 
-/// The type and the value that the declaration of a variable or formal gives it.
-pub fn init_of<'a>(entity: &Entity<'a>) -> Option<&'a Init<'a>> {
-    match entity.declaration? {
-        Decl::Var { variables, .. } => match variables.get(entity.place as usize) {
-            Some(row) => Some(&row.init),
-            None => None,
-        },
-        Decl::Procedure { signature, .. } => match signature.formals.get(entity.place as usize) {
-            Some(formal) => Some(&formal.init),
-            None => None,
-        },
-        _ => None,
+    /// What declares an entity.
+    pub fn declaration(&self, entity: &Entity<'a>) -> Option<Declaration<'a>> {
+        self.declarations.get(entity.declaration? as usize).copied()
     }
-}
 
-/// The type of an exception's argument.
-pub fn argument_of<'a>(entity: &Entity<'a>) -> Option<&'a TypeExp<'a>> {
-    match entity.declaration? {
-        Decl::Exception { exceptions, .. } => exceptions.get(entity.place as usize)?.argument,
-        _ => None,
+    /// The type and the value that the declaration of a variable or formal gives it.
+    pub fn init_of(&self, entity: &Entity<'a>) -> Option<&'a Init<'a>> {
+        match self.declaration(entity)? {
+            Declaration::Variable(init) | Declaration::Formal { init, .. } => Some(init),
+            _ => None,
+        }
+    }
+
+    /// The type of an exception's argument.
+    pub fn argument_of(&self, entity: &Entity<'a>) -> Option<&'a TypeExp<'a>> {
+        match self.declaration(entity)? {
+            Declaration::Exception(exception) => exception.argument,
+            _ => None,
+        }
     }
 }

@@ -4,4 +4,4 @@
 
 mod declarer;
 
-pub use declarer::{BrandAt, Declarer, MethodValue, Plan, Promise, Written, argument_of, init_of};
+pub use declarer::{BrandAt, Declarer, Doubtful, MethodValue, Plan, Promise, Written};

@@ -1,9 +1,9 @@
 use crate::naming::type_declaration;
 use bumpalo::collections::into_bump_slice;
 use m3_base::{NoMemory, place_number};
-use m3_declarer::{Declarer, argument_of, init_of};
+use m3_declarer::Declarer;
 use m3_early_names::{is_built_in, type_of};
-use m3_gather::TypeAt;
+use m3_gathered::TypeAt;
 use m3_scopes::{Entity, EntityId, EntityKind};
 use m3_syntax::{Init, Name, TypeExp};
 use m3_types::{Secret, TypeId, TypeNode};
@@ -89,14 +89,14 @@ fn define_entity(declarer: &mut Declarer<'_, '_>, id: EntityId) -> Result<(), No
             define_opaque(declarer, id, &entity);
             Ok(())
         }
-        EntityKind::Variable | EntityKind::Formal => match init_of(&entity) {
+        EntityKind::Variable | EntityKind::Formal => match declarer.init_of(&entity) {
             Some(Init::Typed(kind, _)) => {
                 let kind = declarer.kind_of(kind);
                 declarer.eval.declared.give_kind(id, kind)
             }
             _ => Ok(()),
         },
-        EntityKind::Exception => match argument_of(&entity) {
+        EntityKind::Exception => match declarer.argument_of(&entity) {
             Some(kind) => {
                 let kind = declarer.kind_of(kind);
                 declarer.eval.declared.give_kind(id, kind)

@@ -2,8 +2,8 @@ use indexmap::IndexSet;
 use m3_base::{NoMemory, Pos, place_number};
 use m3_declarer::Declarer;
 use m3_early_names::{entity_named, type_of_entity};
-use m3_scopes::{Entity, EntityId, EntityKind};
-use m3_syntax::{Decl, Qualid, TypeDecl, TypeExp, TypeName};
+use m3_scopes::{Declaration, Entity, EntityId, EntityKind};
+use m3_syntax::{Qualid, TypeDecl, TypeExp, TypeName};
 use m3_types::TypeId;
 
 /// Where the definition of a type's name leads.
@@ -46,8 +46,8 @@ fn name_opaque(declarer: &mut Declarer<'_, '_>) -> Result<(), NoMemory> {
 /// The declaration of a type's name.
 pub fn type_declaration<'a>(declarer: &Declarer<'_, 'a>, id: EntityId) -> Option<&'a TypeDecl<'a>> {
     let entity = declarer.eval.program.binds.entity(id)?;
-    match entity.declaration? {
-        Decl::Type { types, .. } => types.get(entity.place as usize),
+    match declarer.declaration(&entity)? {
+        Declaration::Type(declared) => Some(declared),
         _ => None,
     }
 }

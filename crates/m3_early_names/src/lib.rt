@@ -5,7 +5,7 @@
 mod listing;
 mod names;
 
-pub use listing::{field_kind, method_kind, newest_member, own_member};
+pub use listing::{newest_member, own_member};
 pub use names::{
     entity_named, entity_thing, is_built_in, thing_named, type_of, type_of_entity, type_of_name,
 };

@@ -122,27 +122,3 @@ pub fn newest_member<'a>(
     }
     Ok(found)
 }
-
-/// The type of a field, by the type that declares it.
-pub fn field_kind(eval: &Evaluator<'_, '_>, owner: TypeId, field: u32) -> Option<TypeId> {
-    match eval.definition(owner) {
-        TypeNode::Fields(fields) | TypeNode::Object(_, _, fields, _, _) => {
-            match fields.get(field as usize) {
-                Some(field) => Some(field.kind),
-                None => None,
-            }
-        }
-        _ => None,
-    }
-}
-
-/// The signature of a method, by the type that declares it.
-pub fn method_kind(eval: &Evaluator<'_, '_>, owner: TypeId, method: u32) -> Option<TypeId> {
-    match eval.definition(owner) {
-        TypeNode::Object(_, _, _, methods, _) => match methods.get(method as usize) {
-            Some(method) => Some(method.signature),
-            None => None,
-        },
-        _ => None,
-    }
-}

@@ -101,22 +101,6 @@ fn procedure_thing<'a>(
     }
 }
 
-/// The type that a predeclared name stands for.
-fn predeclared_type(eval: &Evaluator<'_, '_>, name: Predeclared) -> Option<TypeId> {
-    let basic = eval.declared.basic;
-    match name {
-        Predeclared::Boolean => Some(basic.boolean),
-        Predeclared::Cardinal => Some(basic.cardinal),
-        Predeclared::Char => Some(basic.character),
-        Predeclared::Integer => Some(basic.integer),
-        Predeclared::Mutex => Some(basic.mutex),
-        Predeclared::Null => Some(basic.null),
-        Predeclared::Refany => Some(basic.refany),
-        Predeclared::Text => Some(basic.text),
-        _ => None,
-    }
-}
-
 fn predeclared_thing<'a>(eval: &Evaluator<'_, 'a>, name: Predeclared) -> Thing<'a> {
     let basic = eval.declared.basic;
     match name {
@@ -124,7 +108,7 @@ fn predeclared_thing<'a>(eval: &Evaluator<'_, 'a>, name: Predeclared) -> Thing<'
         Predeclared::True => eval.number(basic.boolean, 1),
         Predeclared::Nil => eval.known(basic.null, Value::Nil),
         Predeclared::Floating | Predeclared::LeftOut => Thing::Bad,
-        other => match predeclared_type(eval, other) {
+        other => match eval.declared.basic.named(other) {
             Some(kind) => Thing::Type(kind),
             None => Thing::Predeclared(other),
         },
@@ -145,7 +129,7 @@ pub fn entity_named<'a>(eval: &Evaluator<'_, 'a>, name: &Qualid<'a>) -> Option<E
 pub fn type_of_entity(eval: &Evaluator<'_, '_>, id: EntityId) -> Option<TypeId> {
     match eval.program.binds.entity(id)?.kind {
         EntityKind::Type | EntityKind::Opaque => eval.declared.type_named(id),
-        EntityKind::Predeclared(name) => predeclared_type(eval, name),
+        EntityKind::Predeclared(name) => eval.declared.basic.named(name),
         _ => None,
     }
 }

@@ -1,13 +1,16 @@
-use crate::elements::{actual_given, named, one, range};
-use crate::operators::combined;
-use crate::prefixes::{nots, signed};
-use crate::selectors::{Index, dereference, dot, indexed};
 use bumpalo::collections::into_bump_slice;
 use m3_base::{NoMemory, Pos};
 use m3_calls::call;
-use m3_constructors::{Part, Written, constructor};
+use m3_chains::{parenthesized, value_of};
+use m3_constructor_parts::{Part, Written};
+use m3_constructors::constructor;
+use m3_leaves::{actual_given, leaf, named, one, range, type_thing};
+use m3_operand_names::inner_name;
 use m3_operands::{Checker, Given, Thing, Valued};
-use m3_syntax::{Actual, Element, Expr, Operation, Selector};
+use m3_operations::{combined, nots, signed};
+use m3_selectors::{Index, dereference, dot, indexed};
+use m3_syntax::{Actual, Element, Expr, Selector};
+use m3_type_names::type_of;
 
 /// An expression as a value; none where something in it was refused.
 pub fn expression<'a>(
@@ -15,7 +18,7 @@ pub fn expression<'a>(
     value: &Expr<'a>,
 ) -> Result<Option<Valued<'a>>, NoMemory> {
     let thing = operand(checker, value)?;
-    checker.value_of(value.pos(), &thing)
+    value_of(checker, value.pos(), &thing)
 }
 
 /// An expression that is assigned, returned, bound or given to something.
@@ -23,7 +26,7 @@ pub fn given<'a>(checker: &mut Checker<'_, 'a>, value: &Expr<'a>) -> Result<Give
     Ok(Given {
         pos: value.pos(),
         name: None,
-        inner: checker.inner_name(value),
+        inner: inner_name(checker, value),
         thing: operand(checker, value)?,
     })
 }
@@ -32,18 +35,9 @@ pub fn given<'a>(checker: &mut Checker<'_, 'a>, value: &Expr<'a>) -> Result<Give
 #[cycle(expressions)]
 pub fn operand<'a>(checker: &mut Checker<'_, 'a>, value: &Expr<'a>) -> Result<Thing<'a>, NoMemory> {
     match value {
-        Expr::Missing { .. } => Ok(Thing::Bad),
-        Expr::Name(name) => checker.name(*name),
-        Expr::Number { pos, value } => {
-            checker.number(*pos, checker.declared.basic.integer, *value)
-        }
-        Expr::CharLit { pos, value } => {
-            checker.number(*pos, checker.declared.basic.character, i64::from(*value))
-        }
-        Expr::TextLit { pos, .. } => checker.text(*pos),
         Expr::Parenthesis { pos, inner } => {
             let thing = operand(checker, inner)?;
-            checker.parenthesized(*pos, &thing)
+            parenthesized(checker, *pos, &thing)
         }
         Expr::Not {
             pos,
@@ -64,6 +58,7 @@ pub fn operand<'a>(checker: &mut Checker<'_, 'a>, value: &Expr<'a>) -> Result<Th
         Expr::Operations { .. } => operations(checker, value),
         Expr::Selected { .. } => selected(checker, value),
         Expr::Constructor { .. } => constructed(checker, value),
+        _ => leaf(checker, value),
     }
 }
 
@@ -74,24 +69,14 @@ fn operations<'a>(checker: &mut Checker<'_, 'a>, value: &Expr<'a>) -> Result<Thi
         return Ok(Thing::Bad);
     };
     let thing = operand(checker, first)?;
-    let first = checker.value_of(first.pos(), &thing)?;
-    let rights = right_operands(checker, rest)?;
-    combined(checker, *pos, first, rest, rights)
-}
-
-/// The values of the right operands of a row.
-#[cycle(expressions)]
-fn right_operands<'a>(
-    checker: &mut Checker<'_, 'a>,
-    rest: &[Operation<'a>],
-) -> Result<&'a [Option<Valued<'a>>], NoMemory> {
-    let mut row = Vec::new(checker.arena);
-    for operation in rest {
+    let first = value_of(checker, first.pos(), &thing)?;
+    let mut rights = Vec::new(checker.arena);
+    for operation in *rest {
         let thing = operand(checker, operation.right)?;
-        let value = checker.value_of(operation.right.pos(), &thing)?;
-        row.push(value)?;
+        let value = value_of(checker, operation.right.pos(), &thing)?;
+        rights.push(value)?;
     }
-    Ok(into_bump_slice(row))
+    combined(checker, *pos, first, rest, into_bump_slice(rights))
 }
 
 /// An operand with selectors and calls behind it.
@@ -144,7 +129,7 @@ fn index_row<'a>(
     for index in indexes {
         let thing = operand(checker, index)?;
         let pos = index.pos();
-        let value = checker.value_of(pos, &thing)?;
+        let value = value_of(checker, pos, &thing)?;
         row.push(Index { pos, value })?;
     }
     Ok(into_bump_slice(row))
@@ -158,24 +143,13 @@ pub fn call_actuals<'a>(
 ) -> Result<&'a [Given<'a>], NoMemory> {
     let mut row = Vec::new(checker.arena);
     for actual in actuals {
-        let thing = actual_thing(checker, actual)?;
+        let thing = match actual {
+            Actual::Value(value) | Actual::Named(_, value) => operand(checker, value)?,
+            Actual::Type(kind) => type_thing(checker, kind),
+        };
         row.push(actual_given(checker, actual, thing))?;
     }
     Ok(into_bump_slice(row))
-}
-
-#[cycle(expressions)]
-fn actual_thing<'a>(
-    checker: &mut Checker<'_, 'a>,
-    actual: &Actual<'a>,
-) -> Result<Thing<'a>, NoMemory> {
-    match actual {
-        Actual::Value(value) | Actual::Named(_, value) => operand(checker, value),
-        Actual::Type(kind) => match checker.type_of(kind) {
-            Some(kind) => Ok(Thing::Type(kind)),
-            None => Ok(Thing::Bad),
-        },
-    }
 }
 
 /// `T {..}`.
@@ -191,30 +165,21 @@ fn constructed<'a>(checker: &mut Checker<'_, 'a>, value: &Expr<'a>) -> Result<Th
     else {
         return Ok(Thing::Bad);
     };
-    let parts = parts(checker, elements)?;
-    let kind = checker.type_of(kind);
+    let mut parts = Vec::new(checker.arena);
+    for element in *elements {
+        let part = part(checker, element)?;
+        parts.push(part)?;
+    }
+    let kind = type_of(checker, kind);
     let written = Written {
         pos: *pos,
         brace: *brace,
         is_filled: *is_filled,
     };
-    constructor(checker, written, kind, parts)
+    constructor(checker, written, kind, into_bump_slice(parts))
 }
 
-/// What the elements of a constructor are.
-#[cycle(expressions)]
-fn parts<'a>(
-    checker: &mut Checker<'_, 'a>,
-    elements: &[Element<'a>],
-) -> Result<&'a [Part<'a>], NoMemory> {
-    let mut row = Vec::new(checker.arena);
-    for element in elements {
-        let part = part(checker, element)?;
-        row.push(part)?;
-    }
-    Ok(into_bump_slice(row))
-}
-
+/// What an element of a constructor is.
 #[cycle(expressions)]
 fn part<'a>(checker: &mut Checker<'_, 'a>, element: &Element<'a>) -> Result<Part<'a>, NoMemory> {
     match element {

@@ -1,92 +1,60 @@
+ghost use Rattle.std.specs.Prelude.{◌≤◌, ◌↔◌, IsTrue, IfOk, All, length, drop};
+ghost use Rattle.std.specs.List.Sorted.{IsStrictlyIncreasing};
+ghost use Rattle.m3_forms.specs.Forms.{IsType, IsConstant, IsMethod, FitElements, AreInOrder, IsValue, HasOwnForm, HasFormAt};
+ghost use Rattle.m3_forms.specs.Rows.{HasFormOfRows};
+
+use crate::kinds::{
+    is_base_at, is_constant_at, is_ordinal_at, is_parent_at, is_procedure_at, is_type_at,
+};
 use m3_base::NoMemory;
 use m3_types::{
-    ConstValue, Raises, Reveal, Secret, TypeGraph, TypeId, TypeNode, has_nil_at, is_opaque_at,
-    is_reference_at, node_at, parts_at, types_at,
+    ConstValue, Method, Raises, TypeNode, is_reference_at, node_at, parts_at, types_at,
 };
 use std::alloc::Global;
 
-fn is_type_at(nodes: &[TypeNode], place: usize) -> bool {
-    match node_at(nodes, place) {
-        None | Some(TypeNode::Reserved) | Some(TypeNode::Constant(_)) => false,
-        Some(_) => true,
-    }
-}
-
-fn is_constant_at(nodes: &[TypeNode], place: usize) -> bool {
-    matches!(node_at(nodes, place), Some(TypeNode::Constant(_)))
-}
-
-/// INTEGER, BOOLEAN, CHAR or an enumeration.
-fn is_base_at(nodes: &[TypeNode], place: usize) -> bool {
-    matches!(
-        node_at(nodes, place),
-        Some(TypeNode::Integer)
-            | Some(TypeNode::Boolean)
-            | Some(TypeNode::Character)
-            | Some(TypeNode::Enumeration(_))
-    )
-}
-
-fn is_ordinal_at(nodes: &[TypeNode], place: usize) -> bool {
-    is_base_at(nodes, place) || matches!(node_at(nodes, place), Some(TypeNode::Subrange(_, _, _)))
-}
-
-/// A type that an object type may add to.
-fn is_parent_at(nodes: &[TypeNode], place: usize) -> bool {
-    matches!(
-        node_at(nodes, place),
-        Some(TypeNode::Object(_, _, _, _, _))
-            | Some(TypeNode::Opaque(_, _))
-            | Some(TypeNode::Mutex)
-            | Some(TypeNode::Root)
-    )
-}
-
-fn all_types(nodes: &[TypeNode], places: &[usize]) -> bool {
-    for place in places {
-        if !is_type_at(nodes, *place) {
-            return false;
-        }
-    }
-    true
+fn all_types(nodes: &[TypeNode], places: &[usize]) -> bool
+    ensures { IsTrue result ↔ All (IsType nodes.now) places.now }
+{
+    places.iter().all(|place| is_type_at(nodes, *place))
 }
 
 /// Whether each place behind the first ones of a row is that of a constant.
-fn all_constants_from(nodes: &[TypeNode], places: &[usize], first: usize) -> bool {
-    for (i, place) in places.iter().enumerate() {
-        if i >= first && !is_constant_at(nodes, *place) {
-            return false;
-        }
-    }
-    true
+fn all_constants_from(nodes: &[TypeNode], places: &[usize], first: usize) -> bool
+    requires { first ≤ length places.now }
+    ensures { IsTrue result ↔ All (IsConstant nodes.now) (drop first places.now) }
+{
+    let places = &places[first..];
+    places.iter().all(|place| is_constant_at(nodes, *place))
 }
 
 /// Whether a row of numbers rises strictly.
-fn rises(row: &[u32]) -> bool {
-    let mut before = None;
-    for number in row {
-        if before >= Some(*number) {
+fn rises(row: &[u32]) -> bool
+    ensures { IsTrue result ↔ IsStrictlyIncreasing row.now }
+{
+    for i in 1..row.len() {
+        if row[i - 1] >= row[i] {
             return false;
         }
-        before = Some(*number);
     }
     true
 }
 
 /// Whether the places of a set's members rise strictly.
-fn members_rise(row: &[u8]) -> bool {
-    let mut before = None;
-    for member in row {
-        if before >= Some(*member) {
+fn members_rise(row: &[u8]) -> bool
+    ensures { IsTrue result ↔ IsStrictlyIncreasing row.now }
+{
+    for i in 1..row.len() {
+        if row[i - 1] >= row[i] {
             return false;
         }
-        before = Some(*member);
     }
     true
 }
 
 /// Whether the listed elements of an array are no more than it has, and none only where it has none.
-fn elements_fit(listed: usize, count: u64) -> bool {
+fn elements_fit(listed: usize, count: u64) -> bool
+    ensures { IsTrue result ↔ FitElements listed count }
+{
     if listed == 0 {
         count == 0
     } else {
@@ -94,79 +62,68 @@ fn elements_fit(listed: usize, count: u64) -> bool {
     }
 }
 
-fn has_own_form(nodes: &[TypeNode], node: TypeNode) -> bool {
+fn are_in_order(raises: Raises) -> bool
+    ensures { IsTrue result ↔ AreInOrder raises.entry }
+{
+    match raises {
+        Raises::Any => true,
+        Raises::Only(row) => rises(row),
+    }
+}
+
+fn is_value(value: ConstValue) -> bool
+    ensures { IsTrue result ↔ IsValue value.entry }
+{
+    match value {
+        ConstValue::Set(row) => members_rise(row),
+        ConstValue::Elements(row, count) => elements_fit(row.len(), count),
+        _ => true,
+    }
+}
+
+/// Whether the signature of each method is a procedure type.
+fn all_methods(nodes: &[TypeNode], methods: &[Method]) -> bool
+    ensures { IsTrue result ↔ All (IsMethod nodes.now) methods.now }
+{
+    methods.iter().all(|method| is_procedure_at(nodes, method.signature.0 as usize))
+}
+
+fn has_own_form(nodes: &[TypeNode], node: TypeNode) -> bool
+    ensures { IsTrue result ↔ HasOwnForm nodes.now node.entry }
+{
     match node {
         TypeNode::Reserved => false,
         TypeNode::Subrange(base, _, _) => is_base_at(nodes, base.0 as usize),
         TypeNode::FixedArray(index, _) => is_ordinal_at(nodes, index.0 as usize),
         TypeNode::SetOf(base) => is_ordinal_at(nodes, base.0 as usize),
-        TypeNode::Object(_, parent, _, _, _) => is_parent_at(nodes, parent.0 as usize),
-        TypeNode::Procedure(_, _, Raises::Only(row)) => rises(row),
+        TypeNode::Object(_, parent, _, methods, _) => {
+            is_parent_at(nodes, parent.0 as usize) && all_methods(nodes, methods)
+        }
+        TypeNode::Procedure(_, _, raises) => are_in_order(raises),
         TypeNode::Opaque(bound, _) => is_reference_at(nodes, bound.0 as usize),
-        TypeNode::Constant(ConstValue::Set(row)) => members_rise(row),
-        TypeNode::Constant(ConstValue::Elements(row, count)) => elements_fit(row.len(), count),
+        TypeNode::Constant(value) => is_value(value),
         _ => true,
     }
 }
 
-/// Whether the signature of each method of an object type is a procedure type.
-fn signatures_are_procedures(nodes: &[TypeNode], node: TypeNode) -> bool {
-    let TypeNode::Object(_, _, _, methods, _) = node else {
-        return true;
-    };
-    for method in methods {
-        let place = method.signature.0 as usize;
-        if !has_nil_at(nodes, place) || is_reference_at(nodes, place) {
-            return false;
-        }
-    }
-    true
+/// Whether a definition that names these types, and these types and constants, has its form.
+fn has_form_of_rows(nodes: &[TypeNode], node: TypeNode, types: &[usize], parts: &[usize]) -> bool
+    requires { length types.now ≤ length parts.now }
+    ensures { IsTrue result ↔ HasFormOfRows nodes.now node.entry types.now parts.now }
+{
+    all_types(nodes, types)
+        && (all_constants_from(nodes, parts, types.len()) && has_own_form(nodes, node))
 }
 
-/// Whether a definition has its form: it isn't only reserved, what it names is there and of the kind
-/// that is asked for, and its rows are in order.
-fn has_form(alloc: Global, nodes: &[TypeNode], place: usize) -> Result<bool, NoMemory> {
+/// Whether the definition at a place has its form: it isn't only reserved, what it names is there and
+/// of the kind that is asked for, and its rows are in order.
+pub(crate) fn has_form(alloc: Global, nodes: &[TypeNode], place: usize) -> Result<bool, NoMemory>
+    ensures { IfOk result (λ b. IsTrue b ↔ HasFormAt nodes.now place) }
+{
     let Some(node) = node_at(nodes, place) else {
         return Ok(false);
     };
     let types = types_at(alloc, nodes, place)?;
     let parts = parts_at(alloc, nodes, place)?;
-    if !all_types(nodes, &types) || !all_constants_from(nodes, &parts, types.len()) {
-        return Ok(false);
-    }
-    Ok(has_own_form(nodes, node) && signatures_are_procedures(nodes, node))
-}
-
-fn is_revealed_with_a_type(nodes: &[TypeNode], reveal: &Reveal) -> bool {
-    is_opaque_at(nodes, reveal.opaque.0 as usize) && is_type_at(nodes, reveal.bound.0 as usize)
-}
-
-/// Whether an opaque type that the program reveals is revealed fully.
-fn is_behind(graph: &TypeGraph, place: usize) -> bool {
-    if !matches!(
-        node_at(&graph.nodes, place),
-        Some(TypeNode::Opaque(_, Secret::Revealed))
-    ) {
-        return true;
-    }
-    match u32::try_from(place) {
-        Ok(id) => place < graph.nodes.len() && graph.full_reveal(TypeId(id)).is_some(),
-        Err(_) => false,
-    }
-}
-
-/// Whether a graph is well formed: each definition has its form, each opaque type that the program
-/// reveals is revealed fully, and each reveal gives a type of an opaque type.
-pub fn is_well_formed(alloc: Global, graph: &TypeGraph) -> Result<bool, NoMemory> {
-    for place in 0..graph.nodes.len() {
-        if !has_form(alloc, &graph.nodes, place)? || !is_behind(graph, place) {
-            return Ok(false);
-        }
-    }
-    for reveal in &graph.reveals {
-        if !is_revealed_with_a_type(&graph.nodes, reveal) {
-            return Ok(false);
-        }
-    }
-    Ok(true)
+    Ok(has_form_of_rows(nodes, node, &types, &parts))
 }

@@ -2,5 +2,7 @@
 #![tactic(auto)]
 
 mod forms;
+mod graphs;
+mod kinds;
 
-pub use forms::is_well_formed;
+pub use graphs::is_well_formed;

@@ -1,18 +1,17 @@
-use crate::declarations::{
-    gather_constants, gather_exceptions, gather_reveals, gather_types, gather_variables,
-};
-use crate::expressions::{gather_actuals, gather_expression};
-use crate::gathered::{Bound, Gathered, Gatherer};
-use crate::types::{gather_signature, gather_type};
 use m3_base::{NoMemory, place_number};
-use m3_scopes::Program;
+use m3_gathered::{
+    Bound, Gathered, Gatherer, gather_actuals, gather_constants, gather_exceptions,
+    gather_expression, gather_reveals, gather_signature, gather_type, gather_types,
+    gather_variables,
+};
+use m3_scopes::Linked;
 use m3_syntax::{Binding, Block, Decl, Handler, Label, Stmt, TypeBranch};
 use std::alloc::Global;
 
 /// What the texts of all units have.
-pub fn gather<'a>(alloc: Global, program: &Program<'a>) -> Result<Gathered<'a>, NoMemory> {
-    let mut gatherer = Gatherer::new(alloc, program);
-    for (place, unit) in program.units.iter().enumerate() {
+pub fn gather<'a>(alloc: Global, linked: &Linked<'a>) -> Result<Gathered<'a>, NoMemory> {
+    let mut gatherer = Gatherer::new(alloc, &linked.program);
+    for (place, unit) in linked.units.iter().enumerate() {
         gatherer.unit = place_number(place)?;
         gather_declarations(&mut gatherer, unit.declarations());
         gather_statements(&mut gatherer, unit.statements());

@@ -9,7 +9,7 @@ use Rattle.std.proofs.lemmas.List.{drop-drop}
 use Rattle.std.proofs.lemmas.Bool.{cases_lt, lt-ltb, le-ltb}
 use Rattle.std.proofs.lemmas.Bool.Decides.{nat_tests}
 use Rattle.m3_tables.specs.Numbers.{word_in}
-use Rattle.m3_tables.specs.Sections.{directory_fault, listed_in, first_bad, end_fault, or_else as rows_or_else}
+use Rattle.m3_tables.specs.Sections.{directory_fault, listed_in, first_bad, end_fault, first_fault as rows_or_else}
 use Rattle.m3_sections.specs.Parts.{Program}
 use Rattle.m3_sections.specs.Ranges.{first_failing, is_point_at, points_from}
 use Rattle.m3_image.specs.Programs.{lists_points, row_suits, tables_fault}

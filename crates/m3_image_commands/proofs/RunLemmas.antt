@@ -1,51 +1,101 @@
 -- From the parts of a command over an image to what it answers.
-use Rattle.std.proofs.Common.{◌≡◌, ℕ, Bool, List, [], Option, refl, sym, ◌∙◌, subst, inl, inr, ◌⊎◌}
+use Rattle.std.proofs.Common.{◌≡◌, ◌<◌, ◌+◌, ◌^◌, arith, ℕ, Bool, List, [], Option, refl, sym, ◌∙◌, subst, inl, inr, ◌⊎◌}
 use Rattle.std.specs.Prelude.{Result, Ok, Err, IfOk, IsOk, IsErr, is_some, None, Some}
 use Rattle.std.specs.Option.{option_map}
 use Rattle.m3_image.specs.Images.{read_of}
-use Rattle.m3_sections.specs.Parts.{Image}
+use Rattle.m3_base.specs.declared.outcomes.Outcome.{Outcome}
+use Rattle.m3_heap.specs.Heap.{Heap}
+use Rattle.m3_heap.specs.Semi.{new_heap}
+use Rattle.m3_sections.specs.Parts.{Image, Program}
+use Rattle.m3_strides.specs.State.{State}
+use Rattle.m3_strides.specs.Runs.{Begins, begins}
+use Rattle.m3_machine.specs.RunCalls.{Ran}
 use Rattle.m3_dump.specs.Texts.{IsDump}
 use Rattle.m3_image_commands.specs.declared.answers.Answer.{Answer}
 use Rattle.m3_image_commands.specs.declared.answers.Refusal.{Refusal}
+use Rattle.m3_base.specs.declared.outcomes.Entry.{Entry}
+use Rattle.m3_base.specs.Schedules.{IsSchedule}
+use Rattle.m3_sections.specs.declared.refusal.ImageRefusal.{ImageRefusal}
+use Rattle.m3_image_commands.specs.Reports.{Setting, Ended, end_status, report}
 use Rattle.m3_image_commands.specs.Statuses.{Shelving, Putting, StoresNothing, PutsNothing, Took, RefusesBy, Fetches, IsRead, IsGiven, image_cap, Only}
-use Rattle.m3_image_commands.specs.ImageCommands.{Ends, ImageAnswer, image_refused, ended, RunsImage, RefusesSwitches, RunsBytes, RunAnswer, IsNoSchedule, OfRun, Runs, DumpAnswer, not_dumped, dumped, DumpsBytes, Dumps}
+use Rattle.m3_image_commands.specs.ImageCommands.{by_schedule, on_input, Ends, ImageAnswer, image_refused, ended, RunsImage, RefusesSwitches, RunsBytes, RunAnswer, IsNoSchedule, OfRun, Runs, DumpAnswer, not_dumped, dumped, DumpsBytes, Dumps}
 
-module _ (bytes : List ℕ) (tells : Bool) (out : Putting) where
+-- the start of a run has passed no points
+begins-first : (p : Program) (heap : Heap) (threads stack : ℕ) (s : State) → Begins p heap threads stack s → s.points ≡ 0
+begins-first p heap threads stack s (begins i next) = refl
+
+pub begins_first : (p : Program) (heap : Heap) (threads stack points : ℕ) (s : State) → Begins p heap threads stack s → points < 2 ^ 63 → s.points + points < 2 ^ 63
+begins_first p heap threads stack points s begun few = let none = begins-first p heap threads stack s begun in omega (arith, none, few)
+
+-- the run of a machine that was made for it
+pub ends_run : (i : Image) (setting : Setting) (tells : Bool) (out : Putting) (p : Program) (input : List ℕ) (heap : Heap) (start to : State) (outcome : Outcome) (status : ℕ) (line : List ℕ) → p ≡ i.program → input ≡ setting.input → heap ≡ new_heap setting.heap
+    → Begins i.program heap setting.threads setting.stack start → (bytes : List ℕ) × Took out.taken bytes × Ran p input start setting.schedule setting.points bytes to outcome
+    → status ≡ end_status outcome → line ≡ report i tells outcome to.points to.instructions to.collections → Ended i setting tells out status line
+ends_run i setting tells out p input heap start to outcome status line program same empty begun ran by-status by-line = record {
+  outcome = outcome;
+  to = to;
+  bytes = ran.0;
+  run = record {
+    start = start;
+    begins = subst (λ (h : Heap). Begins i.program h setting.threads setting.stack start) empty begun;
+    ran = subst (λ (q : List ℕ). Ran i.program q start setting.schedule setting.points ran.0 to outcome) same (subst (λ (q : Program). Ran q input start setting.schedule setting.points ran.0 to outcome) program ran.2);
+  };
+  put = ran.1;
+  by_status = by-status;
+  by_line = by-line;
+}
+
+not_both : (r : Result Image ImageRefusal) → IsErr r → IsOk r → ⊥
+not_both (Ok i) h k = absurd cc
+not_both (Err e) h k = absurd cc
+
+module _ (bytes : List ℕ) (setting : Setting) (tells : Bool) (out : Putting) where
   -- the run of the image that the bytes are
-  pub ends_image : (result : Result Answer Refusal) (i : Image) → read_of bytes ≡ Ok i → Ends i tells out result → RunsImage bytes tells out result
+  pub ends_image : (result : Result Answer Refusal) (i : Image) → read_of bytes ≡ Ok i → Ends i setting tells out result → RunsImage bytes setting tells out result
   ends_image (Ok a) i e h = ended i a.status a.line.items e h
   ends_image (Err r) i e h = h
 
   -- the refusal of bytes that are no image
-  pub refuses_image : (result : Result Answer Refusal) → RefusesBy 8 result → IsErr (read_of bytes) → PutsNothing out → RunsImage bytes tells out result
-  refuses_image (Ok a) h e p = subst (λ s. ImageAnswer bytes tells out s a.line.items) (sym h) (image_refused a.line.items e p)
+  pub refuses_image : (result : Result Answer Refusal) → RefusesBy 8 result → IsErr (read_of bytes) → PutsNothing out → RunsImage bytes setting tells out result
+  refuses_image (Ok a) h e p = subst (λ s. ImageAnswer bytes setting tells out s a.line.items) (sym h) (image_refused a.line.items e p)
   refuses_image (Err r) h e p = inl (h, p)
 
-  pub image_bytes : (switches : List ℕ) (result : Result Answer Refusal) → RunsImage bytes tells out result → RunsBytes bytes switches tells out result
-  image_bytes switches (Ok a) h = inl h
-  image_bytes switches (Err r) h = h
+  -- by a schedule that the switches say, or of bytes that are no image
+  pub image_bytes : (switches : List ℕ) (schedule : List Entry) (result : Result Answer Refusal) → (IsOk (read_of bytes) → IsSchedule switches schedule) → RunsImage bytes (by_schedule setting schedule) tells out result
+      → RunsBytes bytes switches setting tells out result
+  image_bytes switches schedule (Ok a) is h = inl (schedule, is, h)
+  image_bytes switches schedule (Err r) is h = h
+
+  pub refused_bytes : (switches : List ℕ) (result : Result Answer Refusal) → IsErr (read_of bytes) → RunsImage bytes setting tells out result → RunsBytes bytes switches setting tells out result
+  refused_bytes switches (Ok a) bad h = inl (setting.schedule, (λ good. absurd (not_both (read_of bytes) bad good)), h)
+  refused_bytes switches (Err r) bad h = h
 
 pub is_some_named : {A B : Type 0} (f : A → B) (o : Option A) → is_some o ≡ is_some (option_map f o)
 is_some_named f None = refl
 is_some_named f (Some x) = refl
 
 module _ (shelf : Shelving) (out : Putting) (name : List ℕ) where
-  module _ (switches input : Option (List ℕ)) (image : List ℕ) where
-    pub runs_fetched : (result : Result Answer Refusal) (bytes given text : List ℕ) (tells : Bool) → bytes ≡ image → given ≡ text → tells ≡ is_some switches → StoresNothing shelf → IsRead shelf.held.0 name image_cap image → IsGiven shelf.held.0 switches text → RunsBytes bytes given tells out result → Runs shelf out name switches input image result
-    runs_fetched (Ok a) bytes given text tells b v e s r g h = record {
+  module _ (switches input : Option (List ℕ)) (limits : Setting) (image : List ℕ) where
+    pub runs_fetched : (result : Result Answer Refusal) (bytes given text read taken : List ℕ) (tells : Bool) → bytes ≡ image → given ≡ text → read ≡ taken → tells ≡ is_some switches → StoresNothing shelf
+        → IsRead shelf.held.0 name image_cap image → IsGiven shelf.held.0 switches text → IsGiven shelf.held.0 input taken → RunsBytes bytes given (on_input limits read) tells out result
+        → Runs shelf out name switches input limits image result
+    runs_fetched (Ok a) bytes given text read taken tells b v w e s r g k h = record {
       held = s;
       answer = (
         r,
         (
           text,
+          taken,
           g,
-          subst (λ t. RunAnswer image text t out a.status a.line.items) e
-              (subst (λ x. RunAnswer image x tells out a.status a.line.items) v (subst (λ x. RunAnswer x given tells out a.status a.line.items) b h)),
+          k,
+          subst (λ t. RunAnswer image text (on_input limits taken) t out a.status a.line.items) e
+              (subst (λ x. RunAnswer image text (on_input limits x) tells out a.status a.line.items) w
+              (subst (λ x. RunAnswer image x (on_input limits read) tells out a.status a.line.items) v (subst (λ x. RunAnswer x given (on_input limits read) tells out a.status a.line.items) b h))),
         ),
       );
       refusal = tt;
     }
-    runs_fetched (Err x) bytes given text tells b v e s r g h = record { held = s; answer = tt; refusal = inr h }
+    runs_fetched (Err x) bytes given text read taken tells b v w e s r g k h = record { held = s; answer = tt; refusal = inr h }
 
 pub refuses_dump : (bytes : List ℕ) (out : Putting) (result : Result Answer Refusal) → RefusesBy 8 result → IsErr (read_of bytes) → PutsNothing out → DumpsBytes bytes out result
 refuses_dump bytes out (Ok a) h e p = subst (λ s. DumpAnswer bytes out s a.line.items) (sym h) (not_dumped a.line.items e p)

@@ -1,53 +1,64 @@
 -- What `run IMAGE` and `dump IMAGE` answer.
 use Rattle.std.specs.Prelude.{ℕ, ◌≡◌, ◌⊎◌, Bool, Option, is_some, Result, Ok, IfOk, IfErr, IsOk, IsErr, MatchResult, List, []}
-use Rattle.m3_base.specs.Schedules.{IsFirstBadLine, HasTooMany}
+use Rattle.m3_base.specs.Schedules.{IsSchedule, IsFirstBadLine, HasTooMany}
+use Rattle.m3_base.specs.declared.outcomes.Entry.{Entry}
 use Rattle.m3_image.specs.Images.{read_of}
 use Rattle.m3_sections.specs.Parts.{Image}
 use Rattle.m3_dump.specs.Texts.{IsDump}
 use Rattle.m3_image_commands.specs.declared.answers.Answer.{Answer}
 use Rattle.m3_image_commands.specs.declared.answers.Refusal.{Refusal}
 use Rattle.m3_image_commands.specs.Statuses.{Shelving, Putting, StoresNothing, PutsNothing, Took, IsRead, IsGiven, image_cap, Only, OfOptions, Cuts, Refuses}
-use Rattle.m3_image_commands.specs.Reports.{Ended}
+use Rattle.m3_image_commands.specs.Reports.{Setting, Ended}
 
 -- a line of a switch file is no entry, or it has too many
 abbrev pub IsNoSchedule : List ℕ → Type 0
 IsNoSchedule text = ((number : ℕ) × IsFirstBadLine text number) ⊎ HasTooMany text
 
 -- the run of an image ended; or memory ran out before anything was put, or a put failed
-abbrev pub Ends : Image → Bool → Putting → Result Answer Refusal → Type 0
-Ends i tells out result = MatchResult result (λ a. Ended i tells a.status a.line.items) (Cuts out)
+abbrev pub Ends : Image → Setting → Bool → Putting → Result Answer Refusal → Type 0
+Ends i setting tells out result = MatchResult result (λ a. Ended i setting tells out a.status a.line.items) (Cuts out)
 
 -- ---- run
 
 -- bytes are no image, or the run of the image that they are ended
-pub data ImageAnswer (image : List ℕ) (tells : Bool) (out : Putting) : ℕ → List ℕ → Type 0 where
-  image_refused : (line : List ℕ) → IsErr (read_of image) → PutsNothing out → ImageAnswer image tells out 8 line
-  ended : (i : Image) (status : ℕ) (line : List ℕ) → read_of image ≡ Ok i → Ended i tells status line → ImageAnswer image tells out status line
+pub data ImageAnswer (image : List ℕ) (setting : Setting) (tells : Bool) (out : Putting) : ℕ → List ℕ → Type 0 where
+  image_refused : (line : List ℕ) → IsErr (read_of image) → PutsNothing out → ImageAnswer image setting tells out 8 line
+  ended : (i : Image) (status : ℕ) (line : List ℕ) → read_of image ≡ Ok i → Ended i setting tells out status line → ImageAnswer image setting tells out status line
 
-abbrev pub RunsImage : List ℕ → Bool → Putting → Result Answer Refusal → Type 0
-RunsImage image tells out result = MatchResult result (λ a. ImageAnswer image tells out a.status a.line.items) (Cuts out)
+abbrev pub RunsImage : List ℕ → Setting → Bool → Putting → Result Answer Refusal → Type 0
+RunsImage image setting tells out result = MatchResult result (λ a. ImageAnswer image setting tells out a.status a.line.items) (Cuts out)
 
 -- the switches are no schedule, and nothing was put
 abbrev pub RefusesSwitches : List ℕ → Putting → ℕ → Type 0
 RefusesSwitches switches out status = (status ≡ 9) × IsNoSchedule switches × PutsNothing out
 
--- the same of bytes and a text of switches: the bytes are tested first
-abbrev pub RunAnswer : List ℕ → List ℕ → Bool → Putting → ℕ → List ℕ → Type 0
-RunAnswer image switches tells out status line =
-    ImageAnswer image tells out status line ⊎ (RefusesSwitches switches out status × IsOk (read_of image))
+-- a run by this schedule, and on this input
+abbrev pub by_schedule : Setting → List Entry → Setting
+by_schedule setting schedule = record setting { schedule = schedule }
 
-abbrev pub RunsBytes : List ℕ → List ℕ → Bool → Putting → Result Answer Refusal → Type 0
-RunsBytes image switches tells out result = MatchResult result (λ a. RunAnswer image switches tells out a.status a.line.items) (Cuts out)
+abbrev pub on_input : Setting → List ℕ → Setting
+on_input setting input = record setting { input = input }
+
+-- the same of bytes and a text of switches, whose schedule the run has: the bytes are tested first
+abbrev pub RunAnswer : List ℕ → List ℕ → Setting → Bool → Putting → ℕ → List ℕ → Type 0
+RunAnswer image switches setting tells out status line =
+    ((schedule : List Entry) × (IsOk (read_of image) → IsSchedule switches schedule) × ImageAnswer image (by_schedule setting schedule) tells out status line)
+    ⊎ (RefusesSwitches switches out status × IsOk (read_of image))
+
+abbrev pub RunsBytes : List ℕ → List ℕ → Setting → Bool → Putting → Result Answer Refusal → Type 0
+RunsBytes image switches setting tells out result = MatchResult result (λ a. RunAnswer image switches setting tells out a.status a.line.items) (Cuts out)
 
 -- the files that `run` reads
 abbrev pub OfRun : List ℕ → Option (List ℕ) → Option (List ℕ) → List ℕ → ℕ → Type 0
 OfRun name switches input n c = Only name image_cap n c ⊎ OfOptions switches input n c
 
--- `run`: the image is the file of that name, and the line tells collections where switches are named
-pub record Runs (shelf : Shelving) (out : Putting) (name : List ℕ) (switches input : Option (List ℕ)) (image : List ℕ) (result : Result Answer Refusal) : Type 0 where
+-- `run`: the image is the file of that name, the switches and the input are those that are named, and the line tells
+-- collections where switches are named
+pub record Runs (shelf : Shelving) (out : Putting) (name : List ℕ) (switches input : Option (List ℕ)) (limits : Setting) (image : List ℕ) (result : Result Answer Refusal) : Type 0 where
   pub held : StoresNothing shelf
   pub answer : IfOk result (λ a. IsRead shelf.held.0 name image_cap image
-      × ((text : List ℕ) × IsGiven shelf.held.0 switches text × RunAnswer image text (is_some switches) out a.status a.line.items))
+      × ((text : List ℕ) × (bytes : List ℕ) × IsGiven shelf.held.0 switches text × IsGiven shelf.held.0 input bytes
+      × RunAnswer image text (on_input limits bytes) (is_some switches) out a.status a.line.items))
   pub refusal : IfErr result (Refuses shelf (OfRun name switches input) out)
 
 -- ---- dump

@@ -3,8 +3,13 @@
 use Rattle.std.specs.Prelude.{ℕ, ◌≡◌, Bool, true, false, Option, None, Some, List, [], ◌∷◌, ◌++◌, length, max, codes, decimal, slice_get}
 use Rattle.m3_base.specs.declared.outcomes.Outcome.{Outcome}
 use Rattle.m3_base.specs.declared.outcomes.Outcome.TheVariants.{Done, Fault, Uncaught, Deadlock, ThreadsFull, Spent, HeapFull, StackFull, Trap}
+use Rattle.m3_base.specs.declared.outcomes.Entry.{Entry}
 use Rattle.m3_base.specs.Faults.{name_of_fault}
+use Rattle.m3_heap.specs.Semi.{new_heap}
 use Rattle.m3_sections.specs.Parts.{Image}
+use Rattle.m3_strides.specs.State.{State}
+use Rattle.m3_machine.specs.RunCalls.{RunOf}
+use Rattle.m3_image_commands.specs.Statuses.{Putting, Took}
 
 -- the status of each outcome
 abbrev pub end_status : Outcome → ℕ
@@ -50,14 +55,25 @@ abbrev pub report : Image → Bool → Outcome → ℕ → ℕ → ℕ → List 
 report i tells outcome points instructions collections =
     with_collections tells (with_counts (ending i outcome) points instructions) collections ++ codes "\n"
 
--- a run of an image ended: the status and the line are those of one outcome
-pub record Ended (i : Image) (tells : Bool) (status : ℕ) (line : List ℕ) : Type 0 where
-  pub outcome : Outcome
+-- what a run may do and use, by which schedule and on which input
+pub record Setting : Type 0 where
   pub points : ℕ
-  pub instructions : ℕ
-  pub collections : ℕ
+  pub heap : ℕ
+  pub stack : ℕ
+  pub threads : ℕ
+  pub schedule : List Entry
+  pub input : List ℕ
+
+-- A run of an image ended: it is a run of its program from the start, over a heap of two halves. Its output was put, and
+-- the status and the line are those of its outcome and its counts.
+pub record Ended (i : Image) (setting : Setting) (tells : Bool) (out : Putting) (status : ℕ) (line : List ℕ) : Type 0 where
+  pub outcome : Outcome
+  pub to : State
+  pub bytes : List ℕ
+  pub run : RunOf i.program (new_heap setting.heap) setting.threads setting.stack setting.points setting.schedule setting.input bytes to outcome
+  pub put : Took out.taken bytes
   pub by_status : status ≡ end_status outcome
-  pub by_line : line ≡ report i tells outcome points instructions collections
+  pub by_line : line ≡ report i tells outcome to.points to.instructions to.collections
 
 -- ---- the room that the line needs
 

@@ -104,6 +104,7 @@ pub fn fetch_run_files<'a, F: Shelf>(
       excesses = (F.excesses shelf.old, F.excesses shelf.new);
     }) (OfOptions (option_map (λ n. n.now) options.entry.switches) (option_map (λ n. n.now) options.entry.input)) result }
     ensures switches { IfOk result (λ files. IsGiven (F.held shelf.old) (option_map (λ n. n.now) options.entry.switches) files.switches.items) }
+    ensures input { IfOk result (λ files. IsGiven (F.held shelf.old) (option_map (λ n. n.now) options.entry.input) files.input.items) }
 {
     let mut files = RunFiles {
         switches: Vec::new(alloc),

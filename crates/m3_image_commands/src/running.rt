@@ -87,7 +87,14 @@ fn run_view<O: Sink>(
     run: Run<'_>,
     out: &mut O,
 ) -> Result<Answer, Refusal<'static>>
-    ensures { Ends (image_view image.entry) run.entry.tells_collections (record {
+    ensures { Ends (image_view image.entry) (record {
+      points = run.entry.limits.points;
+      heap = run.entry.limits.heap;
+      stack = run.entry.limits.stack;
+      threads = run.entry.limits.threads;
+      schedule = run.entry.schedule.now;
+      input = run.entry.input.now;
+    }) run.entry.tells_collections (record {
       taken = (O.taken out.old, O.taken out.new);
       faults = (O.faults out.old, O.faults out.new);
     }) result }
@@ -120,7 +127,14 @@ pub fn run_bytes<O: Sink>(
     run: Run<'_>,
     out: &mut O,
 ) -> Result<Answer, Refusal<'static>>
-    ensures { RunsImage bytes.now run.entry.tells_collections (record {
+    ensures { RunsImage bytes.now (record {
+      points = run.entry.limits.points;
+      heap = run.entry.limits.heap;
+      stack = run.entry.limits.stack;
+      threads = run.entry.limits.threads;
+      schedule = run.entry.schedule.now;
+      input = run.entry.input.now;
+    }) run.entry.tells_collections (record {
       taken = (O.taken out.old, O.taken out.new);
       faults = (O.faults out.old, O.faults out.new);
     }) result }
@@ -139,7 +153,14 @@ fn run_fetched<O: Sink>(
     run: Run<'_>,
     out: &mut O,
 ) -> Result<Answer, Refusal<'static>>
-    ensures { RunsBytes bytes.now switches.now run.entry.tells_collections (record {
+    ensures { RunsBytes bytes.now switches.now (record {
+      points = run.entry.limits.points;
+      heap = run.entry.limits.heap;
+      stack = run.entry.limits.stack;
+      threads = run.entry.limits.threads;
+      schedule = run.entry.schedule.now;
+      input = run.entry.input.now;
+    }) run.entry.tells_collections (record {
       taken = (O.taken out.old, O.taken out.new);
       faults = (O.faults out.old, O.faults out.new);
     }) result }
@@ -180,7 +201,14 @@ pub fn run_image<'a, F: Shelf, O: Sink>(
     }) (record {
       taken = (O.taken out.old, O.taken out.new);
       faults = (O.faults out.old, O.faults out.new);
-    }) name.now (option_map (λ n. n.now) options.entry.switches) (option_map (λ n. n.now) options.entry.input) image.new.items result }
+    }) name.now (option_map (λ n. n.now) options.entry.switches) (option_map (λ n. n.now) options.entry.input) (record {
+      points = options.entry.limits.points;
+      heap = options.entry.limits.heap;
+      stack = options.entry.limits.stack;
+      threads = options.entry.limits.threads;
+      schedule = [];
+      input = [];
+    }) image.new.items result }
 {
     let files = match fetch_all(alloc, name, options, shelf, image) {
         Ok(files) => files,
@@ -213,6 +241,7 @@ fn fetch_all<'a, F: Shelf>(
     }) (OfRun name.now (option_map (λ n. n.now) options.entry.switches) (option_map (λ n. n.now) options.entry.input)) result }
     ensures image { OnOk result (IsRead (F.held shelf.old) name.now image_cap image.new.items) }
     ensures switches { IfOk result (λ files. IsGiven (F.held shelf.old) (option_map (λ n. n.now) options.entry.switches) files.switches.items) }
+    ensures input { IfOk result (λ files. IsGiven (F.held shelf.old) (option_map (λ n. n.now) options.entry.input) files.input.items) }
 {
     match fetch_image(alloc, name, shelf, image) {
         Ok(()) => fetch_run_files(alloc, shelf, options),

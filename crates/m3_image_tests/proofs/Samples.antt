@@ -21,7 +21,7 @@ use Rattle.m3_image_writer.specs.declared.parts.ImageParts.{ImageParts}
 use Rattle.m3_image_writer.specs.Fields.{long_bytes, text_bytes, place_bytes}
 use Rattle.m3_image_writer.specs.Sections.{code_bytes, proc_bytes, procs_bytes, constants_bytes, exceptions_bytes}
 use Rattle.m3_image_writer.specs.Image.{image_bytes}
-use Rattle.m3_image_writer.specs.Views.{variable_of, program_of, version_of, variables_of, image_of}
+use Rattle.m3_image_writer.specs.Views.{variable_of, program_of_parts, version_of, variables_of_parts, image_of}
 use Rattle.m3_image_writer.specs.Parts.{AreNumbered, AreParts}
 use Rattle.m3_image_writer.proofs.ViewBytes.{type_view, variable_view, variables_view, fixed_view, image_view, same_image}
 
@@ -35,7 +35,7 @@ pub record IsSound (p : Program) : Type 0 where
   pub places : places_fit (record { files = p.files; places = p.places }) ≡ true
   pub program : fault_of p ≡ None
 
-keeps : (p : ImageParts) (q : Program) (variables : List Variable) → program_of p ≡ q → variables_of p.variables ≡ variables → IsSound q → list_all (variable_fits q) variables ≡ true → IfSome p.variables (λ v. AllByRecursion AreNumbered v.items) → AreParts p
+keeps : (p : ImageParts) (q : Program) (variables : List Variable) → program_of_parts p ≡ q → variables_of_parts p.variables ≡ variables → IsSound q → list_all (variable_fits q) variables ≡ true → IfSome p.variables (λ v. AllByRecursion AreNumbered v.items) → AreParts p
 keeps p q variables e f sound form numbered =
     record {
       code = subst (λ (x : Program). AllByRecursion IsInstruction x.code) (sym e) sound.code;
@@ -45,7 +45,7 @@ keeps p q variables e f sound form numbered =
         globals = ap (λ (x : Program). globals_fit x.globals) e ∙ sound.globals;
         places = ap (λ (x : Program). places_fit (record { files = x.files; places = x.places })) e ∙ sound.places;
         sound = ap fault_of e ∙ sound.program;
-        variables = ap (λ x. list_all (variable_fits x) (variables_of p.variables)) e ∙ ap (list_all (variable_fits q)) f ∙ form;
+        variables = ap (λ x. list_all (variable_fits x) (variables_of_parts p.variables)) e ∙ ap (list_all (variable_fits q)) f ∙ form;
       };
       numbered = numbered;
     }
@@ -205,29 +205,29 @@ no_numbers : (variables : Option (Vec VarPart)) → IfSome variables (λ v. v.it
 no_numbers None h = tt
 no_numbers (Some v) h = rw h tt
 
-no_views : (variables : Option (Vec VarPart)) → IfSome variables (λ v. v.items ≡ []) → variables_of variables ≡ []
+no_views : (variables : Option (Vec VarPart)) → IfSome variables (λ v. v.items ≡ []) → variables_of_parts variables ≡ []
 no_views None h = refl
 no_views (Some v) h = rw h refl
 
-pub smallest_keeps : (p : ImageParts) → program_of p ≡ smallest → IfSome p.variables (λ v. v.items ≡ []) → AreParts p
+pub smallest_keeps : (p : ImageParts) → program_of_parts p ≡ smallest → IfSome p.variables (λ v. v.items ≡ []) → AreParts p
 smallest_keeps p e h = keeps p smallest [] e (no_views p.variables h) smallest_sound refl (no_numbers p.variables h)
 
-seen : (p : ImageParts) (q : Program) (variables : Option (Vec VarPart)) (views : List Variable) → p.variables ≡ variables → program_of p ≡ q → variables_of variables ≡ views → image_of p ≡ record { version = version_of variables; program = q; variables = views }
+seen : (p : ImageParts) (q : Program) (variables : Option (Vec VarPart)) (views : List Variable) → p.variables ≡ variables → program_of_parts p ≡ q → variables_of_parts variables ≡ views → image_of p ≡ record { version = version_of variables; program = q; variables = views }
 seen p q variables views e f g =
     let from : Option (Vec VarPart) → Program → List Variable → Image = λ v x vs. record { version = version_of v; program = x; variables = vs } in
-    ap (λ v. from v (program_of p) (variables_of v)) e ∙ ap (λ x. from variables x (variables_of variables)) f ∙ ap (from variables q) g
+    ap (λ v. from v (program_of_parts p) (variables_of_parts v)) e ∙ ap (λ x. from variables x (variables_of_parts variables)) f ∙ ap (from variables q) g
 
-smallest_by : (p : ImageParts) (variables : Option (Vec VarPart)) → p.variables ≡ variables → program_of p ≡ smallest → IfSome variables (λ v. v.items ≡ []) → length (image_bytes p) ≤ 4294967295
+smallest_by : (p : ImageParts) (variables : Option (Vec VarPart)) → p.variables ≡ variables → program_of_parts p ≡ smallest → IfSome variables (λ v. v.items ≡ []) → length (image_bytes p) ≤ 4294967295
 smallest_by p None e q h = size_by_view p (record { version = 1; program = smallest; variables = [] }) 234 (seen p smallest None [] e q refl) smallest_size (omega arith)
 smallest_by p (Some v) e q h =
     size_by_view p (record { version = 2; program = smallest; variables = [] }) 242 (seen p smallest (Some v) [] e q (ap (map variable_of) h)) second_size (omega arith)
 
-pub smallest_fits : (p : ImageParts) → program_of p ≡ smallest → IfSome p.variables (λ v. v.items ≡ []) → length (image_bytes p) ≤ 4294967295
+pub smallest_fits : (p : ImageParts) → program_of_parts p ≡ smallest → IfSome p.variables (λ v. v.items ≡ []) → length (image_bytes p) ≤ 4294967295
 smallest_fits p q h = smallest_by p p.variables refl q h
 
-pub rich_keeps : (p : ImageParts) (v : Vec VarPart) → p.variables ≡ Some v → program_of p ≡ rich → map variable_of v.items ≡ rich_variables → AllByRecursion AreNumbered v.items → AreParts p
-rich_keeps p v e q views numbered = keeps p rich rich_variables q (ap variables_of e ∙ views) rich_sound rich_variables_fit (rw e numbered)
+pub rich_keeps : (p : ImageParts) (v : Vec VarPart) → p.variables ≡ Some v → program_of_parts p ≡ rich → map variable_of v.items ≡ rich_variables → AllByRecursion AreNumbered v.items → AreParts p
+rich_keeps p v e q views numbered = keeps p rich rich_variables q (ap variables_of_parts e ∙ views) rich_sound rich_variables_fit (rw e numbered)
 
-pub rich_fits : (p : ImageParts) (v : Vec VarPart) → p.variables ≡ Some v → program_of p ≡ rich → map variable_of v.items ≡ rich_variables → length (image_bytes p) ≤ 4294967295
+pub rich_fits : (p : ImageParts) (v : Vec VarPart) → p.variables ≡ Some v → program_of_parts p ≡ rich → map variable_of v.items ≡ rich_variables → length (image_bytes p) ≤ 4294967295
 rich_fits p v e q views =
     size_by_view p (record { version = 2; program = rich; variables = rich_variables }) 577 (seen p rich (Some v) rich_variables e q views) rich_size (omega arith)

@@ -175,12 +175,12 @@ sections_again p short last = version_again p p.variables refl short last
 
 -- ---- the whole
 
-program_again : (p : ImageParts) → AreParts p → AreRead p → program_of (sections p) ≡ Ok (parts.program_of p)
+program_again : (p : ImageParts) → AreParts p → AreRead p → program_of (sections p) ≡ Ok (parts.program_of_parts p)
 unfolding program_of
 program_again p keeps are_read =
     rw (are_read.procs, keeps.image.procs, are_read.types, keeps.image.types, are_read.globals, keeps.image.globals, are_read.constants, are_read.places, keeps.image.places, are_read.exceptions, are_read.code) refl
 
-ninth_of : (p : ImageParts) (variables : Option (Vec VarPart)) → list_all (variable_fits (parts.program_of p)) (parts.variables_of variables) ≡ true → IfSome variables (λ v. ReadsAll variables_at (variables_bytes v.items) (map variable_of v.items)) → variables_of (parts.program_of p) (option_map (λ v. variables_bytes v.items) variables) ≡ Ok (parts.variables_of variables)
+ninth_of : (p : ImageParts) (variables : Option (Vec VarPart)) → list_all (variable_fits (parts.program_of_parts p)) (parts.variables_of_parts variables) ≡ true → IfSome variables (λ v. ReadsAll variables_at (variables_bytes v.items) (map variable_of v.items)) → variables_of (parts.program_of_parts p) (option_map (λ v. variables_bytes v.items) variables) ≡ Ok (parts.variables_of_parts variables)
 unfolding variables_of
 ninth_of p None form again = refl
 ninth_of p (Some variables) form again = rw (again, form) refl

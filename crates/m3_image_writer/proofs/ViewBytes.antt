@@ -14,7 +14,7 @@ use Rattle.m3_image_writer.specs.Fields.{text_bytes, place_bytes}
 use Rattle.m3_image_writer.specs.Sections.{code_bytes, procs_bytes, type_bytes, types_bytes, globals_bytes, constants_bytes, places_bytes, exceptions_bytes}
 use Rattle.m3_image_writer.specs.Variables.{span_bytes, var_bytes, variables_bytes}
 use Rattle.m3_image_writer.specs.Image.{fixed_bytes, versioned, image_bytes}
-use Rattle.m3_image_writer.specs.Views.{cell_type, span_of, variable_of, program_of, version_of, variables_of, image_of}
+use Rattle.m3_image_writer.specs.Views.{cell_type, span_of, variable_of, program_of_parts, version_of, variables_of_parts, image_of}
 
 unfoldable pub type_view : CellType → List ℕ
 type_view t =
@@ -64,11 +64,11 @@ same_variables : (variables : List VarPart) → variables_bytes variables ≡ va
 unfolding variables_bytes variables_view
 same_variables variables = rw (same_each variables, length-map variables variable_of) refl
 
-same_fixed : (p : ImageParts) → fixed_bytes p ≡ fixed_view (program_of p)
+same_fixed : (p : ImageParts) → fixed_bytes p ≡ fixed_view (program_of_parts p)
 unfolding fixed_bytes fixed_view globals_bytes places_bytes
 same_fixed p = rw (same_types p.types.items) refl
 
-same_versioned : (p : ImageParts) (variables : Option (Vec VarPart)) → versioned (fixed_bytes p) variables ≡ cond (eqb (version_of variables) 1) (word_bytes 1 ++ fixed_view (program_of p)) (word_bytes 2 ++ (fixed_view (program_of p) ++ text_bytes (variables_view (variables_of variables))))
+same_versioned : (p : ImageParts) (variables : Option (Vec VarPart)) → versioned (fixed_bytes p) variables ≡ cond (eqb (version_of variables) 1) (word_bytes 1 ++ fixed_view (program_of_parts p)) (word_bytes 2 ++ (fixed_view (program_of_parts p) ++ text_bytes (variables_view (variables_of_parts variables))))
 same_versioned p None = rw (same_fixed p) refl
 same_versioned p (Some variables) = rw (same_fixed p, same_variables variables.items) refl
 

@@ -28,8 +28,8 @@ abbrev pub variable_of : VarPart → Variable
 variable_of v = record { proc = v.proc; word = v.word; name = v.name; form = v.form; spans = map span_of v.spans.items }
 
 -- all but the variables
-abbrev pub program_of : ImageParts → Program
-program_of p =
+abbrev pub program_of_parts : ImageParts → Program
+program_of_parts p =
     record {
       code = p.code.items;
       procs = p.procs.items;
@@ -47,9 +47,9 @@ abbrev pub version_of : Option (Vec VarPart) → ℕ
 version_of None = 1
 version_of (Some variables) = 2
 
-abbrev pub variables_of : Option (Vec VarPart) → List Variable
-variables_of None = []
-variables_of (Some variables) = map variable_of variables.items
+abbrev pub variables_of_parts : Option (Vec VarPart) → List Variable
+variables_of_parts None = []
+variables_of_parts (Some variables) = map variable_of variables.items
 
 abbrev pub image_of : ImageParts → Image
-image_of p = record { version = version_of p.variables; program = program_of p; variables = variables_of p.variables }
+image_of p = record { version = version_of p.variables; program = program_of_parts p; variables = variables_of_parts p.variables }

@@ -36,6 +36,7 @@ pub fn carry_out<W: Words>(i: &Instr, r: &mut [u64; 16], pc: &mut u32, fp: u64, 
     ensures effect { CarriesOut (effect i.now (at_hand r.old pc.old fp) (W.holds mem.old) (W.writable mem.old))
         result (at_hand r.old pc.old fp) (W.holds mem.old) (at_hand r.new pc.new fp) (W.holds mem.new) }
     ensures trap { KeepsOnTrap i.now result (at_hand r.old pc.old fp) (W.holds mem.old) (W.holds mem.new) }
+    ensures other { result ≡ Step.Other → mem.new ≡ mem.old }
     ensures writable { (at : ℕ) → W.writable mem.new at ≡ W.writable mem.old at }
     ensures keeps { W.keeps mem.old mem.new }
 {
@@ -248,6 +249,7 @@ fn store<W: Words>(at: u64, word: u64, pc: &mut u32, mem: &mut W) -> Step
     ensures effect { (r : List ℕ) (fp : ℕ) → CarriesOut (stores (at_hand r pc.old fp) (W.holds mem.old) (W.writable mem.old) at word)
         result (at_hand r pc.old fp) (W.holds mem.old) (at_hand r pc.new fp) (W.holds mem.new) }
     ensures trap { result ≢ Step.Went → (x : ℕ) → W.holds mem.new x ≡ W.holds mem.old x }
+    ensures plain { result ≢ Step.Other }
     ensures writable { (x : ℕ) → W.writable mem.new x ≡ W.writable mem.old x }
     ensures keeps { W.keeps mem.old mem.new }
 {
@@ -264,6 +266,7 @@ fn copy<W: Words>(n: u64, from: u64, to: u64, pc: &mut u32, mem: &mut W) -> Step
     ensures effect { (r : List ℕ) (fp : ℕ) → CarriesOut (copies (at_hand r pc.old fp) (W.holds mem.old) (W.writable mem.old) n from to)
         result (at_hand r pc.old fp) (W.holds mem.old) (at_hand r pc.new fp) (W.holds mem.new) }
     ensures outside { (x : ℕ) → is_among x to n ≡ false → W.holds mem.new x ≡ W.holds mem.old x }
+    ensures plain { result ≢ Step.Other }
     ensures writable { (x : ℕ) → W.writable mem.new x ≡ W.writable mem.old x }
     ensures keeps { W.keeps mem.old mem.new }
 {
@@ -281,6 +284,7 @@ fn fill<W: Words>(n: u64, from: u64, distance: u64, pc: &mut u32, mem: &mut W) -
         result (at_hand r pc.old fp) (W.holds mem.old) (at_hand r pc.new fp) (W.holds mem.new) }
     ensures outside { (x : ℕ) → is_among x (add_words from distance) n ≡ false
         → W.holds mem.new x ≡ W.holds mem.old x }
+    ensures plain { result ≢ Step.Other }
     ensures writable { (x : ℕ) → W.writable mem.new x ≡ W.writable mem.old x }
     ensures keeps { W.keeps mem.old mem.new }
 {

@@ -1,4 +1,5 @@
 pub mod Depths
+pub mod Chains
 pub mod Rising
 pub mod Shifting
 pub mod Walks
@@ -8,4 +9,6 @@ pub mod Noting
 pub mod Lineage
 pub mod Opening
 pub mod InOrder
+pub mod Targets
+pub mod Objects
 pub mod Choosing

@@ -12,8 +12,9 @@ use Rattle.m3_types.specs.declared.nodes.Secret.TheVariants.{Revealed, Thread, C
 use Rattle.m3_types.specs.declared.nodes.Reveal.{Reveal}
 use Rattle.m3_types.specs.Definitions.{node_at}
 use Rattle.m3_sizes.specs.Sizes.{field_words, EachField, HasSize}
-use Rattle.m3_layout.specs.Pointers.{value_words, value_pointers, field_pointers}
-use Rattle.m3_layout.specs.Cells.{object_fields, is_thread, mutex_words, CanStand, OfParent, IsObject, parent_at, line_to, line_of, line_words, line_pointers, own_words, own_pointers}
+use Rattle.m3_layout.specs.Pointers.{field_pointers}
+use Rattle.m3_layout.specs.Cells.{parent_at}
+use Rattle.m3_layout.specs.Depths.{value_words, value_pointers, object_fields, is_thread, mutex_words, CanStand, OfParent, EndsWithin, line_to, line_of, line_words, line_pointers, own_words, own_pointers}
 
 -- ---- fields, one further
 
@@ -44,18 +45,18 @@ module _ (nodes : List TypeNode) (reveals : List Reveal) where
       let e = line_words-append (option_map_or (line_to nodes reveals limit) (parent_at nodes reveals i) []) (i ∷ []) in
       omega (arith, e)
 
-  pub object_limit : (limit i : ℕ) → IsObject nodes reveals limit i → 0 < limit
+  pub object_limit : (limit i : ℕ) → EndsWithin nodes reveals limit i → 0 < limit
   object_limit zero i o = absurd o
   object_limit (suc limit) i o = omega arith
 
   pub record UpStep (limit top p : ℕ) (below all : List ℕ) : Type 0 where
     pub stands : CanStand nodes reveals p (node_at nodes p)
-    pub object : OfParent (IsObject nodes reveals limit) (parent_at nodes reveals p)
+    pub object : OfParent (EndsWithin nodes reveals limit) (parent_at nodes reveals p)
     pub line : option_map_or (line_to nodes reveals limit) (parent_at nodes reveals p) [] ++ p ∷ below ≡ all
 
-  pub up_step : (limit limit' top p : ℕ) (below all : List ℕ) → limit ≡ suc limit' → Some p ≡ parent_at nodes reveals top → OfParent (IsObject nodes reveals limit) (parent_at nodes reveals top) → option_map_or (line_to nodes reveals limit) (parent_at nodes reveals top) [] ++ below ≡ all → UpStep limit' top p below all
+  pub up_step : (limit limit' top p : ℕ) (below all : List ℕ) → limit ≡ suc limit' → Some p ≡ parent_at nodes reveals top → OfParent (EndsWithin nodes reveals limit) (parent_at nodes reveals top) → option_map_or (line_to nodes reveals limit) (parent_at nodes reveals top) [] ++ below ≡ all → UpStep limit' top p below all
   up_step limit limit' top p below all el ep o l =
-      let q : IsObject nodes reveals (suc limit') p = subst (λ (k : ℕ). IsObject nodes reveals k p) el (subst (OfParent (IsObject nodes reveals limit)) (sym ep) o) in
+      let q : EndsWithin nodes reveals (suc limit') p = subst (λ (k : ℕ). EndsWithin nodes reveals k p) el (subst (OfParent (EndsWithin nodes reveals limit)) (sym ep) o) in
       let m : line_to nodes reveals (suc limit') p ++ below ≡ all = subst (λ (k : ℕ). line_to nodes reveals k p ++ below ≡ all) el (ap (λ (u : Option ℕ). option_map_or (line_to nodes reveals limit) u [] ++ below) ep ∙ l) in
       record {
         stands = q.0;
@@ -114,16 +115,16 @@ module _ (nodes : List TypeNode) (reveals : List Reveal) where
   -- the ancestors above the top, and then the types so far from the top on, are the whole line
   pub record LineSoFar (items : List TypeId) (top t : TypeId) : Type 0 where
     pub few : length items ≤ length nodes
-    pub object : OfParent (IsObject nodes reveals (length nodes - length items)) (parent_at nodes reveals top.0)
+    pub object : OfParent (EndsWithin nodes reveals (length nodes - length items)) (parent_at nodes reveals top.0)
     pub stand : All Stands (reverse items)
     pub line : option_map_or (line_to nodes reveals (length nodes - length items)) (parent_at nodes reveals top.0) [] ++ map (λ (u : TypeId). u.0) (reverse items) ≡ line_of nodes reveals t.0
 
-  pub line_start : (items : List TypeId) (t : TypeId) → items ≡ t ∷ [] → IsObject nodes reveals (length nodes) t.0 → LineSoFar items t t
+  pub line_start : (items : List TypeId) (t : TypeId) → items ≡ t ∷ [] → EndsWithin nodes reveals (length nodes) t.0 → LineSoFar items t t
   line_start items t e o =
       let n = length nodes in
       let some : 0 < n = object_limit nodes reveals n t.0 o in
       let el : n ≡ suc (n - 1) = omega arith in
-      let q : IsObject nodes reveals (suc (n - 1)) t.0 = subst (λ (k : ℕ). IsObject nodes reveals k t.0) el o in
+      let q : EndsWithin nodes reveals (suc (n - 1)) t.0 = subst (λ (k : ℕ). EndsWithin nodes reveals k t.0) el o in
       let P : List TypeId → Type 0 = λ (xs : List TypeId). LineSoFar xs t t in
       let here : P (t ∷ []) = record {
         few = omega arith;
@@ -139,7 +140,7 @@ module _ (nodes : List TypeNode) (reveals : List Reveal) where
       let limit = n - length items in
       let limit' = n - length items' in
       let longer : length items' ≡ length items + 1 = ap length e ∙ length-append items (p ∷ []) in
-      let o : IsObject nodes reveals limit p.0 = subst (OfParent (IsObject nodes reveals limit)) (sym ep) s.object in
+      let o : EndsWithin nodes reveals limit p.0 = subst (OfParent (EndsWithin nodes reveals limit)) (sym ep) s.object in
       let some : 0 < limit = object_limit nodes reveals limit p.0 o in
       let el : limit ≡ suc limit' = omega arith in
       let below = map (λ (u : TypeId). u.0) (reverse items) in
@@ -160,16 +161,16 @@ module _ (nodes : List TypeNode) (reveals : List Reveal) where
 
   -- ---- the words of an object type, one type further up
 
-  pub object_up : (limit limit' top : ℕ) → limit ≡ suc limit' → IsObject nodes reveals limit top → CanStand nodes reveals top (node_at nodes top) × OfParent (IsObject nodes reveals limit') (parent_at nodes reveals top)
-  object_up limit limit' top el o = subst (λ (k : ℕ). IsObject nodes reveals k top) el o
+  pub object_up : (limit limit' top : ℕ) → limit ≡ suc limit' → EndsWithin nodes reveals limit top → CanStand nodes reveals top (node_at nodes top) × OfParent (EndsWithin nodes reveals limit') (parent_at nodes reveals top)
+  object_up limit limit' top el o = subst (λ (k : ℕ). EndsWithin nodes reveals k top) el o
 
-  pub object_down : (limit limit' top : ℕ) → limit ≡ suc limit' → CanStand nodes reveals top (node_at nodes top) → OfParent (IsObject nodes reveals limit') (parent_at nodes reveals top) → IsObject nodes reveals limit top
-  object_down limit limit' top el s o = subst (λ (k : ℕ). IsObject nodes reveals k top) (sym el) (s, o)
+  pub object_down : (limit limit' top : ℕ) → limit ≡ suc limit' → CanStand nodes reveals top (node_at nodes top) → OfParent (EndsWithin nodes reveals limit') (parent_at nodes reveals top) → EndsWithin nodes reveals limit top
+  object_down limit limit' top el s o = subst (λ (k : ℕ). EndsWithin nodes reveals k top) (sym el) (s, o)
 
   pub words_of_line : (limit limit' top : ℕ) → limit ≡ suc limit' → line_words nodes (line_to nodes reveals limit top) ≡ line_words nodes (option_map_or (line_to nodes reveals limit') (parent_at nodes reveals top) []) + own_words nodes (node_at nodes top)
   words_of_line limit limit' top el = ap (λ (k : ℕ). line_words nodes (line_to nodes reveals k top)) el ∙ words_up nodes reveals limit' top
 
-  pub no_room : (limit limit' top t words : ℕ) → limit ≡ suc limit' → (IsObject nodes reveals (length nodes) t → IsObject nodes reveals limit top) → words + line_words nodes (line_to nodes reveals limit top) ≡ 1 + line_words nodes (line_of nodes reveals t) → IsObject nodes reveals (length nodes) t → 1 + line_words nodes (line_of nodes reveals t) < 2 ^ 64 → CanStand nodes reveals top (node_at nodes top) × (words + own_words nodes (node_at nodes top) < 2 ^ 64)
+  pub no_room : (limit limit' top t words : ℕ) → limit ≡ suc limit' → (EndsWithin nodes reveals (length nodes) t → EndsWithin nodes reveals limit top) → words + line_words nodes (line_to nodes reveals limit top) ≡ 1 + line_words nodes (line_of nodes reveals t) → EndsWithin nodes reveals (length nodes) t → 1 + line_words nodes (line_of nodes reveals t) < 2 ^ 64 → CanStand nodes reveals top (node_at nodes top) × (words + own_words nodes (node_at nodes top) < 2 ^ 64)
   no_room limit limit' top t words el whole sum o f =
       ((object_up limit limit' top el (whole o)).0, omega (arith, words_of_line limit limit' top el, sum, f))
 

@@ -4,8 +4,8 @@ use Rattle.std.specs.Option.{option_map_or}
 use Rattle.m3_types.specs.declared.nodes.TypeNode.{TypeNode}
 use Rattle.m3_types.specs.declared.nodes.TypeNode.TheVariants.{OpenArray}
 use Rattle.m3_types.specs.Definitions.{node_at}
-use Rattle.m3_layout.specs.Cells.{most_dims, array_element, element_below, dims_below, open_element, open_dims, plain_cell, open_cell, target_cell}
-use Rattle.m3_layout.specs.Shapes.{first_word}
+use Rattle.m3_layout.specs.Cells.{array_element, first_word}
+use Rattle.m3_layout.specs.Depths.{most_dims, element_below, dims_below, open_element, open_dims, plain_cell, open_cell, target_cell}
 
 module _ (nodes : List TypeNode) where
   -- one dimension further

@@ -1,5 +1,5 @@
 -- The pointers of a value rise strictly and lie in it.
-use Rattle.std.proofs.Common.{◌≡◌, ℕ, zero, suc, ◌+◌, ◌*◌, ◌-◌, ◌<◌, ◌≤◌, List, [], ◌∷◌, ◌++◌, length, Option, Some, None, sym, subst, arith, All}
+use Rattle.std.proofs.Common.{◌≡◌, ℕ, zero, suc, ◌+◌, ◌*◌, ◌-◌, ◌<◌, ◌≤◌, List, [], ◌∷◌, ◌++◌, length, Option, Some, None, subst, arith, All}
 use Rattle.std.specs.Option.{option_map_or}
 use Rattle.std.specs.List.{AllByRecursion}
 use Rattle.std.proofs.lemmas.List.Elements.{All-from_recursion}
@@ -9,8 +9,9 @@ use Rattle.m3_types.specs.declared.nodes.TypeNode.TheVariants.{Reserved, Integer
 use Rattle.m3_types.specs.Definitions.{node_at, head_at}
 use Rattle.m3_types.specs.Kinds.{size_of}
 use Rattle.m3_sizes.specs.Sizes.{field_words, set_words, words_of_node, words_to_depth, EachField, EachPart, HasParts, IsSized}
-use Rattle.m3_layout.specs.Pointers.{value_words, field_pointers, element_pointers, pointers_of_node, pointers_to_depth, value_pointers, RisesWithin}
-use Rattle.m3_layout.proofs.Depths.{each_part, words_equal, words_at}
+use Rattle.m3_layout.specs.Pointers.{field_pointers, element_pointers, pointers_of_node, pointers_to_depth, RisesWithin}
+use Rattle.m3_layout.specs.Depths.{value_words, value_pointers}
+use Rattle.m3_layout.proofs.Depths.{has_parts}
 
 pub rises_lower : (low low' high : ℕ) (xs : List ℕ) → low' ≤ low → RisesWithin low high xs → RisesWithin low' high xs
 rises_lower low low' high [] l r = omega arith
@@ -78,22 +79,16 @@ module _ (nodes : List TypeNode) where
       le_more a m = omega arith
   node_rises w p (Procedure formals result raises) h at = omega arith
 
-  option_rises : (w : ℕ → ℕ) (p : ℕ → ℕ → List ℕ) (v : ℕ → ℕ) (o : Option TypeNode) → HasParts (λ j. (w j ≡ v j) × Rises w p j) o → (at : ℕ) → RisesWithin at (at + option_map_or (words_of_node nodes v) o 0) (option_map_or (pointers_of_node nodes w p at) o [])
-  option_rises w p v None h at = absurd h
-  option_rises w p v (Some n) h at =
-      let e : words_of_node nodes w n ≡ words_of_node nodes v n = words_equal nodes w v n (each_part (λ j. (w j ≡ v j) × Rises w p j) (λ j. w j ≡ v j) (λ j q. q.0) n h) in
-      subst (λ k. RisesWithin at (at + k) (pointers_of_node nodes w p at n)) e (node_rises w p n (each_part (λ j. (w j ≡ v j) × Rises w p j) (Rises w p) (λ j q. q.1) n h) at)
+  option_rises : (w : ℕ → ℕ) (p : ℕ → ℕ → List ℕ) (o : Option TypeNode) → HasParts (Rises w p) o → (at : ℕ) → RisesWithin at (at + option_map_or (words_of_node nodes w) o 0) (option_map_or (pointers_of_node nodes w p at) o [])
+  option_rises w p None h at = absurd h
+  option_rises w p (Some n) h at = node_rises w p n h at
 
-  rising_parts : (depth : ℕ) → ((j : ℕ) → IsSized nodes depth j → Rises (value_words nodes) (pointers_to_depth nodes depth) j) → depth ≤ length nodes → (o : Option TypeNode) → HasParts (IsSized nodes depth) o → HasParts (λ j. (value_words nodes j ≡ words_to_depth nodes depth j) × Rises (value_words nodes) (pointers_to_depth nodes depth) j) o
-  rising_parts depth r l None h = h
-  rising_parts depth r l (Some n) h = each_part (IsSized nodes depth) (λ j. (value_words nodes j ≡ words_to_depth nodes depth j) × Rises (value_words nodes) (pointers_to_depth nodes depth) j) (λ j t. (words_at nodes depth j l t, r j t)) n h
-
-  depth_rises : (depth i : ℕ) → depth ≤ length nodes → IsSized nodes depth i → (at : ℕ) → RisesWithin at (at + value_words nodes i) (pointers_to_depth nodes depth at i)
-  depth_rises zero i l s at = absurd s
-  depth_rises (suc depth) i l s at =
-      let below : depth ≤ length nodes = omega arith in
-      subst (λ k. RisesWithin at (at + k) (pointers_to_depth nodes (suc depth) at i)) (sym (words_at nodes (suc depth) i l s))
-      (option_rises (value_words nodes) (pointers_to_depth nodes depth) (words_to_depth nodes depth) (node_at nodes i) (rising_parts depth (λ j t. depth_rises depth j below t) below (node_at nodes i) s.0) at)
+  depth_rises : (depth i : ℕ) → IsSized nodes depth i → (at : ℕ) → RisesWithin at (at + words_to_depth nodes depth i) (pointers_to_depth nodes depth at i)
+  depth_rises zero i s at = absurd s
+  depth_rises (suc depth) i s at =
+      let w = words_to_depth nodes depth in
+      let p = pointers_to_depth nodes depth in
+      option_rises w p (node_at nodes i) (has_parts (IsSized nodes depth) (Rises w p) (depth_rises depth) (node_at nodes i) s.0) at
 
   pub value_rises : (i : ℕ) → IsSized nodes (length nodes) i → (at : ℕ) → RisesWithin at (at + value_words nodes i) (value_pointers nodes at i)
-  value_rises i s at = depth_rises (length nodes) i (omega arith) s at
+  value_rises i s at = depth_rises (length nodes) i s at

@@ -7,7 +7,9 @@ use Rattle.m3_types.specs.declared.nodes.TypeNode.{TypeNode}
 use Rattle.m3_types.specs.declared.nodes.TypeNode.TheVariants.{FixedArray, Fields, RefTo, Object, Opaque, Null, RefAny, Text, Mutex, Root}
 use Rattle.m3_types.specs.Definitions.{node_at, head_at}
 use Rattle.m3_types.specs.Kinds.{size_of}
-use Rattle.m3_layout.specs.Pointers.{value_words, field_pointers, element_pointers, pointers_of_node, pointers_to_depth, value_pointers}
+use Rattle.m3_sizes.specs.Sizes.{words_to_depth}
+use Rattle.m3_layout.specs.Pointers.{field_pointers, element_pointers, pointers_of_node, pointers_to_depth}
+use Rattle.m3_layout.specs.Depths.{value_pointers}
 
 -- from a word on to another
 abbrev pub moved : ℕ → ℕ → ℕ → ℕ
@@ -54,7 +56,7 @@ module _ (nodes : List TypeNode) where
 
   depth_moved : (a b depth i k : ℕ) → map (moved a b) (pointers_to_depth nodes depth (a + k) i) ≡ pointers_to_depth nodes depth (b + k) i
   depth_moved a b zero i k = refl
-  depth_moved a b (suc depth) i k = option_moved (value_words nodes) (pointers_to_depth nodes depth) a b (λ j k. depth_moved a b depth j k) (node_at nodes i) k
+  depth_moved a b (suc depth) i k = option_moved (words_to_depth nodes depth) (pointers_to_depth nodes depth) a b (λ j k. depth_moved a b depth j k) (node_at nodes i) k
 
   pub value_moved : (a b i : ℕ) → map (moved a b) (value_pointers nodes a i) ≡ value_pointers nodes b i
   value_moved a b i =

@@ -5,19 +5,19 @@ use Rattle.std.specs.BTreeMap.{BTreeMap}
 use Rattle.std.proofs.lemmas.List.{append-nil, drop_at}
 use Rattle.std.proofs.lemmas.List.Elements.{All-nil, All-cons, All-same}
 use Rattle.std.specs.Borrow.{Bor}
-use Rattle.std.specs.declared.alloc.Global.{Global}
 use Rattle.m3_types.specs.declared.nodes.TypeId.{TypeId}
 use Rattle.m3_types.specs.declared.nodes.Field.{Field}
 use Rattle.m3_types.specs.declared.nodes.TypeNode.{TypeNode}
 use Rattle.m3_types.specs.declared.nodes.TypeNode.TheVariants.{FixedArray, Fields, RefTo, Object, Opaque, Null, RefAny, Text, Mutex, Root}
 use Rattle.m3_types.specs.Definitions.{node_at, head_at, head_of, Missing}
 use Rattle.m3_types.specs.Kinds.{size_of, is_reference}
-use Rattle.m3_sizes.specs.Sizes.{field_words, EachField, HasSize, IsSized}
+use Rattle.m3_sizes.specs.Sizes.{field_words, words_to_depth, EachField, HasSize, IsSized}
 use Rattle.m3_layout.specs.declared.walk.Run.{Run}
 use Rattle.m3_layout.specs.declared.walk.Whole.{Whole}
 use Rattle.m3_layout.specs.declared.walk.Task.{Task}
 use Rattle.m3_layout.specs.declared.walk.Task.TheVariants.{OneValue, FieldsFrom, ElementsLeft}
-use Rattle.m3_layout.specs.Pointers.{value_words, field_pointers, element_pointers, pointers_of_node, pointers_to_depth, value_pointers, RisesWithin}
+use Rattle.m3_layout.specs.Pointers.{field_pointers, element_pointers, pointers_of_node, pointers_to_depth, RisesWithin}
+use Rattle.m3_layout.specs.Depths.{value_words, value_pointers}
 use Rattle.m3_layout.specs.Walking.{fields_in, fields_at, is_record, array_parts, task_pointers, IsReady, IsOpen, IsBegun, run_of, AreRuns, IsWalk, effort_of_node, effort_to_depth, value_effort, task_effort}
 use Rattle.m3_layout.proofs.Depths.{OfFields, of_fields, OfElements, of_elements, element_pointers_equal}
 use Rattle.m3_layout.proofs.Rising.{value_rises, rises_all}
@@ -231,7 +231,7 @@ module _ (nodes : List TypeNode) where
 
   reference_pointers : (depth i at : ℕ) → IsSized nodes depth i → is_reference (head_at nodes i) ≡ true → pointers_to_depth nodes depth at i ≡ at ∷ []
   reference_pointers zero i at s h = absurd s
-  reference_pointers (suc depth) i at s h = reference_option (value_words nodes) (pointers_to_depth nodes depth) i at (node_at nodes i) h
+  reference_pointers (suc depth) i at s h = reference_option (words_to_depth nodes depth) (pointers_to_depth nodes depth) i at (node_at nodes i) h
 
   plain_option : (w : ℕ → ℕ) (p : ℕ → ℕ → List ℕ) (place at : ℕ) (o : Option TypeNode) → is_record o ≡ false → None ≡ array_parts o → is_reference (option_map_or (head_of place) o Missing) ≡ false → option_map_or (pointers_of_node nodes w p at) o [] ≡ []
   plain_option w p place at None r a h = refl
@@ -249,7 +249,7 @@ module _ (nodes : List TypeNode) where
 
   plain_pointers : (depth i at : ℕ) → IsSized nodes depth i → is_record (node_at nodes i) ≡ false → None ≡ array_parts (node_at nodes i) → is_reference (head_at nodes i) ≡ false → pointers_to_depth nodes depth at i ≡ []
   plain_pointers zero i at s r a h = absurd s
-  plain_pointers (suc depth) i at s r a h = plain_option (value_words nodes) (pointers_to_depth nodes depth) i at (node_at nodes i) r a h
+  plain_pointers (suc depth) i at s r a h = plain_option (words_to_depth nodes depth) (pointers_to_depth nodes depth) i at (node_at nodes i) r a h
 
   pub reference_told : (old : List ℕ) (tasks : List Task) (runs : BTreeMap ℕ Run) (t : TypeId) (at : ℕ) → is_reference (head_at nodes t.0) ≡ true → IsWalk nodes old (tasks ++ OneValue t at ∷ []) runs → at ∷ [] ≡ value_pointers nodes at t.0
   reference_told old tasks runs t at h w = sym (reference_pointers (length nodes) t.0 at (last_ready nodes old tasks (OneValue t at) runs w).0 h)

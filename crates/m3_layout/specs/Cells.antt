@@ -1,15 +1,14 @@
 -- How the cells of a type are laid out.
-use Rattle.std.specs.Prelude.{ℕ, zero, suc, ◌+◌, ◌<◌, ◌^◌, min, List, [], ◌∷◌, ◌++◌, length, Bool, true, false, Option, Some, None, IsSome}
-use Rattle.std.specs.Option.{option_map_or, unwrap_or}
-use Rattle.m3_types.specs.declared.nodes.Field.{Field}
+use Rattle.std.specs.Prelude.{◌≡◌, ℕ, zero, suc, ◌+◌, ◌<◌, ◌^◌, List, [], ◌∷◌, ◌++◌, Option, Some, None, IsSome}
+use Rattle.std.specs.Option.{unwrap_or}
 use Rattle.m3_types.specs.declared.nodes.Reveal.{Reveal}
 use Rattle.m3_types.specs.declared.nodes.Secret.TheVariants.{Revealed, Thread, Condition}
 use Rattle.m3_types.specs.declared.nodes.TypeNode.{TypeNode}
 use Rattle.m3_types.specs.declared.nodes.TypeNode.TheVariants.{OpenArray, RefTo, Object, Opaque, Mutex, Root}
 use Rattle.m3_types.specs.Definitions.{node_at}
 use Rattle.m3_types.specs.Reveals.{full_reveal}
-use Rattle.m3_sizes.specs.Sizes.{field_words, EachField, HasSize}
-use Rattle.m3_layout.specs.Pointers.{value_words, value_pointers, field_pointers}
+use Rattle.m3_sizes.specs.Sizes.{AreWords}
+use Rattle.m3_layout.specs.Pointers.{ArePointers}
 
 -- The words of a cell that isn't open, its header counted, or of an element of an open one; the number
 -- of open dimensions; and the pointers, counted from the header or from the start of each element.
@@ -18,60 +17,36 @@ pub record Layout : Type 0 where
   pub dims : ℕ
   pub pointers : List ℕ
 
--- ---- open arrays
+-- where a value in a cell begins: behind the header, or an element of an open array at its own first word
+abbrev pub first_word : ℕ → ℕ
+first_word zero = 1
+first_word (suc dims) = 0
 
--- No array that doesn't contain itself has more dimensions than this. A type's place is below 2 ^ 32.
-abbrev pub most_dims : List TypeNode → ℕ
-most_dims nodes = min (length nodes) 4294967295
+-- ---- values in a row
+
+-- A value of the type that begins at a word takes so many words, and these are the pointers among them.
+abbrev pub IsValue : List TypeNode → ℕ → ℕ → ℕ → List ℕ → Type 0
+IsValue nodes at i words pointers = AreWords nodes i words × ArePointers nodes at i pointers
+
+-- Parts that follow one another from a word on take so many words, and these are the pointers among them,
+-- where P says so of one part.
+abbrev pub AreInTurn : {A : Type 0} → (ℕ → A → ℕ → List ℕ → Type 0) → ℕ → List A → ℕ → List ℕ → Type 0
+AreInTurn P at [] words pointers = (words ≡ 0) × (pointers ≡ [])
+AreInTurn P at (x ∷ xs) words pointers = (w : ℕ) × (ps : List ℕ) × (v : ℕ) × (qs : List ℕ) × P at x w ps × AreInTurn P (at + w) xs v qs × (words ≡ w + v) × (pointers ≡ ps ++ qs)
+
+-- ---- open arrays
 
 -- the element type of an open array
 abbrev pub array_element : Option TypeNode → Option ℕ
 array_element (Some (OpenArray element)) = Some element.0
 array_element _ = None
 
--- the type below at most so many open dimensions, and how many there are
-abbrev pub element_below : List TypeNode → ℕ → ℕ → ℕ
-element_below nodes zero i = i
-element_below nodes (suc limit) i = option_map_or (element_below nodes limit) (array_element (node_at nodes i)) i
-
-abbrev pub dims_below : List TypeNode → ℕ → ℕ → ℕ
-dims_below nodes zero i = 0
-dims_below nodes (suc limit) i = option_map_or (λ j. suc (dims_below nodes limit j)) (array_element (node_at nodes i)) 0
-
--- the element type of an open array; any other type itself
-abbrev pub open_element : List TypeNode → ℕ → ℕ
-open_element nodes i = element_below nodes (most_dims nodes) i
-
--- how many open dimensions a type has
-abbrev pub open_dims : List TypeNode → ℕ → ℕ
-open_dims nodes i = dims_below nodes (most_dims nodes) i
+-- The type e lies below so many open dimensions of i, and is no open array itself.
+abbrev pub IsBelow : List TypeNode → ℕ → ℕ → ℕ → Type 0
+IsBelow nodes zero i e = (i ≡ e) × (array_element (node_at nodes i) ≡ None)
+IsBelow nodes (suc dims) i e = (j : ℕ) × (array_element (node_at nodes i) ≡ Some j) × IsBelow nodes dims j e
 
 -- ---- objects
-
--- the words that a cell of a type has beside fields, and the pointers among them: a mutex has its
--- holder, a thread its number, its state and its result
-abbrev pub own_words : List TypeNode → Option TypeNode → ℕ
-own_words nodes (Some (Object brand parent fields methods overrides)) = field_words (value_words nodes) fields.now
-own_words nodes (Some (Opaque bound Thread)) = 3
-own_words nodes (Some Mutex) = 1
-own_words nodes _ = 0
-
-abbrev pub own_pointers : List TypeNode → ℕ → Option TypeNode → List ℕ
-own_pointers nodes at (Some (Object brand parent fields methods overrides)) = field_pointers (value_words nodes) (value_pointers nodes) at fields.now
-own_pointers nodes at (Some (Opaque bound Thread)) = (at + 2) ∷ []
-own_pointers nodes at _ = []
-
-abbrev pub object_fields : Option TypeNode → Option (List Field)
-object_fields (Some (Object brand parent fields methods overrides)) = Some fields.now
-object_fields _ = None
-
-abbrev pub is_thread : Option TypeNode → Bool
-is_thread (Some (Opaque bound Thread)) = true
-is_thread _ = false
-
-abbrev pub mutex_words : Option TypeNode → ℕ
-mutex_words (Some Mutex) = 1
-mutex_words _ = 0
 
 -- what an object type adds its fields to: its parent, or the type that fully reveals an opaque type
 abbrev pub parent_in : List Reveal → ℕ → Option TypeNode → Option ℕ
@@ -82,45 +57,45 @@ parent_in reveals i _ = None
 abbrev pub parent_at : List TypeNode → List Reveal → ℕ → Option ℕ
 parent_at nodes reveals i = parent_in reveals i (node_at nodes i)
 
--- a type and its ancestors, the topmost first. An object type that isn't its own ancestor has fewer
--- ancestors than there are types
-abbrev pub line_to : List TypeNode → List Reveal → ℕ → ℕ → List ℕ
-line_to nodes reveals zero i = []
-line_to nodes reveals (suc limit) i = option_map_or (line_to nodes reveals limit) (parent_at nodes reveals i) [] ++ i ∷ []
+-- The types lead from one down to i, each the parent of the next.
+abbrev pub LeadsTo : List TypeNode → List Reveal → ℕ → ℕ → List ℕ → Type 0
+LeadsTo nodes reveals i above [] = above ≡ i
+LeadsTo nodes reveals i above (j ∷ js) = (parent_at nodes reveals j ≡ Some above) × LeadsTo nodes reveals i j js
 
-abbrev pub line_of : List TypeNode → List Reveal → ℕ → List ℕ
-line_of nodes reveals i = line_to nodes reveals (length nodes) i
+-- A type's ancestors and the type itself, the topmost first, which has no parent.
+abbrev pub IsLine : List TypeNode → List Reveal → ℕ → List ℕ → Type 0
+IsLine nodes reveals i [] = ⊥
+IsLine nodes reveals i (top ∷ js) = (parent_at nodes reveals top ≡ None) × LeadsTo nodes reveals i top js
 
--- the words and pointers that types of a line have together, from a word on
-abbrev pub line_words : List TypeNode → List ℕ → ℕ
-line_words nodes [] = 0
-line_words nodes (i ∷ is) = own_words nodes (node_at nodes i) + line_words nodes is
+-- What a type of a line adds to a cell from a word on: an object type its fields, one after another; MUTEX
+-- a word for its holder; Thread.T the thread's number, state and result, and the result is a pointer. A
+-- revealed type, ROOT and Thread.Condition add nothing, and no other type stands in a line.
+abbrev pub AddsIn : List TypeNode → List Reveal → ℕ → ℕ → Option TypeNode → ℕ → List ℕ → Type 0
+AddsIn nodes reveals at i (Some (Object brand parent fields methods overrides)) words pointers = AreInTurn (λ k f. IsValue nodes k f.kind.0) at fields.now words pointers
+AddsIn nodes reveals at i (Some Mutex) words pointers = (words ≡ 1) × (pointers ≡ [])
+AddsIn nodes reveals at i (Some (Opaque bound Thread)) words pointers = (words ≡ 3) × (pointers ≡ (at + 2) ∷ [])
+AddsIn nodes reveals at i (Some (Opaque bound Condition)) words pointers = (words ≡ 0) × (pointers ≡ [])
+AddsIn nodes reveals at i (Some Root) words pointers = (words ≡ 0) × (pointers ≡ [])
+AddsIn nodes reveals at i (Some (Opaque bound Revealed)) words pointers = IsSome (full_reveal reveals i) × (words ≡ 0) × (pointers ≡ [])
+AddsIn nodes reveals at i _ words pointers = ⊥
 
-abbrev pub line_pointers : List TypeNode → ℕ → List ℕ → List ℕ
-line_pointers nodes at [] = []
-line_pointers nodes at (i ∷ is) = own_pointers nodes at (node_at nodes i) ++ line_pointers nodes (at + own_words nodes (node_at nodes i)) is
+abbrev pub Adds : List TypeNode → List Reveal → ℕ → ℕ → ℕ → List ℕ → Type 0
+Adds nodes reveals at i words pointers = AddsIn nodes reveals at i (node_at nodes i) words pointers
 
 -- ---- cells
 
--- a value of a type behind so many words of a header
-abbrev pub value_cell : List TypeNode → ℕ → ℕ → ℕ → Layout
-value_cell nodes header dims i = record { words = header + value_words nodes i; dims = dims; pointers = value_pointers nodes header i }
+-- so many words of a header, and a value of a type
+abbrev pub IsBehind : List TypeNode → ℕ → ℕ → Layout → Type 0
+IsBehind nodes header i layout = (w : ℕ) × (layout.words ≡ header + w) × IsValue nodes header i w layout.pointers
 
--- a header, and a value of a type that is no open array
-abbrev pub plain_cell : List TypeNode → ℕ → Layout
-plain_cell nodes i = value_cell nodes 1 0 i
+-- A header and a value of a type; or, of an open array, an element, without the header and the sizes in
+-- front of all elements.
+abbrev pub IsTarget : List TypeNode → ℕ → Layout → Type 0
+IsTarget nodes i layout = (e : ℕ) × IsBelow nodes layout.dims i e × IsBehind nodes (first_word layout.dims) e layout
 
--- an element of an open array, without the header and the sizes in front of all elements
-abbrev pub open_cell : List TypeNode → ℕ → Layout
-open_cell nodes i = value_cell nodes 0 (open_dims nodes i) (open_element nodes i)
-
--- a header, and the words of a type and its ancestors
-abbrev pub object_cell : List TypeNode → List Reveal → ℕ → Layout
-object_cell nodes reveals i = record { words = 1 + line_words nodes (line_of nodes reveals i); dims = 0; pointers = line_pointers nodes 1 (line_of nodes reveals i) }
-
-abbrev pub target_cell : List TypeNode → ℕ → Option TypeNode → Layout
-target_cell nodes i (Some (OpenArray element)) = open_cell nodes i
-target_cell nodes i _ = plain_cell nodes i
+-- a header, and what a type and its ancestors add, the topmost first
+abbrev pub IsObject : List TypeNode → List Reveal → ℕ → Layout → Type 0
+IsObject nodes reveals i layout = (line : List ℕ) × (w : ℕ) × IsLine nodes reveals i line × AreInTurn (Adds nodes reveals) 1 line w layout.pointers × (layout.words ≡ 1 + w) × (layout.dims ≡ 0)
 
 -- the target of a REF type
 abbrev pub ref_target : Option TypeNode → Option ℕ
@@ -135,43 +110,16 @@ unveiled_in reveals i _ = i
 abbrev pub unveiled : List TypeNode → List Reveal → ℕ → ℕ
 unveiled nodes reveals i = unveiled_in reveals i (node_at nodes i)
 
-abbrev pub cell_in : List TypeNode → List Reveal → ℕ → Option TypeNode → Layout
-cell_in nodes reveals i (Some (RefTo brand target)) = target_cell nodes target.0 (node_at nodes target.0)
-cell_in nodes reveals i (Some (OpenArray element)) = open_cell nodes i
-cell_in nodes reveals i _ = object_cell nodes reveals i
+abbrev pub IsCellIn : List TypeNode → List Reveal → ℕ → Option TypeNode → Layout → Type 0
+IsCellIn nodes reveals i (Some (RefTo brand target)) layout = IsTarget nodes target.0 layout
+IsCellIn nodes reveals i (Some (OpenArray element)) layout = IsTarget nodes i layout
+IsCellIn nodes reveals i _ layout = IsObject nodes reveals i layout
 
--- the cell of a REF type, of an open array type, or of an object type
-abbrev pub cell_of : List TypeNode → List Reveal → ℕ → Layout
-cell_of nodes reveals i = cell_in nodes reveals (unveiled nodes reveals i) (node_at nodes (unveiled nodes reveals i))
+-- So the cells of a type are laid out: of a REF type its target, of an open array type its elements, and
+-- of an object type its line.
+abbrev pub IsCell : List TypeNode → List Reveal → ℕ → Layout → Type 0
+IsCell nodes reveals i layout = IsCellIn nodes reveals (unveiled nodes reveals i) (node_at nodes (unveiled nodes reveals i)) layout
 
--- ---- types that have cells
-
--- a type that an object type may be or come from: its fields have sizes, or it is fully revealed, or it is
--- ROOT, MUTEX or a type of the interface Thread
-abbrev pub CanStand : List TypeNode → List Reveal → ℕ → Option TypeNode → Type 0
-CanStand nodes reveals i (Some (Object brand parent fields methods overrides)) = EachField (HasSize nodes) fields.now
-CanStand nodes reveals i (Some (Opaque bound Revealed)) = IsSome (full_reveal reveals i)
-CanStand nodes reveals i (Some (Opaque bound Thread)) = Unit {0}
-CanStand nodes reveals i (Some (Opaque bound Condition)) = Unit {0}
-CanStand nodes reveals i (Some Mutex) = Unit {0}
-CanStand nodes reveals i (Some Root) = Unit {0}
-CanStand nodes reveals i _ = ⊥
-
-abbrev pub OfParent : (ℕ → Type 0) → Option ℕ → Type 0
-OfParent P None = Unit {0}
-OfParent P (Some t) = P t
-
--- an object type, whose ancestors end fewer than so many steps above it
-abbrev pub IsObject : List TypeNode → List Reveal → ℕ → ℕ → Type 0
-IsObject nodes reveals zero i = ⊥
-IsObject nodes reveals (suc limit) i = CanStand nodes reveals i (node_at nodes i) × OfParent (IsObject nodes reveals limit) (parent_at nodes reveals i)
-
-abbrev pub HasCellIn : List TypeNode → List Reveal → ℕ → Option TypeNode → Type 0
-HasCellIn nodes reveals i (Some (RefTo brand target)) = HasSize nodes (open_element nodes target.0)
-HasCellIn nodes reveals i (Some (OpenArray element)) = HasSize nodes (open_element nodes i)
-HasCellIn nodes reveals i _ = IsObject nodes reveals (length nodes) i × (1 + line_words nodes (line_of nodes reveals i) < 2 ^ 64)
-
--- The type has cells: it is a REF type or an open array type, and the target or its elements have a
--- size, or an object type, and the words fit.
+-- The type has cells: their layout is there, and its dimensions and words fit.
 abbrev pub HasCell : List TypeNode → List Reveal → ℕ → Type 0
-HasCell nodes reveals i = HasCellIn nodes reveals (unveiled nodes reveals i) (node_at nodes (unveiled nodes reveals i))
+HasCell nodes reveals i = ∥ ((layout : Layout) × IsCell nodes reveals i layout × (layout.dims < 2 ^ 32) × (layout.words < 2 ^ 64)) ∥₁

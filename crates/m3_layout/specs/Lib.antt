@@ -1,4 +1,5 @@
 pub mod Pointers
 pub mod Cells
-pub mod Walking
 pub mod Shapes
+pub mod Depths
+pub mod Walking

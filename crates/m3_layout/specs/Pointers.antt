@@ -1,17 +1,12 @@
 -- Which words of a value are pointers to cells.
-use Rattle.std.specs.Prelude.{ℕ, zero, suc, ◌+◌, ◌≤◌, List, [], ◌∷◌, ◌++◌, length}
+use Rattle.std.specs.Prelude.{◌≡◌, ℕ, zero, suc, ◌+◌, ◌≤◌, List, [], ◌∷◌, ◌++◌}
 use Rattle.std.specs.Option.{option_map_or}
 use Rattle.m3_types.specs.declared.nodes.Field.{Field}
 use Rattle.m3_types.specs.declared.nodes.TypeNode.{TypeNode}
 use Rattle.m3_types.specs.declared.nodes.TypeNode.TheVariants.{FixedArray, Fields, RefTo, Object, Opaque, Null, RefAny, Text, Mutex, Root}
 use Rattle.m3_types.specs.Definitions.{node_at, head_at}
 use Rattle.m3_types.specs.Kinds.{size_of}
-use Rattle.m3_sizes.specs.Sizes.{words_to_depth}
-
--- The words of a value of a type. The parts of a type that has a size are nested less deep than there
--- are types.
-abbrev pub value_words : List TypeNode → ℕ → ℕ
-value_words nodes i = words_to_depth nodes (length nodes) i
+use Rattle.m3_sizes.specs.Sizes.{words_to_depth, IsSized}
 
 -- The pointers of fields that follow one another from a word on, where w has the words of their types
 -- and p the pointers of a value that begins at a word.
@@ -42,11 +37,12 @@ pointers_of_node nodes w p at _ = []
 -- the pointers of a value of a type whose parts are nested less than so deep
 abbrev pub pointers_to_depth : List TypeNode → ℕ → ℕ → ℕ → List ℕ
 pointers_to_depth nodes zero at i = []
-pointers_to_depth nodes (suc depth) at i = option_map_or (pointers_of_node nodes (value_words nodes) (pointers_to_depth nodes depth) at) (node_at nodes i) []
+pointers_to_depth nodes (suc depth) at i = option_map_or (pointers_of_node nodes (words_to_depth nodes depth) (pointers_to_depth nodes depth) at) (node_at nodes i) []
 
--- the words that are pointers of a value of a type, where its first word has the number `at`
-abbrev pub value_pointers : List TypeNode → ℕ → ℕ → List ℕ
-value_pointers nodes at i = pointers_to_depth nodes (length nodes) at i
+-- The pointers of a value of the type, where its first word has the number `at`, are ps, however deep its
+-- parts are nested.
+abbrev pub ArePointers : List TypeNode → ℕ → ℕ → List ℕ → Type 0
+ArePointers nodes at i ps = ∥ ((depth : ℕ) × (IsSized nodes depth i × (ps ≡ pointers_to_depth nodes depth at i))) ∥₁
 
 -- the numbers rise strictly, from low on, and stay below high
 abbrev pub RisesWithin : ℕ → ℕ → List ℕ → Type 0

@@ -13,7 +13,8 @@ use Rattle.m3_layout.specs.declared.walk.Run.{Run}
 use Rattle.m3_layout.specs.declared.walk.Whole.{Whole}
 use Rattle.m3_layout.specs.declared.walk.Task.{Task}
 use Rattle.m3_layout.specs.declared.walk.Task.TheVariants.{OneValue, FieldsFrom, ElementsLeft}
-use Rattle.m3_layout.specs.Pointers.{value_words, value_pointers, field_pointers, element_pointers}
+use Rattle.m3_layout.specs.Pointers.{field_pointers, element_pointers}
+use Rattle.m3_layout.specs.Depths.{value_words, value_pointers}
 
 -- the fields of a record type
 abbrev pub fields_in : Option TypeNode → List Field

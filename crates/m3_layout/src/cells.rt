@@ -1,10 +1,11 @@
 ghost use Rattle.std.specs.Prelude.{◌≡◌, ◌↔◌, ◌+◌, ◌<◌, ◌≤◌, ◌^◌, length, IsTrue, IfOk};
 ghost use Rattle.m3_layout.specs.Pointers.{RisesWithin};
+ghost use Rattle.m3_layout.specs.Cells.{IsValue, IsCell, HasCell, ref_target, unveiled};
+ghost use Rattle.m3_layout.specs.Shapes.{layout_of, AreInOrder};
+ghost use Rattle.m3_layout.specs.Depths.{value_cell, EndsWithin, open_element, target_cell, object_cell, line_of, line_words};
 ghost use Rattle.std.specs.Option.{option_map};
 ghost use Rattle.m3_types.specs.Definitions.{node_at};
 ghost use Rattle.m3_sizes.specs.Sizes.{HasSize};
-ghost use Rattle.m3_layout.specs.Cells.{HasCell, value_cell, ref_target, IsObject, cell_of, open_element, target_cell, object_cell, line_of, line_words, unveiled};
-ghost use Rattle.m3_layout.specs.Shapes.{layout_of, AreInOrder};
 
 use crate::lines::{line_of, object_words};
 use crate::open::{array_element, open_element};
@@ -14,10 +15,10 @@ use m3_sizes::SizedTypes;
 use m3_types::{Secret, TypeId, TypeNode};
 use std::alloc::Global;
 
-/// The layout of the cells of a type. A cell that isn't open has `dims` 0, its `words` count its header,
-/// and its `pointers` are the words, counted from the header, that hold references. An open cell has
-/// after its header a size for each of its `dims` open dimensions and then its elements: `words` are
-/// those of one element, and `pointers` are counted from the start of each.
+/// The layout of the cells of a type. A cell that isn't open has `dims` 0, its `words` count its
+/// header, and its `pointers` are the words, counted from the header, that hold references. An
+/// open cell has after its header a size for each of its `dims` open dimensions and then its
+/// elements: `words` are those of one element, and `pointers` are counted from the start of each.
 #[derive(Drop)]
 pub struct Shape {
     pub words: u64,
@@ -46,7 +47,8 @@ fn ref_target(types: &SizedTypes, t: TypeId) -> Option<TypeId>
     }
 }
 
-/// The shape of a cell, or of an element, that holds a value of a type behind so many words of a header.
+/// The shape of a cell, or of an element, that holds a value of a type behind so many words of a
+/// header.
 fn value_shape(
     alloc: Global,
     types: &SizedTypes,
@@ -56,7 +58,8 @@ fn value_shape(
 ) -> Result<Shape, NoMemory>
     requires sized { HasSize types.now.graph.nodes.items t.0 }
     requires header { header ≤ 1 }
-    ensures layout { IfOk result (λ shape. layout_of shape ≡ value_cell types.now.graph.nodes.items header dims t.0) }
+    ensures layout { IfOk result (λ shape. layout_of shape
+        ≡ value_cell types.now.graph.nodes.items header dims t.0) }
     ensures rises { IfOk result (λ shape. RisesWithin header shape.words shape.pointers.items) }
 {
     let words = types.words_of(t);
@@ -72,7 +75,9 @@ fn value_shape(
 /// The shape of a value of a type outside a cell: its words, and those that hold references.
 pub fn shape_of_value(alloc: Global, types: &SizedTypes, t: TypeId) -> Result<Shape, NoMemory>
     requires { HasSize types.now.graph.nodes.items t.0 }
-    ensures layout { IfOk result (λ shape. layout_of shape ≡ value_cell types.now.graph.nodes.items 0 0 t.0) }
+    ensures value { IfOk result (λ shape.
+        IsValue types.now.graph.nodes.items 0 t.0 shape.words shape.pointers.items) }
+    ensures closed { IfOk result (λ shape. shape.dims ≡ 0) }
     ensures rises { IfOk result (λ shape. RisesWithin 0 shape.words shape.pointers.items) }
 {
     let shape = value_shape(alloc, types, t, 0, 0)?;
@@ -82,7 +87,8 @@ pub fn shape_of_value(alloc: Global, types: &SizedTypes, t: TypeId) -> Result<Sh
 /// The shape of a cell that holds a value of a type, or, of an open array, its elements.
 fn target_shape(alloc: Global, types: &SizedTypes, t: TypeId) -> Result<Shape, NoMemory>
     requires { HasSize types.now.graph.nodes.items (open_element types.now.graph.nodes.items t.0) }
-    ensures layout { IfOk result (λ shape. layout_of shape ≡ target_cell types.now.graph.nodes.items t.0 (node_at types.now.graph.nodes.items t.0)) }
+    ensures layout { IfOk result (λ shape. layout_of shape
+        ≡ target_cell types.now.graph.nodes.items t.0 (node_at types.now.graph.nodes.items t.0)) }
     ensures order { IfOk result (λ shape. AreInOrder (layout_of shape)) }
 {
     let (element, dims) = open_element(types, t);
@@ -95,12 +101,15 @@ fn target_shape(alloc: Global, types: &SizedTypes, t: TypeId) -> Result<Shape, N
     }
 }
 
-/// The shape of an object's cell: the words of MUTEX or of a type of the interface Thread, and then the
-/// fields of all ancestors, the topmost first.
+/// The shape of an object's cell: the words of MUTEX or of a type of the interface Thread, and
+/// then the fields of all ancestors, the topmost first.
 fn object_shape(alloc: Global, types: &SizedTypes, t: TypeId) -> Result<Shape, NoMemory>
-    requires object { IsObject types.now.graph.nodes.items types.now.graph.reveals.items (length types.now.graph.nodes.items) t.0 }
-    requires fits { 1 + line_words types.now.graph.nodes.items (line_of types.now.graph.nodes.items types.now.graph.reveals.items t.0) < 2 ^ 64 }
-    ensures layout { IfOk result (λ shape. layout_of shape ≡ object_cell types.now.graph.nodes.items types.now.graph.reveals.items t.0) }
+    requires object { EndsWithin types.now.graph.nodes.items types.now.graph.reveals.items
+        (length types.now.graph.nodes.items) t.0 }
+    requires fits { 1 + line_words types.now.graph.nodes.items
+        (line_of types.now.graph.nodes.items types.now.graph.reveals.items t.0) < 2 ^ 64 }
+    ensures layout { IfOk result (λ shape. layout_of shape
+        ≡ object_cell types.now.graph.nodes.items types.now.graph.reveals.items t.0) }
     ensures order { IfOk result (λ shape. AreInOrder (layout_of shape)) }
 {
     let line = line_of(alloc, types, t)?;
@@ -113,10 +122,12 @@ fn object_shape(alloc: Global, types: &SizedTypes, t: TypeId) -> Result<Shape, N
     })
 }
 
-/// Whether a type has cells: it is a REF type or an open array type and its target or elements have a
-/// size, or an object type whose fields have sizes and whose ancestors end, and its words are below 2^64.
+/// Whether a type has cells: it is a REF type or an open array type and its target or elements
+/// have a size, and its dimensions are below 2^32, or an object type whose fields have sizes and
+/// whose ancestors end, and its words are below 2^64.
 pub fn has_cell(types: &SizedTypes, t: TypeId) -> bool
-    ensures { IsTrue result ↔ HasCell types.now.graph.nodes.items types.now.graph.reveals.items t.0 }
+    ensures { IsTrue result
+        ↔ HasCell types.now.graph.nodes.items types.now.graph.reveals.items t.0 }
 {
     let shown = unveiled(types, t);
     if let Some(target) = ref_target(types, shown) {
@@ -128,14 +139,15 @@ pub fn has_cell(types: &SizedTypes, t: TypeId) -> bool
     object_words(types, shown).is_some()
 }
 
-/// The shape of the cells of a type: of a REF type a header and the target; of a REF to an open array,
-/// and of an open array type itself, whose values are copied for VALUE formals, an element; of an object
-/// type a header and the fields of its ancestors, MUTEX with its holder and Thread.T with the thread's
-/// number, state and result in front. An opaque type counts as the type that fully reveals it (the
-/// report, sections 2.2.5 to 2.2.9, leaves the words to the implementation).
+/// The shape of the cells of a type: of a REF type a header and the target; of a REF to an open
+/// array, and of an open array type itself, whose values are copied for VALUE formals, an element;
+/// of an object type a header and the fields of its ancestors, MUTEX with its holder and Thread.T
+/// with the thread's number, state and result in front. An opaque type counts as the type that
+/// fully reveals it (the report, sections 2.2.5 to 2.2.9, leaves the words to the implementation).
 pub fn cell_shape(alloc: Global, types: &SizedTypes, t: TypeId) -> Result<Shape, NoMemory>
     requires { HasCell types.now.graph.nodes.items types.now.graph.reveals.items t.0 }
-    ensures layout { IfOk result (λ shape. layout_of shape ≡ cell_of types.now.graph.nodes.items types.now.graph.reveals.items t.0) }
+    ensures layout { IfOk result (λ shape.
+        IsCell types.now.graph.nodes.items types.now.graph.reveals.items t.0 (layout_of shape)) }
     ensures order { IfOk result (λ shape. AreInOrder (layout_of shape)) }
 {
     let shown = unveiled(types, t);

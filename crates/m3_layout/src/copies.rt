@@ -9,8 +9,10 @@ use m3_base::NoMemory;
 fn copy_once(offsets: &mut Vec<u64>, run: Run, at: u64) -> Result<(), NoMemory>
     requires ordered { run.start ≤ run.end }
     requires within { run.end ≤ length offsets.old.items }
-    requires fits { All (λ p. (run.at ≤ p) × (p - run.at + at < 2 ^ 64)) (run_of offsets.old.items run) }
-    ensures { OnOk result (offsets.new.items ≡ offsets.old.items ++ map (λ p. p - run.at + at) (run_of offsets.old.items run)) }
+    requires fits { All (λ p. (run.at ≤ p) × (p - run.at + at
+        < 2 ^ 64)) (run_of offsets.old.items run) }
+    ensures { OnOk result (offsets.new.items ≡ offsets.old.items
+        ++ map (λ p. p - run.at + at) (run_of offsets.old.items run)) }
 {
     for i in 0..run.end - run.start {
         let pointer = offsets[run.start + i];
@@ -29,10 +31,12 @@ pub(crate) fn copy_run(
 ) -> Result<(), NoMemory>
     requires ordered { run.start ≤ run.end }
     requires within { run.end ≤ length offsets.old.items }
-    requires inside { All (λ p. (run.at ≤ p) × (p - run.at < words)) (run_of offsets.old.items run) }
+    requires inside { All (λ p. (run.at ≤ p) × (p - run.at
+        < words)) (run_of offsets.old.items run) }
     requires fits { at + count * words < 2 ^ 64 }
     ensures { OnOk result (offsets.new.items ≡
-        offsets.old.items ++ element_pointers words (λ k. map (λ p. p - run.at + k) (run_of offsets.old.items run)) at count) }
+        offsets.old.items ++ element_pointers words (λ k. map (λ p. p - run.at + k)
+        (run_of offsets.old.items run)) at count) }
 {
     if run.start == run.end {
         return Ok(());

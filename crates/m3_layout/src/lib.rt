@@ -1,4 +1,5 @@
-//! How the cells of a type are laid out: how many words they have, and which of these are pointers.
+//! How the cells of a type are laid out: how many words they have, and which of these are
+//! pointers.
 #![tactic(auto)]
 
 mod cells;

@@ -2,8 +2,8 @@ ghost use Rattle.std.specs.Prelude.{◌≡◌, ◌+◌, ◌<◌, ◌^◌, ◌++�
 ghost use Rattle.std.specs.Option.{option_map, option_copied};
 ghost use Rattle.m3_types.specs.Definitions.{node_at};
 ghost use Rattle.m3_sizes.specs.Sizes.{HasSize, EachField, field_words};
-ghost use Rattle.m3_layout.specs.Pointers.{value_words};
-ghost use Rattle.m3_layout.specs.Cells.{CanStand, object_fields, is_thread, mutex_words, IsObject, parent_at, line_of, line_words, line_pointers, own_words, own_pointers};
+ghost use Rattle.m3_layout.specs.Cells.{parent_at};
+ghost use Rattle.m3_layout.specs.Depths.{value_words, CanStand, object_fields, is_thread, mutex_words, EndsWithin, line_of, line_words, line_pointers, own_words, own_pointers};
 ghost use Rattle.m3_layout.specs.Walking.{AreRuns};
 
 use crate::walk::Walk;
@@ -12,9 +12,11 @@ use m3_sizes::SizedTypes;
 use m3_types::{Field, Secret, TypeId, TypeNode, node_at};
 use std::alloc::Global;
 
-/// What an object type adds its fields to: its parent, or the type that fully reveals an opaque type.
+/// What an object type adds its fields to: its parent, or the type that fully reveals an opaque
+/// type.
 fn parent_of(types: &SizedTypes, t: TypeId) -> Option<TypeId>
-    ensures { option_map (λ u. u.0) result ≡ parent_at types.now.graph.nodes.items types.now.graph.reveals.items t.0 }
+    ensures { option_map (λ u. u.0) result
+        ≡ parent_at types.now.graph.nodes.items types.now.graph.reveals.items t.0 }
 {
     match types.graph.nodes.get(t.0 as usize) {
         Some(TypeNode::Object(_, parent, _, _, _)) => Some(*parent),
@@ -40,13 +42,16 @@ fn field_words(types: &SizedTypes, fields: &[Field]) -> Option<u64>
     Some(sum)
 }
 
-/// The words that a type has in a cell beside those of its ancestors; none where it can't stand there, or
-/// the words pass 64 bits.
+/// The words that a type has in a cell beside those of its ancestors; none where it can't stand
+/// there, or the words pass 64 bits.
 fn own_words(types: &SizedTypes, t: TypeId) -> Option<u64>
-    ensures some { IfSome result (λ w. CanStand types.now.graph.nodes.items types.now.graph.reveals.items t.0 (node_at types.now.graph.nodes.items t.0)
+    ensures some { IfSome result (λ w. CanStand types.now.graph.nodes.items
+        types.now.graph.reveals.items t.0 (node_at types.now.graph.nodes.items t.0)
         × (w ≡ own_words types.now.graph.nodes.items (node_at types.now.graph.nodes.items t.0))) }
-    ensures none { IfNone result (CanStand types.now.graph.nodes.items types.now.graph.reveals.items t.0 (node_at types.now.graph.nodes.items t.0) →
-        own_words types.now.graph.nodes.items (node_at types.now.graph.nodes.items t.0) < 2 ^ 64 → ⊥) }
+    ensures none { IfNone result (CanStand types.now.graph.nodes.items
+        types.now.graph.reveals.items t.0 (node_at types.now.graph.nodes.items t.0) →
+        own_words types.now.graph.nodes.items (node_at types.now.graph.nodes.items t.0) < 2 ^ 64
+        → ⊥) }
 {
     match types.graph.nodes.get(t.0 as usize)? {
         TypeNode::Object(_, _, fields, _, _) => field_words(types, fields),
@@ -60,10 +65,14 @@ fn own_words(types: &SizedTypes, t: TypeId) -> Option<u64>
 
 /// The words of the cells of an object type; none where it is no object type or has no cells.
 pub(crate) fn object_words(types: &SizedTypes, t: TypeId) -> Option<u64>
-    ensures some { IfSome result (λ w. IsObject types.now.graph.nodes.items types.now.graph.reveals.items (length types.now.graph.nodes.items) t.0
-        × (w ≡ 1 + line_words types.now.graph.nodes.items (line_of types.now.graph.nodes.items types.now.graph.reveals.items t.0)) × (w < 2 ^ 64)) }
-    ensures none { IfNone result (IsObject types.now.graph.nodes.items types.now.graph.reveals.items (length types.now.graph.nodes.items) t.0 →
-        1 + line_words types.now.graph.nodes.items (line_of types.now.graph.nodes.items types.now.graph.reveals.items t.0) < 2 ^ 64 → ⊥) }
+    ensures some { IfSome result (λ w. EndsWithin types.now.graph.nodes.items
+        types.now.graph.reveals.items (length types.now.graph.nodes.items) t.0
+        × (w ≡ 1 + line_words types.now.graph.nodes.items
+        (line_of types.now.graph.nodes.items types.now.graph.reveals.items t.0)) × (w < 2 ^ 64)) }
+    ensures none { IfNone result (EndsWithin types.now.graph.nodes.items
+        types.now.graph.reveals.items (length types.now.graph.nodes.items) t.0 →
+        1 + line_words types.now.graph.nodes.items
+        (line_of types.now.graph.nodes.items types.now.graph.reveals.items t.0) < 2 ^ 64 → ⊥) }
 {
     let mut words = 1u64;
     let mut top = t;
@@ -79,9 +88,13 @@ pub(crate) fn object_words(types: &SizedTypes, t: TypeId) -> Option<u64>
 
 /// An object type and its ancestors, the topmost first.
 pub(crate) fn line_of(alloc: Global, types: &SizedTypes, t: TypeId) -> Result<Vec<TypeId>, NoMemory>
-    requires { IsObject types.now.graph.nodes.items types.now.graph.reveals.items (length types.now.graph.nodes.items) t.0 }
-    ensures line { IfOk result (λ line. map (λ u. u.0) line.items ≡ line_of types.now.graph.nodes.items types.now.graph.reveals.items t.0) }
-    ensures stand { IfOk result (λ line. All (λ u. CanStand types.now.graph.nodes.items types.now.graph.reveals.items u.0 (node_at types.now.graph.nodes.items u.0)) line.items) }
+    requires { EndsWithin types.now.graph.nodes.items types.now.graph.reveals.items
+        (length types.now.graph.nodes.items) t.0 }
+    ensures line { IfOk result (λ line. map (λ u. u.0) line.items
+        ≡ line_of types.now.graph.nodes.items types.now.graph.reveals.items t.0) }
+    ensures stand { IfOk result (λ line. All
+        (λ u. CanStand types.now.graph.nodes.items types.now.graph.reveals.items u.0
+        (node_at types.now.graph.nodes.items u.0)) line.items) }
 {
     let mut line = Vec::new(alloc);
     line.push(t)?;
@@ -125,18 +138,24 @@ fn mutex_words(types: &SizedTypes, t: TypeId) -> u64
 }
 
 impl Walk {
-    /// Adds the pointers that a type has in a cell beside those of its ancestors, from a word on, and
-    /// gives the word after its part.
+    /// Adds the pointers that a type has in a cell beside those of its ancestors, from a word on,
+    /// and gives the word after its part.
     fn add_own(&mut self, types: &SizedTypes, t: TypeId, at: u64) -> Result<u64, NoMemory>
         requires known { AreRuns types.now.graph.nodes.items self.old.offsets.items self.old.runs }
         requires idle { self.old.tasks.items ≡ [] }
-        requires stands { CanStand types.now.graph.nodes.items types.now.graph.reveals.items t.0 (node_at types.now.graph.nodes.items t.0) }
-        requires fits { at + own_words types.now.graph.nodes.items (node_at types.now.graph.nodes.items t.0) < 2 ^ 64 }
-        ensures known { OnOk result (AreRuns types.now.graph.nodes.items self.new.offsets.items self.new.runs) }
+        requires stands { CanStand types.now.graph.nodes.items types.now.graph.reveals.items t.0
+            (node_at types.now.graph.nodes.items t.0) }
+        requires fits { at + own_words types.now.graph.nodes.items
+            (node_at types.now.graph.nodes.items t.0) < 2 ^ 64 }
+        ensures known { OnOk result (AreRuns types.now.graph.nodes.items self.new.offsets.items
+            self.new.runs) }
         ensures idle { OnOk result (self.new.tasks.items ≡ []) }
         ensures offsets { OnOk result (self.new.offsets.items ≡
-            self.old.offsets.items ++ own_pointers types.now.graph.nodes.items at (node_at types.now.graph.nodes.items t.0)) }
-        ensures after { IfOk result (λ after. after ≡ at + own_words types.now.graph.nodes.items (node_at types.now.graph.nodes.items t.0)) }
+            self.old.offsets.items ++ own_pointers types.now.graph.nodes.items at
+            (node_at types.now.graph.nodes.items t.0)) }
+        ensures after { IfOk result (λ after. after
+            ≡ at + own_words types.now.graph.nodes.items
+            (node_at types.now.graph.nodes.items t.0)) }
     {
         if let Some(fields) = object_fields(types, t) {
             return self.add_fields(types, fields, at);
@@ -157,11 +176,15 @@ impl Walk {
     ) -> Result<u64, NoMemory>
         requires known { AreRuns types.now.graph.nodes.items self.old.offsets.items self.old.runs }
         requires idle { self.old.tasks.items ≡ [] }
-        requires stand { All (λ u. CanStand types.now.graph.nodes.items types.now.graph.reveals.items u.0 (node_at types.now.graph.nodes.items u.0)) line.now }
-        requires fits { at + line_words types.now.graph.nodes.items (map (λ u. u.0) line.now) < 2 ^ 64 }
+        requires stand { All (λ u. CanStand types.now.graph.nodes.items
+            types.now.graph.reveals.items u.0 (node_at types.now.graph.nodes.items u.0)) line.now }
+        requires fits { at + line_words types.now.graph.nodes.items (map (λ u. u.0) line.now)
+            < 2 ^ 64 }
         ensures offsets { OnOk result (self.new.offsets.items ≡
-            self.old.offsets.items ++ line_pointers types.now.graph.nodes.items at (map (λ u. u.0) line.now)) }
-        ensures after { IfOk result (λ after. after ≡ at + line_words types.now.graph.nodes.items (map (λ u. u.0) line.now)) }
+            self.old.offsets.items ++ line_pointers types.now.graph.nodes.items at (map
+            (λ u. u.0) line.now)) }
+        ensures after { IfOk result (λ after. after
+            ≡ at + line_words types.now.graph.nodes.items (map (λ u. u.0) line.now)) }
     {
         let mut next = at;
         for t in line {

@@ -12,12 +12,17 @@ use m3_types::TypeId;
 impl Walk {
     /// Tells the pointers of a value, or begins with its parts.
     fn tell_value(&mut self, types: &SizedTypes, t: TypeId, at: u64) -> Result<(), NoMemory>
-        requires { IsWalk types.now.graph.nodes.items self.old.offsets.items (self.old.tasks.items ++ OneValue t at ∷ []) self.old.runs }
-        ensures walk { OnOk result (IsWalk types.now.graph.nodes.items self.new.offsets.items self.new.tasks.items self.new.runs) }
-        ensures same { OnOk result (self.new.offsets.items ++ pending types.now.graph.nodes.items self.new.tasks.items
-            ≡ self.old.offsets.items ++ pending types.now.graph.nodes.items (self.old.tasks.items ++ OneValue t at ∷ [])) }
+        requires { IsWalk types.now.graph.nodes.items self.old.offsets.items (self.old.tasks.items
+            ++ OneValue t at ∷ []) self.old.runs }
+        ensures walk { OnOk result (IsWalk types.now.graph.nodes.items self.new.offsets.items
+            self.new.tasks.items self.new.runs) }
+        ensures same { OnOk result (self.new.offsets.items
+            ++ pending types.now.graph.nodes.items self.new.tasks.items
+            ≡ self.old.offsets.items ++ pending types.now.graph.nodes.items (self.old.tasks.items
+            ++ OneValue t at ∷ [])) }
         ensures less { OnOk result (total_effort types.now.graph.nodes.items self.new.tasks.items
-            < total_effort types.now.graph.nodes.items (self.old.tasks.items ++ OneValue t at ∷ [])) }
+            < total_effort types.now.graph.nodes.items (self.old.tasks.items
+            ++ OneValue t at ∷ [])) }
     {
         if let Some(run) = self.runs.get(&t.0) {
             let run = *run;
@@ -56,12 +61,17 @@ impl Walk {
         next: usize,
         at: u64,
     ) -> Result<(), NoMemory>
-        requires { IsWalk types.now.graph.nodes.items self.old.offsets.items (self.old.tasks.items ++ FieldsFrom whole next at ∷ []) self.old.runs }
-        ensures walk { OnOk result (IsWalk types.now.graph.nodes.items self.new.offsets.items self.new.tasks.items self.new.runs) }
-        ensures same { OnOk result (self.new.offsets.items ++ pending types.now.graph.nodes.items self.new.tasks.items
-            ≡ self.old.offsets.items ++ pending types.now.graph.nodes.items (self.old.tasks.items ++ FieldsFrom whole next at ∷ [])) }
+        requires { IsWalk types.now.graph.nodes.items self.old.offsets.items (self.old.tasks.items
+            ++ FieldsFrom whole next at ∷ []) self.old.runs }
+        ensures walk { OnOk result (IsWalk types.now.graph.nodes.items self.new.offsets.items
+            self.new.tasks.items self.new.runs) }
+        ensures same { OnOk result (self.new.offsets.items
+            ++ pending types.now.graph.nodes.items self.new.tasks.items
+            ≡ self.old.offsets.items ++ pending types.now.graph.nodes.items (self.old.tasks.items
+            ++ FieldsFrom whole next at ∷ [])) }
         ensures less { OnOk result (total_effort types.now.graph.nodes.items self.new.tasks.items
-            < total_effort types.now.graph.nodes.items (self.old.tasks.items ++ FieldsFrom whole next at ∷ [])) }
+            < total_effort types.now.graph.nodes.items (self.old.tasks.items
+            ++ FieldsFrom whole next at ∷ [])) }
     {
         match field_at(types, whole.kind, next) {
             Some(kind) => {
@@ -77,8 +87,8 @@ impl Walk {
         }
     }
 
-    /// Begins with the next element of an array, or copies what the first one gave, or notes where the
-    /// array's pointers stand.
+    /// Begins with the next element of an array, or copies what the first one gave, or notes where
+    /// the array's pointers stand.
     fn tell_elements(
         &mut self,
         types: &SizedTypes,
@@ -87,12 +97,17 @@ impl Walk {
         left: u128,
         at: u64,
     ) -> Result<(), NoMemory>
-        requires { IsWalk types.now.graph.nodes.items self.old.offsets.items (self.old.tasks.items ++ ElementsLeft whole element left at ∷ []) self.old.runs }
-        ensures walk { OnOk result (IsWalk types.now.graph.nodes.items self.new.offsets.items self.new.tasks.items self.new.runs) }
-        ensures same { OnOk result (self.new.offsets.items ++ pending types.now.graph.nodes.items self.new.tasks.items
-            ≡ self.old.offsets.items ++ pending types.now.graph.nodes.items (self.old.tasks.items ++ ElementsLeft whole element left at ∷ [])) }
+        requires { IsWalk types.now.graph.nodes.items self.old.offsets.items (self.old.tasks.items
+            ++ ElementsLeft whole element left at ∷ []) self.old.runs }
+        ensures walk { OnOk result (IsWalk types.now.graph.nodes.items self.new.offsets.items
+            self.new.tasks.items self.new.runs) }
+        ensures same { OnOk result (self.new.offsets.items
+            ++ pending types.now.graph.nodes.items self.new.tasks.items
+            ≡ self.old.offsets.items ++ pending types.now.graph.nodes.items (self.old.tasks.items
+            ++ ElementsLeft whole element left at ∷ [])) }
         ensures less { OnOk result (total_effort types.now.graph.nodes.items self.new.tasks.items
-            < total_effort types.now.graph.nodes.items (self.old.tasks.items ++ ElementsLeft whole element left at ∷ [])) }
+            < total_effort types.now.graph.nodes.items (self.old.tasks.items
+            ++ ElementsLeft whole element left at ∷ [])) }
     {
         if left == 0 {
             self.close(types, whole)?;
@@ -113,10 +128,14 @@ impl Walk {
 
     /// Carries out one task.
     pub(crate) fn tell(&mut self, types: &SizedTypes, task: Task) -> Result<(), NoMemory>
-        requires { IsWalk types.now.graph.nodes.items self.old.offsets.items (self.old.tasks.items ++ task ∷ []) self.old.runs }
-        ensures walk { OnOk result (IsWalk types.now.graph.nodes.items self.new.offsets.items self.new.tasks.items self.new.runs) }
-        ensures same { OnOk result (self.new.offsets.items ++ pending types.now.graph.nodes.items self.new.tasks.items
-            ≡ self.old.offsets.items ++ pending types.now.graph.nodes.items (self.old.tasks.items ++ task ∷ [])) }
+        requires { IsWalk types.now.graph.nodes.items self.old.offsets.items (self.old.tasks.items
+            ++ task ∷ []) self.old.runs }
+        ensures walk { OnOk result (IsWalk types.now.graph.nodes.items self.new.offsets.items
+            self.new.tasks.items self.new.runs) }
+        ensures same { OnOk result (self.new.offsets.items
+            ++ pending types.now.graph.nodes.items self.new.tasks.items
+            ≡ self.old.offsets.items ++ pending types.now.graph.nodes.items (self.old.tasks.items
+            ++ task ∷ [])) }
         ensures less { OnOk result (total_effort types.now.graph.nodes.items self.new.tasks.items
             < total_effort types.now.graph.nodes.items (self.old.tasks.items ++ task ∷ [])) }
     {

@@ -2,7 +2,8 @@ ghost use Rattle.std.specs.Prelude.{◌≡◌, ◌+◌, ◌<◌, ◌≤◌, ◌^
 ghost use Rattle.m3_types.specs.declared.nodes.Field.{Field as AField};
 ghost use Rattle.m3_types.specs.declared.nodes.TypeNode.{TypeNode as ANode};
 ghost use Rattle.m3_sizes.specs.Sizes.{HasSize, EachField, field_words};
-ghost use Rattle.m3_layout.specs.Pointers.{value_words, value_pointers, field_pointers};
+ghost use Rattle.m3_layout.specs.Pointers.{field_pointers};
+ghost use Rattle.m3_layout.specs.Depths.{value_words, value_pointers};
 ghost use Rattle.m3_layout.specs.Walking.{fields_in, fields_at, is_record, array_parts, IsOpen, AreRuns};
 ghost use Rattle.std.specs.Option.{option_map, option_copied, unwrap_or};
 ghost use Rattle.m3_types.specs.Definitions.{node_at, head_at};
@@ -38,8 +39,10 @@ fn fields_of<'a>(types: &SizedTypes<'a>, t: TypeId) -> Option<&'a [Field<'a>]>
 pub(crate) fn field_at(types: &SizedTypes, whole: TypeId, n: usize) -> Option<TypeId>
     ensures { MatchOption result
         (drop n (fields_at types.now.graph.nodes.items whole.0) ≡ [])
-        (λ t. (f : AField) × (f.kind ≡ t) × (n < length (fields_at types.now.graph.nodes.items whole.0))
-        × (drop n (fields_at types.now.graph.nodes.items whole.0) ≡ f ∷ drop (n + 1) (fields_at types.now.graph.nodes.items whole.0)) × (n + 1 < 2 ^ 64)) }
+        (λ t. (f : AField) × (f.kind ≡ t) × (n
+        < length (fields_at types.now.graph.nodes.items whole.0))
+        × (drop n (fields_at types.now.graph.nodes.items whole.0)
+        ≡ f ∷ drop (n + 1) (fields_at types.now.graph.nodes.items whole.0)) × (n + 1 < 2 ^ 64)) }
 {
     let Some(fields) = fields_of(types, whole) else {
         return None;
@@ -62,7 +65,8 @@ pub(crate) fn is_record(types: &SizedTypes, t: TypeId) -> bool
 
 /// The index type and the element type of a fixed array.
 pub(crate) fn array_parts(types: &SizedTypes, t: TypeId) -> Option<(TypeId, TypeId)>
-    ensures { option_map (λ p. (p.0.0, p.1.0)) result ≡ array_parts (node_at types.now.graph.nodes.items t.0) }
+    ensures { option_map (λ p. (p.0.0, p.1.0)) result
+        ≡ array_parts (node_at types.now.graph.nodes.items t.0) }
 {
     match types.graph.nodes.get(t.0 as usize) {
         Some(TypeNode::FixedArray(index, element)) => Some((*index, *element)),
@@ -107,7 +111,8 @@ impl Walk {
     pub(crate) fn close(&mut self, types: &SizedTypes, whole: Whole) -> Result<(), NoMemory>
         requires known { AreRuns types.now.graph.nodes.items self.old.offsets.items self.old.runs }
         requires open { IsOpen types.now.graph.nodes.items self.old.offsets.items whole [] }
-        ensures known { OnOk result (AreRuns types.now.graph.nodes.items self.new.offsets.items self.new.runs) }
+        ensures known { OnOk result (AreRuns types.now.graph.nodes.items self.new.offsets.items
+            self.new.runs) }
         ensures offsets { OnOk result (self.new.offsets.items ≡ self.old.offsets.items) }
         ensures tasks { OnOk result (self.new.tasks.items ≡ self.old.tasks.items) }
     {
@@ -132,9 +137,11 @@ impl Walk {
         requires idle { self.old.tasks.items ≡ [] }
         requires sized { HasSize types.now.graph.nodes.items t.0 }
         requires fits { at + value_words types.now.graph.nodes.items t.0 < 2 ^ 64 }
-        ensures known { OnOk result (AreRuns types.now.graph.nodes.items self.new.offsets.items self.new.runs) }
+        ensures known { OnOk result (AreRuns types.now.graph.nodes.items self.new.offsets.items
+            self.new.runs) }
         ensures idle { OnOk result (self.new.tasks.items ≡ []) }
-        ensures offsets { OnOk result (self.new.offsets.items ≡ self.old.offsets.items ++ value_pointers types.now.graph.nodes.items at t.0) }
+        ensures offsets { OnOk result (self.new.offsets.items ≡ self.old.offsets.items
+            ++ value_pointers types.now.graph.nodes.items at t.0) }
     {
         let _words = types.words_of(t);
         self.tasks.push(Task::OneValue(t, at))?;
@@ -144,7 +151,8 @@ impl Walk {
         Ok(())
     }
 
-    /// Adds the pointers of fields that follow one another from a word on, and gives the word after them.
+    /// Adds the pointers of fields that follow one another from a word on, and gives the word
+    /// after them.
     pub(crate) fn add_fields(
         &mut self,
         types: &SizedTypes,
@@ -154,12 +162,16 @@ impl Walk {
         requires known { AreRuns types.now.graph.nodes.items self.old.offsets.items self.old.runs }
         requires idle { self.old.tasks.items ≡ [] }
         requires sized { EachField (HasSize types.now.graph.nodes.items) fields.now }
-        requires fits { at + field_words (value_words types.now.graph.nodes.items) fields.now < 2 ^ 64 }
-        ensures known { OnOk result (AreRuns types.now.graph.nodes.items self.new.offsets.items self.new.runs) }
+        requires fits { at + field_words (value_words types.now.graph.nodes.items) fields.now
+            < 2 ^ 64 }
+        ensures known { OnOk result (AreRuns types.now.graph.nodes.items self.new.offsets.items
+            self.new.runs) }
         ensures idle { OnOk result (self.new.tasks.items ≡ []) }
         ensures offsets { OnOk result (self.new.offsets.items ≡
-            self.old.offsets.items ++ field_pointers (value_words types.now.graph.nodes.items) (value_pointers types.now.graph.nodes.items) at fields.now) }
-        ensures after { IfOk result (λ after. after ≡ at + field_words (value_words types.now.graph.nodes.items) fields.now) }
+            self.old.offsets.items ++ field_pointers (value_words types.now.graph.nodes.items)
+            (value_pointers types.now.graph.nodes.items) at fields.now) }
+        ensures after { IfOk result (λ after. after
+            ≡ at + field_words (value_words types.now.graph.nodes.items) fields.now) }
     {
         let mut next = at;
         for field in fields {

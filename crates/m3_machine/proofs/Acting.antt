@@ -9,7 +9,7 @@ use Rattle.m3_sections.specs.Parts.{Program}
 use Rattle.m3_strides.specs.declared.near.Stack.{Stack}
 use Rattle.m3_strides.specs.declared.near.Place.{Place}
 use Rattle.m3_strides.specs.State.{State, HasOtherWords, regs_set, with_regs, memory_of, can_set}
-use Rattle.m3_strides.specs.Act.{Writes, Goes as Goes_with, using}
+use Rattle.m3_strides.specs.Act.{Writes, Proceeds as Goes_with, using}
 use Rattle.m3_strides.specs.Progress.{Progress, Goes, Ends, Follows, GoesOver}
 use Rattle.m3_strides.specs.Calls.{place_of, come_to, entering, framed, calls, returning, returns}
 

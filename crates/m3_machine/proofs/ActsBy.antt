@@ -17,7 +17,7 @@ use Rattle.m3_threads.specs.declared.status.Thread.{Thread}
 use Rattle.m3_sections.specs.Parts.{Program, CellType}
 use Rattle.m3_strides.specs.declared.near.Stack.{Stack}
 use Rattle.m3_strides.specs.State.{State, executed}
-use Rattle.m3_strides.specs.Act.{Act, Goes, Writes, Takes, bytes_of, using, finding, or_trap, traps}
+use Rattle.m3_strides.specs.Act.{Act, Proceeds, Writes, Takes, bytes_of, using, finding, or_trap, stops_with_trap}
 use Rattle.m3_strides.specs.Calls.{place_of, come_to, entering, framed, calls, returning, returns, method_at, tells_method}
 use Rattle.m3_strides.specs.Acts.{faults, uncaught, gets, tells_self}
 use Rattle.m3_strides.specs.Progress.{Progress}
@@ -79,16 +79,16 @@ no_bytes_of_call p callee stack regs memory can =
     no_bytes (finding callee (λ n. entering p n stack (place_of regs))) (λ to. Writes (come_to to regs) (framed to (place_of regs) memory can)) (λ to. refl)
 
 pub no_bytes_of_return : (code : ℕ) (regs : Regs) (memory : Memory) → [] ≡ bytes_of (returns code regs memory)
-no_bytes_of_return code regs memory = no_bytes (returning code (place_of regs) memory) (λ to. Goes (come_to to regs)) (λ to. refl)
+no_bytes_of_return code regs memory = no_bytes (returning code (place_of regs) memory) (λ to. Proceeds (come_to to regs)) (λ to. refl)
 
 pub no_bytes_of_method : (types : List CellType) (i : Instr) (regs : Regs) (memory : Memory) → [] ≡ bytes_of (tells_method types i regs memory)
-no_bytes_of_method types i regs memory = no_bytes (method_at types memory (reg regs i.b) (cast_unsigned w32 i.imm)) (λ method. Goes (answered regs i.a method)) (λ method. refl)
+no_bytes_of_method types i regs memory = no_bytes (method_at types memory (reg regs i.b) (cast_unsigned w32 i.imm)) (λ method. Proceeds (answered regs i.a method)) (λ method. refl)
 
-pub no_bytes_of_test : (told : Result Bool Outcome) (regs : Regs) (a : ℕ) → [] ≡ bytes_of (using told (λ is. Goes (answered regs a (flag is))))
-no_bytes_of_test told regs a = no_bytes told (λ is. Goes (answered regs a (flag is))) (λ is. refl)
+pub no_bytes_of_test : (told : Result Bool Outcome) (regs : Regs) (a : ℕ) → [] ≡ bytes_of (using told (λ is. Proceeds (answered regs a (flag is))))
+no_bytes_of_test told regs a = no_bytes told (λ is. Proceeds (answered regs a (flag is))) (λ is. refl)
 
 pub no_bytes_of_self : (stack : Stack) (i : Instr) (regs : Regs) (memory : Memory) → [] ≡ bytes_of (tells_self stack i regs memory)
-no_bytes_of_self stack i regs memory = no_bytes (or_trap 2 (memory (add_words stack.base 2))) (λ cell. Goes (answered regs i.a cell)) (λ cell. refl)
+no_bytes_of_self stack i regs memory = no_bytes (or_trap 2 (memory (add_words stack.base 2))) (λ cell. Proceeds (answered regs i.a cell)) (λ cell. refl)
 
 pub no_bytes_of_fault : (kind : Option FaultKind) (place : Option (ℕ × ℕ)) → [] ≡ bytes_of (faults kind place)
 no_bytes_of_fault None place = refl
@@ -104,10 +104,10 @@ no_bytes_if true one other a d = a
 no_bytes_if false one other a d = d
 
 pub no_bytes_of_get : (input : List ℕ) (taken : ℕ) (i : Instr) (regs : Regs) → [] ≡ bytes_of (gets input taken i regs)
-no_bytes_of_get input taken i regs = no_bytes_if (nat_le (length input) taken) (Goes (jumped regs i.imm)) (Takes (answered regs i.a (slice_index_or input taken 0))) refl refl
+no_bytes_of_get input taken i regs = no_bytes_if (nat_le (length input) taken) (Proceeds (jumped regs i.imm)) (Takes (answered regs i.a (slice_index_or input taken 0))) refl refl
 
-pub no_bytes_of_uncaught : (b : Bool) (name : Option (List ℕ)) (n : ℕ) → [] ≡ bytes_of (if b then uncaught name n else traps 5)
-no_bytes_of_uncaught b name n = no_bytes_if b (uncaught name n) (traps 5) (no_bytes_uncaught name n) refl
+pub no_bytes_of_uncaught : (b : Bool) (name : Option (List ℕ)) (n : ℕ) → [] ≡ bytes_of (if b then uncaught name n else stops_with_trap 5)
+no_bytes_of_uncaught b name n = no_bytes_if b (uncaught name n) (stops_with_trap 5) (no_bytes_uncaught name n) refl
 
 -- ---- what was answered
 

@@ -2,3 +2,10 @@ pub mod Acting
 pub mod Passing
 pub mod ThreadActs
 pub mod ActsBy
+pub mod Images
+pub mod Starting
+pub mod Bounds
+pub mod Rolling
+pub mod Settling
+pub mod Taking
+pub mod Turning

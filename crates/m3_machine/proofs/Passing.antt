@@ -7,7 +7,7 @@ use Rattle.m3_threads.specs.Going.{IsChoice, NoneGoes}
 use Rattle.m3_sections.specs.Parts.{Program}
 use Rattle.m3_strides.specs.State.{State, outside}
 use Rattle.m3_strides.specs.Collecting.{Spoils}
-use Rattle.m3_strides.specs.Points.{Collected_if, Chooses, Stops, passed, runs_on, trapped, nobody_left}
+use Rattle.m3_strides.specs.Points.{Collected_if, Chooses, StopsAtPoint, passed, runs_on, trapped, nobody_left}
 
 pub chooses : (p q : Program) (entry : Entry) (s mid ready : State) (chosen : ℕ) → mid ≡ passed s → q ≡ p → (NoneGoes s.all (outside p s) → ⊥)
     → Collected_if p mid entry.collect (Some ready) → IsChoice ready.all (outside q ready) entry.to ready.running (Some chosen) → Chooses p entry s (runs_on ready chosen)
@@ -20,12 +20,12 @@ chooses p q entry s mid ready chosen counted same some collected choice = record
   turns = refl;
 }
 
-pub traps_there : (p : Program) (entry : Entry) (s mid u : State) → mid ≡ passed s → (NoneGoes s.all (outside p s) → ⊥) → Collected_if p mid entry.collect None → Spoils mid u → Stops p entry s u (Trap 9)
+pub traps_there : (p : Program) (entry : Entry) (s mid u : State) → mid ≡ passed s → (NoneGoes s.all (outside p s) → ⊥) → Collected_if p mid entry.collect None → Spoils p mid u → StopsAtPoint p entry s u (Trap 9)
 traps_there p entry s mid u counted some collected spoils =
-    trapped u some (subst (λ (m : State). Collected_if p m entry.collect None) counted collected) (subst (λ (m : State). Spoils m u) counted spoils)
+    trapped u some (subst (λ (m : State). Collected_if p m entry.collect None) counted collected) (subst (λ (m : State). Spoils p m u) counted spoils)
 
 pub leaves_nobody : (p q : Program) (entry : Entry) (s mid ready : State) → mid ≡ passed s → q ≡ p → (NoneGoes s.all (outside p s) → ⊥)
-    → Collected_if p mid entry.collect (Some ready) → IsChoice ready.all (outside q ready) entry.to ready.running None → Stops p entry s ready Deadlock
+    → Collected_if p mid entry.collect (Some ready) → IsChoice ready.all (outside q ready) entry.to ready.running None → StopsAtPoint p entry s ready Deadlock
 leaves_nobody p q entry s mid ready counted same some collected choice =
     nobody_left ready some (subst (λ (m : State). Collected_if p m entry.collect (Some ready)) counted collected)
     (subst (λ (r : Program). NoneGoes ready.all (outside r ready)) same (choice.none.0 refl))

@@ -1,6 +1,6 @@
 -- What the operations on threads leave, operation by operation.
-use Rattle.std.specs.Prelude.{ℕ, ◌≡◌, Bool}
-use Rattle.std.proofs.Common.{refl, sym, subst}
+use Rattle.std.specs.Prelude.{ℕ, ◌≡◌, ◌+◌, Bool, Option, None, Some, IsSome}
+use Rattle.std.proofs.Common.{refl, sym, ap, subst, ◌∙◌}
 use Rattle.m3_isa.specs.Memory.{Memory}
 use Rattle.m3_isa.specs.declared.instructions.Op.{Op}
 use Rattle.m3_isa.specs.declared.instructions.Op.TheVariants.{Join, Acq, Rel, Wait, Sig, Bca, Alert, Talert, Await, Ajoin, Endt}
@@ -8,6 +8,8 @@ use Rattle.m3_isa.specs.declared.instructions.Instr.{Instr}
 use Rattle.m3_threads.specs.declared.answers.Done.{Done}
 use Rattle.m3_threads.specs.declared.status.Thread.{Thread}
 use Rattle.m3_threads.specs.All.{Everyone}
+use Rattle.m3_threads.specs.Actions.{IsAfter, ends}
+use Rattle.m3_turns.proofs.ThreadSteps.{ends_uncounted}
 use Rattle.m3_strides.specs.OnThreads.{Acts_on_threads}
 
 -- what holds of an operation holds of an instruction that has it
@@ -30,3 +32,12 @@ no_thread_op Await _ _ _ _ _ _ _ _ n _ _ t i all memory can done new_all new = a
 no_thread_op Ajoin _ _ _ _ _ _ _ _ _ n _ t i all memory can done new_all new = absurd (n refl)
 no_thread_op Endt _ _ _ _ _ _ _ _ _ _ n t i all memory can done new_all new = absurd (n refl)
 no_thread_op _ _ _ _ _ _ _ _ _ _ _ _ t i all memory can done new_all new = tt
+
+pub is_there : (o : Option Thread) → IsSome o → (t : Thread) × (o ≡ Some t)
+is_there None h = absurd cc
+is_there (Some t) h = (t, refl)
+
+-- the end of a thread is no fork and no wait
+pub uncounted : (t : Thread) (i : Instr) (all : Everyone) (memory : Memory) (can : ℕ → Bool) (done : Done) (new_all : Everyone) (new : Memory) → IsAfter (ends t i all memory can) done new_all new
+    → new_all.forks + new_all.waits ≡ all.forks + all.waits
+uncounted t i all memory can done new_all new after = ap (λ (a : Everyone). a.forks + a.waits) after.threads ∙ ends_uncounted t i all memory can

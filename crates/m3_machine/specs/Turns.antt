@@ -1,7 +1,97 @@
--- How far a turn has come.
-use Rattle.std.specs.Prelude.{ℕ, ◌+◌, ◌-◌, ◌*◌}
+-- A run that is followed while a machine carries it out: where it leads to, in a turn and at its ends.
+use Rattle.std.specs.Prelude.{ℕ, ◌≡◌, ◌≤◌, ◌<◌, ◌+◌, ◌-◌, ◌*◌, ◌^◌, true, false, List, [], ◌++◌, Some, slice_get}
+use Rattle.m3_base.specs.declared.outcomes.Outcome.TheVariants.{Trap}
+use Rattle.m3_isa.specs.Instructions.{is_plain, is_point}
+use Rattle.m3_isa.specs.declared.instructions.Instr.{Instr}
+use Rattle.m3_heap.specs.declared.store.Store.{Ghosts}
+use Rattle.m3_threads.specs.declared.status.Thread.{Thread}
+use Rattle.m3_sections.specs.Parts.{Program}
+use Rattle.m3_strides.specs.declared.halts.Halt.{Halt}
+use Rattle.m3_strides.specs.declared.halts.Halt.TheVariants.{Trapped}
+use Rattle.m3_strides.specs.declared.progress.Progress.{Progress as Answer}
+use Rattle.m3_strides.specs.declared.progress.Progress.TheVariants.{Goes, Rests, Ends}
+use Rattle.m3_strides.specs.State.{State}
+use Rattle.m3_strides.specs.Runs.{At_point, Over, turn_limit}
+use Rattle.m3_strides.specs.Leading.{Track, LeadsTo, Went, Enters}
+use Rattle.m3_turns.specs.Standing.{BeginsAtPoints}
+use Rattle.m3_turns.specs.Courses.{SoundTurn, IsOther, IsSound}
+use Rattle.m3_new_cells.specs.declared.parts.Parts.{Parts}
+use Rattle.m3_new_cells.specs.Seen.{state_of, program_of, Running}
 use Rattle.m3_machine.specs.declared.runs.Turn.{Turn}
 
 -- what falls with each instruction, over points too: no turn has as many instructions as this
 abbrev pub to_come : Turn → ℕ
 to_come turn = turn.points * 4611686018427387905 + (4611686018427387904 - turn.done)
+
+-- the run has put more bytes; or it has come past an entry
+abbrev pub and_put : Track → List ℕ → Track
+and_put k bytes = record k { output = k.output ++ bytes }
+
+-- A run that is followed, from a state on: where it is followed from is a place of a run, and counts stay in their
+-- ranges.
+pub record IsCourse (p : Program) (start : State) (k : Track) : Type 0 where
+  pub begins : BeginsAtPoints p
+  pub sound : IsSound p k.allowed start k.from.place
+  pub small : k.allowed < 2 ^ 63
+  pub short : turn_limit p start ≤ 4611686018427387904
+  pub few : start.instructions ≤ start.points * 4611686018427387904
+
+-- it is followed while a machine carries it out, whose collections have room for its stacks
+pub record Known {S : Type 0} {g : Ghosts S} (p : Program) (start : State) (k : Track) (m : Parts S g) : Type 0 where
+  pub program : program_of m ≡ p
+  pub input : m.input.now ≡ k.input
+  pub depth : m.stack ≡ start.all.stack
+  pub course : IsCourse p start k
+
+-- Points that may be passed without a choice, and so many others, are left; the former only where no entry is left. No
+-- collection ended in trap 9.
+pub record Paced {S : Type 0} {g : Ghosts S} (k : Track) (others : ℕ) (m : Parts S g) (turn : Turn) : Type 0 where
+  pub points : m.points + (turn.points + others) ≡ k.allowed
+  pub free : 1 ≤ turn.points → k.entries ≡ []
+  pub made : m.made ≤ m.points
+  pub unstuck : m.stuck ≡ false
+
+-- the turn stands between two instructions of its thread
+pub record Between {S : Type 0} {g : Ghosts S} (p : Program) (k : Track) (others : ℕ) (m : Parts S g) (turn : Turn) : Type 0 where
+  pub thread : Thread
+  pub running : Running m thread
+  pub went : Went p k (state_of m) turn.done
+  pub paced : Paced k others m turn
+
+-- and the next one isn't plain, where there is one in this turn
+pub record Halts {S : Type 0} {g : Ghosts S} (p : Program) (k : Track) (others : ℕ) (m : Parts S g) (turn : Turn) : Type 0 where
+  pub between : Between p k others m turn
+  pub next : (i : Instr) → slice_get p.code between.thread.regs.pc ≡ Some i → turn.done < turn_limit p (state_of m) → is_plain i.op ≡ false
+
+abbrev pub Halted : {S : Type 0} {g : Ghosts S} → Program → Track → ℕ → Parts S g → Turn → Halt → Type 0
+Halted p k others m turn (Trapped n) = LeadsTo p k (Over (state_of m) (Trap n))
+Halted p k others m turn _ = Halts p k others m turn
+
+-- the turn stands before an instruction that isn't plain and comes next
+pub record Acts_next {S : Type 0} {g : Ghosts S} (p : Program) (start : State) (k : Track) (others : ℕ) (m : Parts S g) (turn : Turn) : Type 0 where
+  pub thread : Thread
+  pub instruction : Instr
+  pub running : Running m thread
+  pub stands : slice_get p.code thread.regs.pc ≡ Some instruction
+  pub acts : is_plain instruction.op ≡ false
+  pub enters : Enters p k (state_of m) (turn.done + 1)
+  pub sound : SoundTurn p k.allowed start (state_of m) turn.done
+  pub paced : Paced k others m turn
+  pub made : is_point instruction.op ≡ true → m.made < m.points
+
+-- the turn is over
+pub record Rested {S : Type 0} {g : Ghosts S} (p : Program) (k : Track) (others : ℕ) (m : Parts S g) (turn : Turn) : Type 0 where
+  pub leads : LeadsTo p k (At_point (state_of m))
+  pub paced : Paced k others m turn
+
+-- what comes next in a turn: an instruction that isn't plain, its end or that of the run
+abbrev pub Comes_to : {S : Type 0} {g : Ghosts S} → Program → State → Track → ℕ → Parts S g → Turn → Answer → Type 0
+Comes_to p start k others m turn Goes = Acts_next p start k others m turn
+Comes_to p start k others m turn Rests = Rested p k others m turn
+Comes_to p start k others m turn (Ends outcome) = LeadsTo p k (Over (state_of m) outcome) × IsOther outcome
+
+-- what became of an instruction: the turn goes on behind it, it is over, or the run is
+abbrev pub Came_to : {S : Type 0} {g : Ghosts S} → Program → Track → ℕ → Parts S g → Turn → Answer → Type 0
+Came_to p k others m turn Goes = Between p k others m turn
+Came_to p k others m turn Rests = Rested p k others m turn
+Came_to p k others m turn (Ends outcome) = LeadsTo p k (Over (state_of m) outcome) × IsOther outcome

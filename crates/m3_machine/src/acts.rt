@@ -1,16 +1,16 @@
-ghost use Rattle.std.specs.Prelude.{◌≡◌, ◌<◌, ◌≤◌, ◌-◌, ◌^◌, ℕ, [], Some, List, length, slice_get, OnOk, OnErr, IfOk};
+ghost use Rattle.std.specs.Prelude.{◌≡◌, ◌<◌, ◌≤◌, ◌+◌, ◌-◌, ◌^◌, ℕ, true, false, [], Some, List, length, slice_get, OnOk, OnErr, IfOk};
 ghost use Rattle.m3_isa.specs.declared.instructions.Instr.{Instr as Instruction};
 ghost use Rattle.m3_strides.specs.State.{executed};
 ghost use Rattle.m3_strides.specs.Calls.{place_of};
 ghost use Rattle.m3_strides.specs.Steps.{Acts, Does};
 ghost use Rattle.m3_machine.specs.Deeds.{MayAct, IsSilent};
-ghost use Rattle.m3_isa.specs.Instructions.{IsInstruction};
+ghost use Rattle.m3_isa.specs.Instructions.{IsInstruction, is_plain, is_point};
 ghost use Rattle.m3_ports.specs.Counts.{Rose};
 ghost use Rattle.m3_threads.specs.declared.status.Thread.{Thread};
 ghost use Rattle.m3_decoded.specs.Ready.{image_of};
 ghost use Rattle.m3_strides.specs.Progress.{Follows, became};
 ghost use Rattle.m3_strides.specs.Acts.{fault_kinds, faults_at, is_uncaught};
-ghost use Rattle.m3_new_cells.specs.Seen.{state_of, program_of, Running, Took};
+ghost use Rattle.m3_new_cells.specs.Seen.{state_of, program_of, rest_of, goes_on, Running, Took};
 
 use crate::calls::{call, method_for, return_back, tell_method, test_type};
 use crate::inputs::{get_byte, put_byte, put_number, tell_end, tell_self};
@@ -85,6 +85,11 @@ pub(crate) fn act<S: Store, O: Sink>(
     ensures rises { O.faults out.old ≤ O.faults out.new }
     ensures kept { OnOk result (O.faults out.new ≡ O.faults out.old) }
     ensures failed { OnErr result (Rose (O.faults out.old) (O.faults out.new)) }
+    ensures rest { rest_of parts.new ≡ record (rest_of parts.old) { made = parts.new.made; stuck = parts.new.stuck } }
+    ensures one { parts.new.made ≤ parts.old.made + 1 }
+    ensures same { (t : Thread) (i : Instruction) → Running parts.old t → slice_get (program_of parts.old).code t.regs.pc ≡ Some i
+        → is_plain i.op ≡ false → is_point i.op ≡ false → parts.new.made ≡ parts.old.made }
+    ensures going { IfOk result (λ progress. goes_on progress ≡ true → parts.new.stuck ≡ parts.old.stuck) }
     ensures does { IfOk result (λ progress. (t : Thread) (i : Instruction) → slice_get (program_of parts.old).code t.regs.pc ≡ Some i → MayAct parts.old t i → parts.old.instructions < 2 ^ 128 - 1
         → (bytes : List ℕ) × Took (O.taken out.old) (O.taken out.new) bytes
         × Does (program_of parts.old) parts.old.input.now t i (executed (state_of parts.old)) bytes (became progress (state_of parts.new))) }
@@ -111,6 +116,10 @@ fn act_at<S: Store, O: Sink>(
     ensures rises { O.faults out.old ≤ O.faults out.new }
     ensures kept { OnOk result (O.faults out.new ≡ O.faults out.old) }
     ensures failed { OnErr result (Rose (O.faults out.old) (O.faults out.new)) }
+    ensures rest { rest_of parts.new ≡ record (rest_of parts.old) { made = parts.new.made; stuck = parts.new.stuck } }
+    ensures one { parts.new.made ≤ parts.old.made + 1 }
+    ensures same { is_plain i.op ≡ false → is_point i.op ≡ false → parts.new.made ≡ parts.old.made }
+    ensures going { IfOk result (λ progress. goes_on progress ≡ true → parts.new.stuck ≡ parts.old.stuck) }
     ensures does { IfOk result (λ progress. (t : Thread) → MayAct parts.old t i → at ≡ place_of t.regs → parts.old.instructions < 2 ^ 128 - 1
         → (bytes : List ℕ) × Took (O.taken out.old) (O.taken out.new) bytes
         × Does (program_of parts.old) parts.old.input.now t i (executed (state_of parts.old)) bytes (became progress (state_of parts.new))) }
@@ -128,7 +137,11 @@ fn act_at<S: Store, O: Sink>(
 fn act_silently<S: Store>(parts: &mut Parts<'_, S>, i: Instr, at: Place) -> Progress
     requires instruction { IsInstruction i }
     requires inside { at.pc < length (image_of parts.old.image).program.code }
-    ensures { (t : Thread) → MayAct parts.old t i → at ≡ place_of t.regs → IsSilent i.op
+    ensures rest { rest_of parts.new ≡ record (rest_of parts.old) { made = parts.new.made; stuck = parts.new.stuck } }
+    ensures one { parts.new.made ≤ parts.old.made + 1 }
+    ensures same { is_plain i.op ≡ false → is_point i.op ≡ false → parts.new.made ≡ parts.old.made }
+    ensures going { goes_on result ≡ true → parts.new.stuck ≡ parts.old.stuck }
+    ensures does { (t : Thread) → MayAct parts.old t i → at ≡ place_of t.regs → IsSilent i.op
         → Acts (program_of parts.old) parts.old.input.now t i (state_of parts.old) [] (became result (state_of parts.new)) i.op }
 {
     match i.op {

@@ -54,12 +54,13 @@ pub(crate) fn method_for<S: Store>(
 /// RET.
 pub(crate) fn return_back<S: Store>(parts: &mut Parts<'_, S>, at: Place) -> Progress
     ensures rest { rest_of parts.new ≡ rest_of parts.old }
-    ensures returns { length (image_of parts.old.image).program.code < 2 ^ 32 → (t : Thread) → Running parts.old t → at ≡ place_of t.regs
+    ensures returns { (t : Thread) → Running parts.old t → at ≡ place_of t.regs
         → Follows (program_of parts.old)
         (returns (length (program_of parts.old).code) t.regs (memory_of (program_of parts.old) (state_of parts.old)))
         (state_of parts.old) (became result (state_of parts.new)) }
 {
-    match leave(parts.image.code().len(), at, &parts.memory) {
+    let code = parts.image.image().code_len() as usize;
+    match leave(code, at, &parts.memory) {
         Ok(to) => parts.come_to(to),
         Err(outcome) => Progress::Ends(outcome),
     }

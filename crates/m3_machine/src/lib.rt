@@ -11,5 +11,6 @@ mod readers;
 mod runs;
 mod start;
 mod threading;
+mod whole;
 
 pub use machine::Machine;

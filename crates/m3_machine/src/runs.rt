@@ -1,17 +1,18 @@
-ghost use Rattle.std.specs.Prelude.{◌≡◌, ◌≤◌, ◌<◌, OnOk, OnErr};
-ghost use Rattle.m3_isa.specs.Instructions.{IsInstruction};
+ghost use Rattle.std.specs.Prelude.{◌≡◌, ◌≤◌, ◌<◌, ◌+◌, ◌^◌, ◌++◌, ℕ, List, true, false, Some, slice_get, OnOk, OnErr, IfOk};
+ghost use Rattle.m3_isa.specs.Instructions.{IsInstruction, is_point};
 ghost use Rattle.m3_threads.specs.declared.status.Thread.{Thread};
 ghost use Rattle.m3_threads.specs.declared.status.Status.TheVariants.{Ready};
+ghost use Rattle.m3_threads.specs.Going.{status_at_of};
+ghost use Rattle.m3_sections.specs.Parts.{Program};
+ghost use Rattle.m3_strides.specs.State.{State};
 ghost use Rattle.m3_strides.specs.Runs.{turn_limit as longest};
+ghost use Rattle.m3_strides.specs.Leading.{Track};
 ghost use Rattle.m3_strides.specs.declared.progress.Progress.TheVariants.{Goes};
-ghost use Rattle.m3_new_cells.specs.Seen.{state_of, program_of, Running};
-ghost use Rattle.m3_machine.specs.Turns.{to_come};
+ghost use Rattle.m3_new_cells.specs.Seen.{state_of, program_of, rest_of, Running, Took};
+ghost use Rattle.m3_machine.specs.Turns.{to_come, and_put, Known, Between, Halts, Halted, Acts_next, Comes_to, Came_to};
 ghost use Rattle.m3_ports.specs.Counts.{Rose};
 
 use crate::acts::act;
-use crate::machine::Machine;
-use crate::points::{pass_point, spent};
-use m3_base::{Entry, Outcome};
 use m3_heap::Store;
 use m3_isa::{Instr, Op};
 use m3_new_cells::Parts;
@@ -20,26 +21,10 @@ use m3_strides::near::Place;
 use m3_strides::{Halt, Pace, Progress, stride};
 use m3_threads::Status;
 
-/// Past its last entry a schedule names no thread and asks for no collection.
-fn first_entry(entries: &[Entry]) -> Entry {
-    match entries {
-        [first, ..] => *first,
-        [] => Entry {
-            to: None,
-            collect: false,
-        },
-    }
-}
-
-fn later_entries(entries: &[Entry]) -> &[Entry] {
-    match entries {
-        [_, later @ ..] => later,
-        [] => entries,
-    }
-}
-
 /// Whether a thread that stands at such an instruction may have to wait.
-fn may_wait(op: Op) -> bool {
+fn may_wait(op: Op) -> bool
+    ensures { result ≡ false → (a b : ℕ) → status_at_of op a b ≡ Ready }
+{
     match op {
         Op::Acq | Op::Join | Op::Ajoin => true,
         _ => false,
@@ -48,9 +33,9 @@ fn may_wait(op: Op) -> bool {
 
 /// How far a turn has come: how many instructions it has had, and how many points may be passed without a choice.
 #[derive(Clone, Copy, Debug)]
-struct Turn {
-    done: u64,
-    points: u64,
+pub(crate) struct Turn {
+    pub(crate) done: u64,
+    pub(crate) points: u64,
 }
 
 /// How many instructions a turn may have.
@@ -78,6 +63,10 @@ fn free_points<S: Store>(parts: &Parts<'_, S>, turn: &Turn) -> u64
 /// Goes on with the running thread, as far as nothing has to be chosen or done between its instructions.
 fn go_far<S: Store>(parts: &mut Parts<'_, S>, turn: &mut Turn) -> Halt
     ensures ahead { to_come turn.new ≤ to_come turn.old }
+    ensures fewer { turn.new.points ≤ turn.old.points }
+    ensures rest { rest_of parts.new ≡ rest_of parts.old }
+    ensures leads { (p : Program) (start : State) (k : Track) (others : ℕ) → Known p start k parts.old
+        → Between p k others parts.old turn.old → Halted p k others parts.new turn.new result }
 {
     let limit = turn_limit(parts);
     if turn.done >= limit {
@@ -113,9 +102,15 @@ fn go_far<S: Store>(parts: &mut Parts<'_, S>, turn: &mut Turn) -> Halt
 /// What follows where the running thread has come to a point instruction: it stands there, and its turn is over, or
 /// the next begins at once where no choice is left.
 fn settle_at_point<S: Store>(parts: &mut Parts<'_, S>, turn: &mut Turn, i: Instr) -> Progress
-    requires { IsInstruction i }
+    requires instruction { IsInstruction i }
+    requires point { is_point i.op ≡ true }
     ensures ahead { to_come turn.new ≤ to_come turn.old }
+    ensures fewer { turn.new.points ≤ turn.old.points }
     ensures some { result ≡ Goes → turn.new.done < 4611686018427387904 }
+    ensures rest { rest_of parts.new ≡ rest_of parts.old }
+    ensures comes { (p : Program) (start : State) (k : Track) (others : ℕ) → Known p start k parts.old
+        → (h : Between p k others parts.old turn.old) → slice_get p.code h.thread.regs.pc ≡ Some i
+        → Comes_to p start k others parts.new turn.new result }
 {
     let running = parts.running;
     parts.stand_at(running, i);
@@ -132,7 +127,11 @@ fn settle_at_point<S: Store>(parts: &mut Parts<'_, S>, turn: &mut Turn, i: Instr
 /// instruction the turn is over, else it goes on, if so many instructions may still be executed.
 fn settle<S: Store>(parts: &mut Parts<'_, S>, turn: &mut Turn) -> Progress
     ensures ahead { to_come turn.new ≤ to_come turn.old }
+    ensures fewer { turn.new.points ≤ turn.old.points }
     ensures some { result ≡ Goes → turn.new.done < 4611686018427387904 }
+    ensures rest { rest_of parts.new ≡ rest_of parts.old }
+    ensures comes { (p : Program) (start : State) (k : Track) (others : ℕ) → Known p start k parts.old
+        → Halts p k others parts.old turn.old → Comes_to p start k others parts.new turn.new result }
 {
     let Some(i) = parts.image.fetch(parts.pc()) else {
         return Progress::trap(1);
@@ -151,7 +150,11 @@ fn settle<S: Store>(parts: &mut Parts<'_, S>, turn: &mut Turn) -> Progress
 /// at once.
 fn go_to_act<S: Store>(parts: &mut Parts<'_, S>, turn: &mut Turn) -> Progress
     ensures ahead { to_come turn.new ≤ to_come turn.old }
+    ensures fewer { turn.new.points ≤ turn.old.points }
     ensures some { result ≡ Goes → turn.new.done < 4611686018427387904 }
+    ensures rest { rest_of parts.new ≡ rest_of parts.old }
+    ensures comes { (p : Program) (start : State) (k : Track) (others : ℕ) → Known p start k parts.old
+        → Between p k others parts.old turn.old → Comes_to p start k others parts.new turn.new result }
 {
     match go_far(parts, turn) {
         Halt::Trapped(n) => Progress::trap(n),
@@ -159,58 +162,53 @@ fn go_to_act<S: Store>(parts: &mut Parts<'_, S>, turn: &mut Turn) -> Progress
     }
 }
 
-/// Goes on to a point instruction at which the machine has to choose or to act, to the thread's end or to the
-/// run's.
-fn take_turn<S: Store, O: Sink>(
+/// Carries out the next instruction, which isn't plain.
+fn act_next<S: Store, O: Sink>(
     parts: &mut Parts<'_, S>,
     turn: &mut Turn,
     out: &mut O,
 ) -> Result<Progress, SinkFailed>
+    requires { turn.old.done < 4611686018427387904 }
     ensures rises { O.faults out.old ≤ O.faults out.new }
     ensures kept { OnOk result (O.faults out.new ≡ O.faults out.old) }
     ensures failed { OnErr result (Rose (O.faults out.old) (O.faults out.new)) }
+    ensures ahead { OnOk result (to_come turn.new < to_come turn.old) }
+    ensures fewer { turn.new.points ≤ turn.old.points }
+    ensures rest { rest_of parts.new ≡ record (rest_of parts.old) { made = parts.new.made; stuck = parts.new.stuck } }
+    ensures came { IfOk result (λ progress. (p : Program) (start : State) (k : Track) (others : ℕ) → Known p start k parts.old
+        → Acts_next p start k others parts.old turn.old
+        → (bytes : List ℕ) × Took (O.taken out.old) (O.taken out.new) bytes × Came_to p (and_put k bytes) others parts.new turn.new progress) }
 {
-    let mut progress = act(parts, out)?;
-    turn.done = 1;
+    let progress = act(parts, out)?;
+    turn.done += 1;
+    Ok(progress)
+}
+
+/// Goes on to a point instruction at which the machine has to choose or to act, to the thread's end or to the
+/// run's.
+pub(crate) fn take_turn<S: Store, O: Sink>(
+    parts: &mut Parts<'_, S>,
+    turn: &mut Turn,
+    out: &mut O,
+) -> Result<Progress, SinkFailed>
+    requires { turn.old.done ≡ 0 }
+    ensures rises { O.faults out.old ≤ O.faults out.new }
+    ensures kept { OnOk result (O.faults out.new ≡ O.faults out.old) }
+    ensures failed { OnErr result (Rose (O.faults out.old) (O.faults out.new)) }
+    ensures ends { IfOk result (λ progress. progress ≡ Goes → ⊥) }
+    ensures fewer { turn.new.points ≤ turn.old.points }
+    ensures rest { rest_of parts.new ≡ record (rest_of parts.old) { made = parts.new.made; stuck = parts.new.stuck } }
+    ensures came { IfOk result (λ progress. (p : Program) (start : State) (k : Track) (others : ℕ) → Known p start k parts.old
+        → Acts_next p start k others parts.old turn.old
+        → (bytes : List ℕ) × Took (O.taken out.old) (O.taken out.new) bytes × Came_to p (and_put k bytes) others parts.new turn.new progress) }
+{
+    let mut progress = act_next(parts, turn, out)?;
     'acts: while progress == Progress::Goes {
         progress = go_to_act(parts, turn);
         if progress != Progress::Goes {
             return Ok(progress);
         }
-        progress = act(parts, out)?;
-        turn.done += 1;
+        progress = act_next(parts, turn, out)?;
     }
     Ok(progress)
-}
-
-impl<'a, S: Store> Machine<'a, S> {
-    /// Runs on, with a schedule and so many points at most. SinkFailed comes only where a put failed, and the sink's
-    /// count of faults rose; an outcome says that the sink took all output.
-    pub fn run<O: Sink>(
-        &mut self,
-        schedule: &[Entry],
-        points: u64,
-        out: &mut O,
-    ) -> Result<Outcome, SinkFailed>
-        ensures rises { O.faults out.old ≤ O.faults out.new }
-        ensures kept { OnOk result (O.faults out.new ≡ O.faults out.old) }
-        ensures failed { OnErr result (Rose (O.faults out.old) (O.faults out.new)) }
-    {
-        let mut entries = schedule;
-        let mut left = points;
-        'turns: while left > 0 {
-            if let Some(outcome) = pass_point(&mut self.parts, first_entry(entries)) {
-                return Ok(outcome);
-            }
-            left -= 1;
-            entries = later_entries(entries);
-            let points = if entries.is_empty() { left } else { 0 };
-            let mut turn = Turn { done: 0, points };
-            if let Progress::Ends(outcome) = take_turn(&mut self.parts, &mut turn, out)? {
-                return Ok(outcome);
-            }
-            left = left.saturating_sub(points.saturating_sub(turn.points));
-        }
-        Ok(spent(&self.parts))
-    }
 }

@@ -1,5 +1,10 @@
 ghost use Rattle.m3_image.specs.Views.{image_view};
-ghost use Rattle.std.specs.Prelude.{◌≡◌, ◌≤◌, ◌<◌, [], false, length, IfOk};
+ghost use Rattle.std.specs.Prelude.{◌≡◌, ◌≤◌, ◌<◌, ◌+◌, ◌*◌, ◌^◌, ℕ, [], false, length, replicate, slice_get, slice_set, Some, IfOk};
+ghost use Rattle.m3_sections.specs.Parts.{CellType};
+ghost use Rattle.m3_strides.specs.State.{first_globals as globals_at_start};
+ghost use Rattle.m3_strides.specs.Runs.{Begins};
+ghost use Rattle.m3_machine.specs.RunCalls.{IsReady};
+ghost use Rattle.m3_new_cells.specs.Seen.{state_of, program_of};
 
 use crate::machine::Machine;
 use crate::points::stand;
@@ -15,7 +20,8 @@ use std::alloc::Global;
 
 /// The globals at the start: the header of the main thread's cell, of type 1 and four words, and zeros.
 fn first_globals(alloc: Global, words: u32) -> Result<Vec<u64>, NoMemory>
-    ensures { IfOk result (λ v. length v.items ≡ words) }
+    ensures words { IfOk result (λ v. v.items ≡ globals_at_start words) }
+    ensures count { IfOk result (λ v. length v.items ≡ words) }
 {
     let mut globals = vec![in alloc; 0u64; words as usize]?;
     if globals.len() > 0 {
@@ -38,23 +44,22 @@ fn constants_of(alloc: Global, image: &ImageView<'_>) -> Result<Vec<u64>, NoMemo
     Ok(constants)
 }
 
-/// The most dimensions that a type of the image has.
-fn most_dims(image: &ImageView<'_>) -> u32 {
-    let mut most = 0;
-    for view in image.types() {
-        most = most.max(view.dims());
-    }
-    most
+fn larger(a: u32, b: u32) -> u32
+    ensures first { a ≤ result }
+    ensures second { b ≤ result }
+{
+    if a < b { b } else { a }
 }
 
-/// Room for the sizes of a new cell, where it may fit the heap at all.
-fn room_for_sizes(alloc: Global, dims: u32, free: u64) -> Result<Vec<u64>, NoMemory> {
-    let most = if u64::from(dims) < free {
-        dims as usize
-    } else {
-        free as usize
-    };
-    Ok(Vec::with_capacity(alloc, most)?)
+/// The most dimensions that a type of the image has.
+fn most_dims(image: &ImageView<'_>) -> u32
+    ensures { (n : ℕ) (form : CellType) → slice_get (image_view image.now).program.types n ≡ Some form → form.dims ≤ result }
+{
+    let mut most = 0;
+    'types: for view in image.types() {
+        most = larger(most, view.dims());
+    }
+    most
 }
 
 impl<'a, S: Store> Machine<'a, S> {
@@ -76,10 +81,15 @@ impl<'a, S: Store> Machine<'a, S> {
         requires small { stack ≤ 1048576 }
         requires empty { (S.heap store).cells ≡ [] }
         requires closed { (S.heap store).is_open ≡ false }
+        ensures program { IfOk result (λ m. program_of m.parts ≡ (image_view image.entry).program) }
+        ensures input { IfOk result (λ m. m.parts.input.now ≡ input.now) }
+        ensures begins { IfOk result (λ m. Begins (image_view image.entry).program (S.heap store) threads stack (state_of m.parts)) }
+        ensures ready { IfOk result (λ m. IsReady m.parts) }
     {
+        image.keeps_its_form();
         let globals = first_globals(alloc, image.global_words())?;
         let constants = constants_of(alloc, &image)?;
-        let sizes = room_for_sizes(alloc, most_dims(&image), store.free_words())?;
+        let sizes = Vec::with_capacity(alloc, most_dims(&image) as usize)?;
         let room = Room::new(alloc, stack)?;
         let threads = Threads::new(alloc, threads, stack)?;
         let image = Decoded::of(alloc, image)?;

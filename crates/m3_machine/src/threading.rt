@@ -4,6 +4,7 @@ ghost use Rattle.m3_threads.specs.All.{thread_named};
 ghost use Rattle.m3_threads.specs.declared.status.Thread.{Thread};
 ghost use Rattle.m3_threads.specs.Going.{IsAwake};
 ghost use Rattle.m3_isa.specs.Instructions.{IsInstruction};
+ghost use Rattle.m3_isa.specs.declared.instructions.Op.TheVariants.{Endt};
 ghost use Rattle.m3_memory.specs.Addresses.{outside_of, settable_of};
 ghost use Rattle.m3_memory.specs.Kept.{KeepsOutside};
 ghost use Rattle.m3_strides.specs.State.{outside, settable, with_all, HasOtherWords};
@@ -43,6 +44,7 @@ fn told_end(done: Done) -> Progress
 /// An instruction of a thread that is awake, on other threads, mutexes, conditions and alerts.
 fn act_of<S: Store>(threads: &mut Threads, outside: &mut Outside<S>, running: u64, i: Instr) -> Done
     requires instruction { IsInstruction i }
+    requires operation { i.op ≡ Endt → ⊥ }
     requires there { IsSome (thread_named threads.old running) }
     requires awake { (t : Thread) → thread_named threads.old running ≡ Some t → IsAwake t }
     requires counted { threads.old.forks + threads.old.waits < 2 ^ 63 }
@@ -67,16 +69,17 @@ fn act_of<S: Store>(threads: &mut Threads, outside: &mut Outside<S>, running: u6
         Op::Talert => threads.test_alert(running, outside, i),
         Op::Await => threads.alert_wait(running, outside, i),
         Op::Ajoin => threads.alert_join(running, outside, i),
-        Op::Endt => threads.end(running, outside, i),
         _ => Done::Trapped(1),
     }
 }
 
 /// An instruction of the running thread, on threads, mutexes, conditions and alerts.
 fn act_with_threads<S: Store>(parts: &mut Parts<'_, S>, i: Instr) -> Done
-    requires { IsInstruction i }
+    requires instruction { IsInstruction i }
+    requires operation { i.op ≡ Endt → ⊥ }
     ensures rest { rest_of parts.new ≡ record (rest_of parts.old) { made = parts.new.made } }
-    ensures acts { parts.old.made < 2 ^ 62 → (t : Thread) → Running parts.old t → IsAwake t
+    ensures one { parts.new.made ≤ parts.old.made + 1 }
+    ensures acts { parts.old.made < 2 ^ 63 → (t : Thread) → Running parts.old t → IsAwake t
         → Acts_on_threads i.op t i (state_of parts.old).all (outside (program_of parts.old) (state_of parts.old)) (settable (state_of parts.old))
         result (state_of parts.new).all (outside (program_of parts.old) (state_of parts.new)) }
     ensures others { HasOtherWords (with_all (state_of parts.old) (state_of parts.new).all) (state_of parts.new) }
@@ -95,20 +98,64 @@ fn act_with_threads<S: Store>(parts: &mut Parts<'_, S>, i: Instr) -> Done
 
 /// Instructions on other threads, mutexes, conditions and alerts.
 pub(crate) fn act_on_threads<S: Store>(parts: &mut Parts<'_, S>, i: Instr) -> Progress
-    requires { IsInstruction i }
+    requires instruction { IsInstruction i }
+    requires operation { i.op ≡ Endt → ⊥ }
     ensures rest { rest_of parts.new ≡ record (rest_of parts.old) { made = parts.new.made } }
-    ensures acts { parts.old.made < 2 ^ 62 → (t : Thread) → Running parts.old t → IsAwake t
+    ensures one { parts.new.made ≤ parts.old.made + 1 }
+    ensures acts { parts.old.made < 2 ^ 63 → (t : Thread) → Running parts.old t → IsAwake t
         → On_threads (program_of parts.old) t i (state_of parts.old) answer_of (became result (state_of parts.new)) }
 {
     told(act_with_threads(parts, i))
 }
 
+/// The end of a thread that is there and awake. No fork and no wait is counted.
+fn end_of<S: Store>(threads: &mut Threads, outside: &mut Outside<S>, running: u64, i: Instr) -> Done
+    requires instruction { IsInstruction i }
+    requires operation { i.op ≡ Endt }
+    requires there { IsSome (thread_named threads.old running) }
+    requires awake { (t : Thread) → thread_named threads.old running ≡ Some t → IsAwake t }
+    requires counted { threads.old.forks + threads.old.waits < 2 ^ 63 }
+    ensures acts { (t : Thread) → thread_named threads.old running ≡ Some t
+        → Acts_on_threads i.op t i threads.old
+        (outside_of outside.old.globals.items outside.old.constants.items (S.heap outside.old.heap.store).cells)
+        (settable_of (length outside.old.globals.items) (S.heap outside.old.heap.store).cells)
+        result threads.new
+        (outside_of outside.new.globals.items outside.new.constants.items (S.heap outside.new.heap.store).cells) }
+    ensures keeps { KeepsOutside outside.old.globals.items outside.new.globals.items outside.old.constants.items outside.new.constants.items (S.heap outside.old.heap.store) (S.heap outside.new.heap.store) }
+    ensures counts { threads.new.forks + threads.new.waits ≡ threads.old.forks + threads.old.waits }
+    ensures fitting { (shapes : List Shape) → S.fits outside.old.heap.store shapes → S.fits outside.new.heap.store shapes }
+{
+    threads.end(running, outside, i)
+}
+
+/// The end of the running thread.
+fn end_with_threads<S: Store>(parts: &mut Parts<'_, S>, i: Instr) -> Done
+    requires instruction { IsInstruction i }
+    requires operation { i.op ≡ Endt }
+    ensures rest { rest_of parts.new ≡ rest_of parts.old }
+    ensures acts { parts.old.made < 2 ^ 63 → (t : Thread) → Running parts.old t → IsAwake t
+        → Acts_on_threads i.op t i (state_of parts.old).all (outside (program_of parts.old) (state_of parts.old)) (settable (state_of parts.old))
+        result (state_of parts.new).all (outside (program_of parts.old) (state_of parts.new)) }
+    ensures others { HasOtherWords (with_all (state_of parts.old) (state_of parts.new).all) (state_of parts.new) }
+{
+    if !parts.is_awake() || !parts.may_count() {
+        return Done::Slept;
+    }
+    end_of(
+        &mut parts.memory.threads,
+        &mut parts.memory.outside,
+        parts.running,
+        i,
+    )
+}
+
 /// ENDT.
 pub(crate) fn end_thread<S: Store>(parts: &mut Parts<'_, S>, i: Instr) -> Progress
-    requires { IsInstruction i }
-    ensures rest { rest_of parts.new ≡ record (rest_of parts.old) { made = parts.new.made } }
-    ensures ends { parts.old.made < 2 ^ 62 → (t : Thread) → Running parts.old t → IsAwake t
+    requires instruction { IsInstruction i }
+    requires operation { i.op ≡ Endt }
+    ensures rest { rest_of parts.new ≡ rest_of parts.old }
+    ensures ends { parts.old.made < 2 ^ 63 → (t : Thread) → Running parts.old t → IsAwake t
         → On_threads (program_of parts.old) t i (state_of parts.old) answer_of_end (became result (state_of parts.new)) }
 {
-    told_end(act_with_threads(parts, i))
+    told_end(end_with_threads(parts, i))
 }

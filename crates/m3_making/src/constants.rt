@@ -1,12 +1,12 @@
 use m3_base::{NoMemory, Pos};
 use m3_constant_values::{constant_of, typed_constant, worth_of};
 use m3_declared::Constant;
-use m3_declarer::{Declarer, init_of};
+use m3_declarer::Declarer;
 use m3_early_names::{entity_named, type_of};
 use m3_early_types::{base_of, share_base};
-use m3_gather::Bound;
-use m3_scopes::{Entity, EntityId, EntityKind};
-use m3_syntax::{Decl, Expr, Init, Qualid, Signature};
+use m3_gathered::Bound;
+use m3_scopes::{Declaration, Entity, EntityId, EntityKind};
+use m3_syntax::{Expr, Init, Qualid, Signature};
 use m3_types::{TypeId, TypeNode};
 
 /// Works out a named constant.
@@ -15,10 +15,7 @@ pub fn make_constant<'a>(declarer: &mut Declarer<'_, 'a>, id: EntityId) -> Resul
         return Ok(());
     };
     declarer.eval.unit = entity.unit;
-    let Some(Decl::Const { constants, .. }) = entity.declaration else {
-        return Ok(());
-    };
-    let Some(declared) = constants.get(entity.place as usize) else {
+    let Some(Declaration::Constant(declared)) = declarer.declaration(&entity) else {
         return Ok(());
     };
     let found = match declared.kind {
@@ -49,7 +46,7 @@ pub fn make_kind<'a>(declarer: &mut Declarer<'_, 'a>, id: EntityId) -> Result<()
     declarer.eval.unit = entity.unit;
     let kind = match entity.kind {
         EntityKind::Formal => formal_kind(declarer, &entity)?,
-        EntityKind::Variable => match init_of(&entity) {
+        EntityKind::Variable => match declarer.init_of(&entity) {
             Some(Init::Untyped(value)) => value_kind(declarer, value)?,
             _ => None,
         },
@@ -105,16 +102,16 @@ fn formal_kind<'a>(
     entity: &Entity<'a>,
 ) -> Result<Option<TypeId>, NoMemory> {
     let Some(
-        Decl::Procedure {
-            name,
+        Declaration::Formal {
+            procedure,
             signature,
             ..
         },
-    ) = entity.declaration
+    ) = declarer.declaration(entity)
     else {
         return Ok(None);
     };
-    let Some(id) = declarer.eval.program.binds.at(entity.unit, name.pos) else {
+    let Some(id) = declarer.eval.program.binds.at(entity.unit, procedure) else {
         return Ok(None);
     };
     let Some(kind) = declarer.eval.declared.kind_of(id) else {

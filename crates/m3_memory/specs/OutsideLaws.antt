@@ -78,15 +78,15 @@ low_outside globals constants cells at h few small e = ⊎_elim
     (λ (high : 2 ^ 60 ≤ at). (word_low cells at h (sym (ap is_some (at_heap globals constants cells at few small high)) ∙ e)).1)
     (cases_lt at (2 ^ 60))
 
-pub keeps_itself : (globals constants : List ℕ) (heap : Heap) → KeepsOutside globals globals constants constants heap heap
-keeps_itself globals constants heap = record { count = refl; same_constants = refl; rest = record { same_layout = refl; rest = refl } }
+pub outside_keeps_itself : (globals constants : List ℕ) (heap : Heap) → KeepsOutside globals globals constants constants heap heap
+outside_keeps_itself globals constants heap = record { count = refl; same_constants = refl; rest = record { same_layout = refl; rest = refl } }
 
 again : Heap → Heap → Heap
 again heap new = record heap { cells = new.cells; watched = new.watched }
 
-pub keeps_on : (g g' g'' c c' c'' : List ℕ) (s t u : Heap) → KeepsOutside g g' c c' s t → KeepsOutside g' g'' c' c'' t u → KeepsOutside g g'' c c'' s u
+pub outside_keeps_on : (g g' g'' c c' c'' : List ℕ) (s t u : Heap) → KeepsOutside g g' c c' s t → KeepsOutside g' g'' c' c'' t u → KeepsOutside g g'' c c'' s u
 unfolding again
-keeps_on g g' g'' c c' c'' s t u p q = record {
+outside_keeps_on g g' g'' c c' c'' s t u p q = record {
   count = q.count ∙ p.count;
   same_constants = q.same_constants ∙ p.same_constants;
   rest = record {

@@ -49,7 +49,7 @@ impl<S: Store> Words for Outside<S> {
     ghost use Rattle.m3_heap.specs.Shapes.{Shape};
     ghost use Rattle.m3_memory.specs.Addresses.{outside_of, settable_of};
     ghost use Rattle.m3_memory.specs.Kept.{KeepsOutside};
-    ghost use Rattle.m3_memory.specs.OutsideLaws.{readable_outside, low_outside, keeps_itself, keeps_on};
+    ghost use Rattle.m3_memory.specs.OutsideLaws.{readable_outside, low_outside, outside_keeps_itself, outside_keeps_on};
 
     ghost holds = { λ m. outside_of m.globals.items m.constants.items (S.heap m.heap.store).cells };
 
@@ -61,9 +61,9 @@ impl<S: Store> Words for Outside<S> {
 
     ghost low = { λ m x h. low_outside m.globals.items m.constants.items (S.heap m.heap.store).cells x (S.sound m.heap.store).cells.in_heap m.few m.small h };
 
-    ghost keeps_itself = { λ m. (keeps_itself m.globals.items m.constants.items (S.heap m.heap.store), λ _ f. f) };
+    ghost keeps_itself = { λ m. (outside_keeps_itself m.globals.items m.constants.items (S.heap m.heap.store), λ _ f. f) };
 
-    ghost keeps_on = { λ s t u p q. (keeps_on s.globals.items t.globals.items u.globals.items s.constants.items t.constants.items u.constants.items (S.heap s.heap.store) (S.heap t.heap.store) (S.heap u.heap.store) p.0 q.0, λ shapes f. q.1 shapes (p.1 shapes f)) };
+    ghost keeps_on = { λ s t u p q. (outside_keeps_on s.globals.items t.globals.items u.globals.items s.constants.items t.constants.items u.constants.items (S.heap s.heap.store) (S.heap t.heap.store) (S.heap u.heap.store) p.0 q.0, λ shapes f. q.1 shapes (p.1 shapes f)) };
 
     #[inline]
     fn load(&self, at: u64) -> Option<u64> {

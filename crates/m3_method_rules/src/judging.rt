@@ -1,9 +1,10 @@
 use indexmap::IndexSet;
 use m3_base::{NoMemory, place_number};
+use m3_declared::method_kind;
 use m3_declarer::{Declarer, MethodValue};
-use m3_early_names::{method_kind, newest_member, type_of_name};
+use m3_early_names::{newest_member, type_of_name};
 use m3_early_types::{is_subtype, seen_structure};
-use m3_gather::TypeAt;
+use m3_gathered::TypeAt;
 use m3_syntax::TypeExp;
 use m3_types::{Mode, Secret, TypeId, TypeNode};
 use m3_worth::Member;
@@ -132,7 +133,10 @@ fn overridden<'a>(
     };
     match newest_member(&mut declarer.eval, parent, value.name)? {
         Some(found) => match found.member {
-            Member::Method(method) => Ok(method_kind(&declarer.eval, found.owner, method)),
+            Member::Method(method) => Ok(method_kind(
+                declarer.eval.definition(found.owner),
+                method,
+            )),
             _ => Ok(None),
         },
         None => Ok(None),

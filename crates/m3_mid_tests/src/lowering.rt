@@ -1,4 +1,5 @@
 use crate::frames::first_large;
+use crate::images::too_large;
 use crate::orders::tested;
 use crate::running::{first_broken, run_lowered};
 use bumpalo::Bump;
@@ -120,16 +121,19 @@ fn validity_of<'a>(
     }
 }
 
-/// The first procedure that isn't well formed, or whose frame is too large.
+/// The first procedure that isn't well formed, or whose frame is too large; else the image that is.
 fn first_wrong<'a>(
     alloc: Global,
     arena: &'a Bump,
     storage: &'a Storage<'a>,
     procs: &'a [Proc<'a>],
 ) -> Result<Option<String>, NoMemory> {
-    match first_broken(alloc, storage, procs)? {
-        Some(broken) => Ok(Some(broken)),
-        None => first_large(alloc, arena, storage.core, procs),
+    if let Some(broken) = first_broken(alloc, storage, procs)? {
+        return Ok(Some(broken));
+    }
+    match first_large(alloc, arena, storage.core, procs)? {
+        Some(large) => Ok(Some(large)),
+        None => too_large(alloc, arena, storage.core),
     }
 }
 

@@ -6,6 +6,7 @@
 mod examples;
 mod framed;
 mod frames;
+mod images;
 mod lowering;
 mod orders;
 mod programs;

@@ -1,4 +1,3 @@
-use m3_outermost::has_body;
 use m3_scopes::{EntityKind, Linker};
 
 /// Refuses each head of a given interface that has a body nowhere (rule 32).
@@ -16,7 +15,7 @@ fn judge_body(linker: &mut Linker<'_>, place: usize) {
     let is_head = entity.kind == EntityKind::Procedure
         && entity.is_outermost
         && linker.is_in_interface()
-        && !has_body(&entity);
+        && !entity.has_body;
     if is_head && entity.body.is_none() {
         linker.note(entity.pos, 32);
     }

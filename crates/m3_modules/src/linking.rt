@@ -3,7 +3,7 @@ use crate::mains::main_module;
 use crate::reveals::judge_reveals;
 use m3_base::{NoMemory, Refused};
 use m3_outermost::{add_infos, declare_units, judge_units, walk_units};
-use m3_scopes::{Linker, Program};
+use m3_scopes::{Linked, Linker, Program};
 use m3_syntax::Unit;
 use m3_unit_order::{body_order, judge_imports};
 use std::alloc::Global;
@@ -17,15 +17,25 @@ pub fn link<'a>(
     units: Vec<Unit<'a>>,
     given: &[Unit<'a>],
     built_in: &[Unit<'a>],
-) -> Result<Program<'a>, Refused> {
-    let mut linker = Linker::new(alloc, units);
-    let order = linked(&mut linker, alloc, given, built_in)?;
-    Ok(Program {
-        units: linker.units,
-        infos: linker.infos,
-        order,
-        binds: linker.binds,
-        reveals: linker.reveals,
+) -> Result<Linked<'a>, Refused> {
+    let given_units = units.len();
+    let mut units = units;
+    for unit in built_in {
+        units.push(*unit)?;
+    }
+    let mut linker = Linker::new(alloc);
+    judge_units(&mut linker, alloc, given)?;
+    add_infos(&mut linker, alloc, &units, given_units)?;
+    let order = linked(&mut linker, alloc, &units)?;
+    Ok(Linked {
+        units,
+        declarations: linker.declarations,
+        program: Program {
+            infos: linker.infos,
+            order,
+            binds: linker.binds,
+            reveals: linker.reveals,
+        },
     })
 }
 
@@ -33,12 +43,10 @@ pub fn link<'a>(
 fn linked<'a>(
     linker: &mut Linker<'a>,
     alloc: Global,
-    given: &[Unit<'a>],
-    built_in: &[Unit<'a>],
+    units: &[Unit<'a>],
 ) -> Result<Vec<u32>, Refused> {
-    add_units(linker, alloc, given, built_in)?;
-    read_units(linker)?;
-    judge_imports(linker, alloc)?;
+    read_units(linker, units)?;
+    judge_imports(linker, alloc, units)?;
     let main = main_module(linker);
     judge_reveals(linker);
     judge_bodies(linker);
@@ -46,24 +54,9 @@ fn linked<'a>(
     Ok(body_order(alloc, linker.infos.as_slice(), main)?)
 }
 
-/// Judges the names of the units, and adds the built-in ones with what each is.
-fn add_units<'a>(
-    linker: &mut Linker<'a>,
-    alloc: Global,
-    given: &[Unit<'a>],
-    built_in: &[Unit<'a>],
-) -> Result<(), NoMemory> {
-    let given_units = linker.units.len();
-    judge_units(linker, alloc, given)?;
-    for unit in built_in {
-        linker.units.push(*unit)?;
-    }
-    add_infos(linker, alloc, given_units)
-}
-
 /// Makes the entities of all units, and finds what each name stands for.
-fn read_units(linker: &mut Linker<'_>) -> Result<(), NoMemory> {
+fn read_units<'a>(linker: &mut Linker<'a>, units: &[Unit<'a>]) -> Result<(), NoMemory> {
     linker.declare_predeclared()?;
-    declare_units(linker)?;
-    walk_units(linker)
+    declare_units(linker, units)?;
+    walk_units(linker, units)
 }

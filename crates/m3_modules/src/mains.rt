@@ -3,19 +3,12 @@ use m3_scopes::Linker;
 
 /// The built-in interface Main, by its place in the units.
 fn main_interface(linker: &Linker<'_>) -> Option<u32> {
-    for (place, unit) in linker.units.iter().enumerate() {
-        if is_built_in(linker, place) && unit.name.text == b"Main".as_slice() {
+    for (place, info) in linker.infos.iter().enumerate() {
+        if info.is_built_in && info.name.text == b"Main".as_slice() {
             return u32::try_from(place).ok();
         }
     }
     None
-}
-
-fn is_built_in(linker: &Linker<'_>, place: usize) -> bool {
-    match linker.infos.get(place) {
-        Some(info) => info.is_built_in,
-        None => false,
-    }
 }
 
 /// The module that exports Main: refuses a second one (rule 27), and a program without one (rule
@@ -30,7 +23,7 @@ pub fn main_module(linker: &mut Linker<'_>) -> Option<u32> {
 /// The first module that exports Main.
 fn exporter(linker: &mut Linker<'_>, main: u32) -> Option<u32> {
     let mut found = None;
-    for place in 0..linker.units.len() {
+    for place in 0..linker.infos.len() {
         if exports_unit(linker, place, main) {
             found = first_main(linker, found, place);
         }
@@ -73,11 +66,12 @@ fn exports_unit(linker: &Linker<'_>, place: usize, interface: u32) -> bool {
 }
 
 fn note_second_main(linker: &mut Linker<'_>, place: usize) {
-    let Some(unit) = linker.units.get(place).copied() else {
-        return;
+    let pos = match linker.infos.get(place) {
+        Some(info) => info.name.pos,
+        None => return,
     };
     if let Ok(number) = u32::try_from(place) {
         linker.unit = number;
-        linker.note(unit.name.pos, 27);
+        linker.note(pos, 27);
     }
 }

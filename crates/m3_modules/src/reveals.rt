@@ -1,6 +1,6 @@
 use m3_base::Pos;
-use m3_scopes::{EntityId, EntityKind, Linker, Revealed};
-use m3_syntax::{Decl, Qualid, TypeExp, TypeName};
+use m3_scopes::{Declaration, Entity, EntityId, EntityKind, Linker, Revealed};
+use m3_syntax::{Qualid, Revelation, TypeDecl, TypeExp, TypeName};
 
 /// What a qualified name of a unit stands for, which was walked before.
 fn found<'a>(linker: &Linker<'a>, unit: u32, name: &Qualid<'a>) -> Option<EntityId> {
@@ -25,6 +25,22 @@ fn name_behind<'a>(kind: &'a TypeExp<'a>) -> Option<&'a Qualid<'a>> {
     None
 }
 
+/// The declaration of a type's name.
+fn type_declaration<'a>(linker: &Linker<'a>, entity: &Entity<'a>) -> Option<&'a TypeDecl<'a>> {
+    match linker.declarations.get(entity.declaration? as usize) {
+        Some(Declaration::Type(declared)) => Some(*declared),
+        _ => None,
+    }
+}
+
+/// A revelation as it is written.
+fn revelation<'a>(linker: &Linker<'a>, revealed: &Revealed) -> Option<&'a Revelation<'a>> {
+    match linker.declarations.get(revealed.declaration as usize) {
+        Some(Declaration::Reveal(written)) => Some(*written),
+        _ => None,
+    }
+}
+
 /// The opaque type that a type's name stands for, through at most as many names as there are.
 fn opaque_behind<'a>(linker: &Linker<'a>, id: EntityId) -> Option<EntityId> {
     let mut id = id;
@@ -33,10 +49,7 @@ fn opaque_behind<'a>(linker: &Linker<'a>, id: EntityId) -> Option<EntityId> {
         match entity.kind {
             EntityKind::Opaque => return Some(id),
             EntityKind::Type => {
-                let Decl::Type { types, .. } = entity.declaration? else {
-                    return None;
-                };
-                let declared = types.get(entity.place as usize)?;
+                let declared = type_declaration(linker, &entity)?;
                 id = found(linker, entity.unit, name_behind(declared.kind)?)?;
             }
             _ => return None,
@@ -76,7 +89,7 @@ fn judge_reveal(linker: &mut Linker<'_>, place: usize) {
 
 /// The opaque type of a given unit that a revelation names.
 fn given_opaque(linker: &Linker<'_>, revealed: &Revealed) -> Option<EntityId> {
-    let written = revealed.written(linker.units.as_slice())?;
+    let written = revelation(linker, revealed)?;
     let named = found(linker, revealed.unit, &written.name)?;
     let opaque = opaque_behind(linker, named)?;
     if is_given(linker, opaque) {
@@ -88,7 +101,7 @@ fn given_opaque(linker: &Linker<'_>, revealed: &Revealed) -> Option<EntityId> {
 
 /// Whether the revealed name stands for something; where it doesn't, that was refused before.
 fn is_known(linker: &Linker<'_>, revealed: &Revealed) -> bool {
-    let Some(written) = revealed.written(linker.units.as_slice()) else {
+    let Some(written) = revelation(linker, revealed) else {
         return false;
     };
     let Some(first) = linker.binds.at(revealed.unit, written.name.first.pos) else {

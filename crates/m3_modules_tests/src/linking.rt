@@ -20,7 +20,7 @@ impl Trial for Linking {
         let arena = &owner;
         let copies = copies(alloc, arena, sources)?;
         match read_program(alloc, arena, copies.as_slice()) {
-            Ok(program) => answer_of_program(alloc, sources, &program, wanted),
+            Ok(linked) => answer_of_program(alloc, sources, &linked.program, wanted),
             Err(refused) => refused_text(alloc, sources, &refused),
         }
     }

@@ -16,13 +16,13 @@ pub fn walk_declarations<'a>(
     declarations: &'a [Decl<'a>],
     is_outermost: bool,
 ) -> Result<(), NoMemory> {
-    for (place, declaration) in declarations.iter().enumerate() {
+    for declaration in declarations {
         match declaration {
             Decl::Const { constants, .. } => walk_constants(linker, constants)?,
             Decl::Type { types, .. } => walk_types(linker, types)?,
             Decl::Exception { exceptions, .. } => walk_exceptions(linker, exceptions)?,
             Decl::Var { variables, .. } => walk_variables(linker, variables)?,
-            Decl::Reveal { reveals, .. } => walk_reveals(linker, place, reveals, is_outermost)?,
+            Decl::Reveal { reveals, .. } => walk_reveals(linker, reveals, is_outermost)?,
             Decl::Procedure {
                 name,
                 signature,
@@ -32,7 +32,7 @@ pub fn walk_declarations<'a>(
                 walk_signature(linker, signature)?;
                 judge_place_of_body(linker, *name, body.is_some(), is_outermost);
                 if let Some(body) = body {
-                    walk_body(linker, body, declaration, *name, signature)?;
+                    walk_body(linker, body, *name, signature)?;
                 }
             }
         }
@@ -61,14 +61,13 @@ fn judge_place_of_body<'a>(
 fn walk_body<'a>(
     linker: &mut Linker<'a>,
     body: &'a ProcedureBody<'a>,
-    declaration: &'a Decl<'a>,
     name: Name<'a>,
     signature: &'a Signature<'a>,
 ) -> Result<(), NoMemory> {
     let around = linker.procedure;
     linker.procedure = linker.binds.at(linker.unit, name.pos);
     linker.scopes.enter()?;
-    declare_formals(linker, declaration, signature)?;
+    declare_formals(linker, name.pos, signature)?;
     walk_block(linker, &body.block)?;
     linker.scopes.leave();
     linker.procedure = around;

@@ -7,3 +7,5 @@ pub mod BlankLemmas
 pub mod Putting
 pub mod OpenSizes
 pub mod Depths
+pub mod Going
+pub mod Collecting

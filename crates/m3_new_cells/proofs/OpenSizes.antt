@@ -1,10 +1,12 @@
 -- The sizes of an open cell and their product.
-use Rattle.std.specs.Prelude.{ℕ, zero, suc, ◌≡◌, ◌+◌, ◌-◌, ◌*◌, ◌^◌, ◌<◌, ◌≤◌, min, nat_le, true, false, List, [], ◌∷◌, ◌++◌}
+use Rattle.std.specs.Prelude.{ℕ, zero, suc, ◌≡◌, ◌+◌, ◌-◌, ◌*◌, ◌^◌, ◌<◌, ◌≤◌, ◌==◌, min, nat_le, if◌then◌else◌, Bool, true, false, List, [], ◌∷◌, ◌++◌, Option, None, Some, Result, Ok, Err}
 use Rattle.std.proofs.Common.{sym, ap, ◌∙◌, arith, ⊎_elim, mul_assoc, mul-zero, mul-suc, mul_comm}
 use Rattle.std.proofs.lemmas.Bool.{cases_lt}
 use Rattle.std.proofs.lemmas.Bool.Decides.{nat_tests}
+use Rattle.m3_base.specs.declared.outcomes.Outcome.{Outcome}
+use Rattle.m3_base.specs.declared.outcomes.Outcome.TheVariants.{Trap}
 use Rattle.m3_sections.specs.Parts.{CellType}
-use Rattle.m3_strides.specs.NewTexts.{product, open_words}
+use Rattle.m3_strides.specs.NewTexts.{product, open_words, open_type}
 
 pub product_more : (sizes : List ℕ) (size : ℕ) → product (sizes ++ size ∷ []) ≡ product sizes * size
 product_more [] size = omega arith
@@ -42,3 +44,12 @@ pub words_said : (told : CellType) (sizes : List ℕ) (said element dims words :
 words_said told sizes said element dims words is same-element same-dims asked =
     asked ∙ words_asked said element dims (product sizes) (2 ^ 64 - 1) is
     ∙ ap (λ (d : ℕ). min (1 + d + element * product sizes) (2 ^ 64 - 1)) same-dims ∙ ap (λ (e : ℕ). min (1 + told.dims + e * product sizes) (2 ^ 64 - 1)) same-element
+
+there-if : (b : Bool) (t form : CellType) → ◌≡◌ {A = Result CellType Outcome} (if b then Ok t else Err (Trap 4)) (Ok form) → Some t ≡ Some form
+there-if true t form e = cc
+there-if false t form e = absurd cc
+
+-- an open type is there
+pub there_is : (o : Option CellType) (form : CellType) → open_type o ≡ Ok form → o ≡ Some form
+there_is None form e = absurd cc
+there_is (Some t) form e = there-if (t.kind == 1) t form e

@@ -9,7 +9,7 @@ use Rattle.m3_isa.specs.declared.instructions.Instr.{Instr}
 use Rattle.m3_isa.specs.declared.registers.Regs.{Regs}
 use Rattle.m3_sections.specs.Parts.{Program}
 use Rattle.m3_strides.specs.State.{State}
-use Rattle.m3_strides.specs.Act.{Act, Puts, bytes_of, traps, loading}
+use Rattle.m3_strides.specs.Act.{Act, Puts, bytes_of, stops_with_trap, loading}
 use Rattle.m3_strides.specs.Progress.{Progress, Follows}
 use Rattle.m3_strides.specs.Texts.{text_bytes}
 use Rattle.m3_strides.specs.Acts.{has_text, puts_text, puts_bytes}
@@ -24,8 +24,8 @@ put_loaded i regs memory text o is loaded =
     ∙ ap (λ (x : ℕ). loading (memory (add_words x 1)) (λ count. puts_bytes memory x count regs)) is
 
 pub put_found : (memory : Memory) (text count : ℕ) (regs : Regs) (b : Bool) → b ≡ has_text memory text 0 count
-    → (if b then Puts (text_bytes memory text 0 count) (next regs) else traps 2) ≡ puts_bytes memory text count regs
-put_found memory text count regs b is = ap (λ (c : Bool). if c then Puts (text_bytes memory text 0 count) (next regs) else traps 2) is
+    → (if b then Puts (text_bytes memory text 0 count) (next regs) else stops_with_trap 2) ≡ puts_bytes memory text count regs
+put_found memory text count regs b is = ap (λ (c : Bool). if c then Puts (text_bytes memory text 0 count) (next regs) else stops_with_trap 2) is
 
 -- what holds of an act holds of the same one
 pub put_as : (p : Program) (s : State) (progress : Progress) (before after : Option (List ℕ)) (one other : Act) → one ≡ other → Took before after (bytes_of one) × Follows p one s progress

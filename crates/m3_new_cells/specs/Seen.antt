@@ -1,11 +1,13 @@
 -- What a machine is seen as: its program and its state, and what else stays or changes with them.
-use Rattle.std.specs.Prelude.{ℕ, ◌≡◌, ◌++◌, Bool, List, Option, Some, IfSome}
+use Rattle.std.specs.Prelude.{ℕ, ◌≡◌, ◌++◌, Bool, true, false, List, Option, Some, IfSome}
 use Rattle.m3_heap.specs.declared.store.Store.{Ghosts}
 use Rattle.m3_threads.specs.declared.status.Thread.{Thread}
 use Rattle.m3_threads.specs.All.{thread_named}
 use Rattle.m3_sections.specs.Parts.{Program}
 use Rattle.m3_decoded.specs.Ready.{image_of}
 use Rattle.m3_new_cells.specs.declared.parts.Parts.{Parts}
+use Rattle.m3_strides.specs.declared.progress.Progress.{Progress as Answer}
+use Rattle.m3_strides.specs.declared.progress.Progress.TheVariants.{Ends}
 use Rattle.m3_strides.specs.State.{State}
 
 abbrev pub state_of : {S : Type 0} {g : Ghosts S} → Parts S g → State
@@ -35,6 +37,17 @@ pub record Rest : Type 0 where
 
 abbrev pub rest_of : {S : Type 0} {g : Ghosts S} → Parts S g → Rest
 rest_of m = record { program = program_of m; input = m.input.now; stack = m.stack; made = m.made; stuck = m.stuck }
+
+-- No collection ended in trap 9, and the stacks have as many words as there is room for in a collection: the next one
+-- ends in trap 9 only where it has to stop.
+pub record IsGoing {S : Type 0} {g : Ghosts S} (m : Parts S g) : Type 0 where
+  pub unstuck : m.stuck ≡ false
+  pub depth : m.memory.threads.stack ≡ m.stack
+
+-- the run didn't end
+abbrev pub goes_on : Answer → Bool
+goes_on (Ends outcome) = false
+goes_on _ = true
 
 -- the thread that runs
 abbrev pub Running : {S : Type 0} {g : Ghosts S} → Parts S g → Thread → Type 0

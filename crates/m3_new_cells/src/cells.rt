@@ -1,4 +1,4 @@
-ghost use Rattle.std.specs.Prelude.{◌≡◌, ◌<◌, ◌≤◌, ◌+◌, ◌-◌, ◌*◌, ◌^◌, ◌++◌, min, ℕ, [], ◌∷◌, nat_le, vec_capacity, length, slice_get, Result, Ok, Err, IfOk, IfSome, MatchResult};
+ghost use Rattle.std.specs.Prelude.{◌≡◌, ◌<◌, ◌≤◌, ◌+◌, ◌-◌, ◌*◌, ◌^◌, ◌++◌, min, ℕ, true, [], ◌∷◌, nat_le, vec_capacity, length, slice_get, Result, Ok, Err, IfOk, IfSome, MatchResult};
 ghost use Rattle.std.specs.Int.{cast_unsigned, w32};
 ghost use Rattle.m3_base.specs.declared.outcomes.Outcome.{Outcome as End};
 ghost use Rattle.m3_threads.specs.declared.status.Thread.{Thread};
@@ -9,7 +9,7 @@ ghost use Rattle.m3_strides.specs.Progress.{became};
 ghost use Rattle.m3_strides.specs.Making.{Allocates, Makes, Makes_late, Makes_fixed, fixed_words, HasNew};
 ghost use Rattle.m3_strides.specs.NewTexts.{with_words, open_type, GivesOpen, Makes_open};
 ghost use Rattle.m3_new_cells.specs.Blanks.{Reads};
-ghost use Rattle.m3_new_cells.specs.Seen.{state_of, program_of, rest_of, Running};
+ghost use Rattle.m3_new_cells.specs.Seen.{state_of, program_of, rest_of, IsGoing, goes_on, Running};
 
 use crate::parts::Parts;
 use m3_base::Outcome;
@@ -53,7 +53,8 @@ impl<'a, S: Store> Parts<'a, S> {
         requires { 1 ≤ words }
         ensures rest { rest_of self.new ≡ record (rest_of self.old) { stuck = self.new.stuck } }
         ensures sizes { self.new.sizes.items ≡ self.old.sizes.items }
-        ensures made { Makes (program_of self.old) kind words (state_of self.old) result (state_of self.new) }
+        ensures going { IfOk result (λ start. self.new.stuck ≡ self.old.stuck) }
+        ensures made { IsGoing self.old → Makes (program_of self.old) kind words (state_of self.old) result (state_of self.new) }
         ensures new { IfOk result (λ start. HasNew kind words start (state_of self.new)) }
         ensures low { IfOk result (λ start. (start + words ≤ 2 ^ 63) × (words < 2 ^ 32)) }
     {
@@ -68,7 +69,8 @@ impl<'a, S: Store> Parts<'a, S> {
         requires { 1 ≤ words }
         ensures rest { rest_of self.new ≡ record (rest_of self.old) { stuck = self.new.stuck } }
         ensures sizes { self.new.sizes.items ≡ self.old.sizes.items }
-        ensures made { Makes_late (program_of self.old) kind words (state_of self.old) result (state_of self.new) }
+        ensures going { IfOk result (λ start. self.new.stuck ≡ self.old.stuck) }
+        ensures made { IsGoing self.old → Makes_late (program_of self.old) kind words (state_of self.old) result (state_of self.new) }
         ensures new { IfOk result (λ start. HasNew kind words start (state_of self.new)) }
         ensures low { IfOk result (λ start. (start + words ≤ 2 ^ 63) × (words < 2 ^ 32)) }
     {
@@ -99,7 +101,8 @@ impl<'a, S: Store> Parts<'a, S> {
     pub fn make_fixed(&mut self, i: Instr) -> Progress
         requires { i.a < 16 }
         ensures rest { rest_of self.new ≡ record (rest_of self.old) { stuck = self.new.stuck } }
-        ensures makes { Makes_fixed (program_of self.old) i (cast_unsigned w32 i.imm) (state_of self.old)
+        ensures going { goes_on result ≡ true → self.new.stuck ≡ self.old.stuck }
+        ensures makes { IsGoing self.old → Makes_fixed (program_of self.old) i (cast_unsigned w32 i.imm) (state_of self.old)
             (fixed_words (slice_get (program_of self.old).types (cast_unsigned w32 i.imm))) (became result (state_of self.new)) }
     {
         let kind = i.imm.cast_unsigned();
@@ -197,7 +200,8 @@ impl<'a, S: Store> Parts<'a, S> {
         requires register { a < 16 }
         requires room { length self.old.sizes.items < words }
         ensures rest { rest_of self.new ≡ record (rest_of self.old) { stuck = self.new.stuck } }
-        ensures makes { (made : Result ℕ End) × (u : State) × Makes (program_of self.old) kind words (state_of self.old) made u
+        ensures going { goes_on result ≡ true → self.new.stuck ≡ self.old.stuck }
+        ensures makes { IsGoing self.old → (made : Result ℕ End) × (u : State) × Makes (program_of self.old) kind words (state_of self.old) made u
             × GivesOpen (program_of self.old) a self.old.sizes.items made u (became result (state_of self.new)) }
     {
         match self.make_cell(kind, words) {
@@ -215,7 +219,8 @@ impl<'a, S: Store> Parts<'a, S> {
         requires sizes { i.b < 16 }
         requires kind { kind ≡ cast_unsigned w32 i.imm }
         ensures rest { rest_of self.new ≡ record (rest_of self.old) { stuck = self.new.stuck } }
-        ensures makes { (type_of shape.entry).dims ≤ vec_capacity self.old.sizes → (t : Thread) → Running self.old t
+        ensures going { goes_on result ≡ true → self.new.stuck ≡ self.old.stuck }
+        ensures makes { IsGoing self.old → (type_of shape.entry).dims ≤ vec_capacity self.old.sizes → (t : Thread) → Running self.old t
             → Makes_open (program_of self.old) t i (state_of self.old) (Ok (type_of shape.entry)) (became result (state_of self.new)) }
     {
         let dims = shape.dims();
@@ -234,8 +239,8 @@ impl<'a, S: Store> Parts<'a, S> {
         requires answer { i.a < 16 }
         requires sizes { i.b < 16 }
         ensures rest { rest_of self.new ≡ record (rest_of self.old) { stuck = self.new.stuck } }
-        ensures makes { ((form : CellType) → open_type (slice_get (program_of self.old).types (cast_unsigned w32 i.imm)) ≡ Ok form → form.dims ≤ vec_capacity self.old.sizes)
-            → (t : Thread) → Running self.old t
+        ensures going { goes_on result ≡ true → self.new.stuck ≡ self.old.stuck }
+        ensures makes { IsGoing self.old → (t : Thread) → Running self.old t
             → Makes_open (program_of self.old) t i (state_of self.old) (open_type (slice_get (program_of self.old).types (cast_unsigned w32 i.imm))) (became result (state_of self.new)) }
     {
         let kind = i.imm.cast_unsigned();

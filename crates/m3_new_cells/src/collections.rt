@@ -1,11 +1,11 @@
 ghost use Rattle.std.specs.Prelude.{◌≡◌, ℕ, true, false, map, length};
-ghost use Rattle.std.specs.Bool.{OnTrue};
+ghost use Rattle.std.specs.Bool.{OnTrue, OnFalse};
 ghost use Rattle.m3_sections.specs.Shapes.{shape_of};
 ghost use Rattle.m3_decoded.specs.Ready.{image_of};
 ghost use Rattle.m3_roots.specs.RoomSizes.{IsRoomFor};
-ghost use Rattle.m3_roots.specs.Collected.{Collected};
+ghost use Rattle.m3_roots.specs.Collected.{Collected, StopsCollection};
 ghost use Rattle.m3_strides.specs.Collecting.{Collects, Spoils};
-ghost use Rattle.m3_new_cells.specs.Seen.{state_of, program_of, rest_of};
+ghost use Rattle.m3_new_cells.specs.Seen.{state_of, program_of, rest_of, IsGoing};
 
 use crate::parts::Parts;
 use m3_decoded::Decoded;
@@ -30,6 +30,10 @@ fn collect_in<S: Store, L: Ledger>(
     ensures fitting { result ≡ true → S.fits heap.new.store (map shape_of (image_of image.now).program.types) }
     ensures collected { IsRoomFor threads.old.stack room.old
         → OnTrue result (Collected (image_of image.now).program (record { all = threads.old; globals = globals.old; heap = S.heap heap.old.store }) (record { all = threads.new; globals = globals.new; heap = S.heap heap.new.store })) }
+    ensures whole { IsRoomFor threads.old.stack room.old
+        → OnTrue result (StopsCollection (image_of image.now).program (record { all = threads.old; globals = globals.old; heap = S.heap heap.old.store }) → ⊥) }
+    ensures stopped { IsRoomFor threads.old.stack room.old
+        → OnFalse result (StopsCollection (image_of image.now).program (record { all = threads.old; globals = globals.old; heap = S.heap heap.old.store })) }
     ensures room { (stack : ℕ) → IsRoomFor stack room.old → IsRoomFor stack room.new }
     ensures words { length globals.new ≡ length globals.old }
     ensures forks { threads.new.forks ≡ threads.old.forks }
@@ -51,6 +55,10 @@ fn collect_outside<S: Store, L: Ledger>(
     ensures fitting { result ≡ true → S.fits outside.new.heap.store (map shape_of (image_of image.now).program.types) }
     ensures collected { IsRoomFor threads.old.stack room.old
         → OnTrue result (Collected (image_of image.now).program (record { all = threads.old; globals = outside.old.globals.items; heap = S.heap outside.old.heap.store }) (record { all = threads.new; globals = outside.new.globals.items; heap = S.heap outside.new.heap.store })) }
+    ensures whole { IsRoomFor threads.old.stack room.old
+        → OnTrue result (StopsCollection (image_of image.now).program (record { all = threads.old; globals = outside.old.globals.items; heap = S.heap outside.old.heap.store }) → ⊥) }
+    ensures stopped { IsRoomFor threads.old.stack room.old
+        → OnFalse result (StopsCollection (image_of image.now).program (record { all = threads.old; globals = outside.old.globals.items; heap = S.heap outside.old.heap.store })) }
     ensures room { (stack : ℕ) → IsRoomFor stack room.old → IsRoomFor stack room.new }
     ensures words { length outside.new.globals.items ≡ length outside.old.globals.items }
     ensures constants { outside.new.constants.items ≡ outside.old.constants.items }
@@ -83,6 +91,10 @@ fn collect_by<S: Store, L: Ledger>(
     ensures fitting { result ≡ true → ∥ S.fits outside.new.heap.store (map shape_of (image_of image.now).program.types) ∥₁ }
     ensures collected { IsRoomFor threads.old.stack room.old
         → OnTrue result (Collected (image_of image.now).program (record { all = threads.old; globals = outside.old.globals.items; heap = S.heap outside.old.heap.store }) (record { all = threads.new; globals = outside.new.globals.items; heap = S.heap outside.new.heap.store })) }
+    ensures whole { IsRoomFor threads.old.stack room.old
+        → OnTrue result (StopsCollection (image_of image.now).program (record { all = threads.old; globals = outside.old.globals.items; heap = S.heap outside.old.heap.store }) → ⊥) }
+    ensures stopped { IsRoomFor threads.old.stack room.old
+        → OnFalse result (StopsCollection (image_of image.now).program (record { all = threads.old; globals = outside.old.globals.items; heap = S.heap outside.old.heap.store })) }
     ensures room { (stack : ℕ) → IsRoomFor stack room.old → IsRoomFor stack room.new }
     ensures words { length outside.new.globals.items ≡ length outside.old.globals.items }
     ensures constants { outside.new.constants.items ≡ outside.old.constants.items }
@@ -104,6 +116,10 @@ fn collect_now<S: Store>(
     ensures fitting { result ≡ true → ∥ S.fits outside.new.heap.store (map shape_of (image_of image.now).program.types) ∥₁ }
     ensures collected { IsRoomFor threads.old.stack room.old
         → OnTrue result (Collected (image_of image.now).program (record { all = threads.old; globals = outside.old.globals.items; heap = S.heap outside.old.heap.store }) (record { all = threads.new; globals = outside.new.globals.items; heap = S.heap outside.new.heap.store })) }
+    ensures whole { IsRoomFor threads.old.stack room.old
+        → OnTrue result (StopsCollection (image_of image.now).program (record { all = threads.old; globals = outside.old.globals.items; heap = S.heap outside.old.heap.store }) → ⊥) }
+    ensures stopped { IsRoomFor threads.old.stack room.old
+        → OnFalse result (StopsCollection (image_of image.now).program (record { all = threads.old; globals = outside.old.globals.items; heap = S.heap outside.old.heap.store })) }
     ensures room { (stack : ℕ) → IsRoomFor stack room.old → IsRoomFor stack room.new }
     ensures words { length outside.new.globals.items ≡ length outside.old.globals.items }
     ensures constants { outside.new.constants.items ≡ outside.old.constants.items }
@@ -114,14 +130,15 @@ fn collect_now<S: Store>(
 }
 
 impl<'a, S: Store> Parts<'a, S> {
-    /// Collects the heap. False comes exactly where that ends in trap 9.
+    /// Collects the heap. False comes exactly where that has to stop, in trap 9; or where an earlier collection did.
     pub fn collect(&mut self) -> bool
         ensures rest { rest_of self.new ≡ record (rest_of self.old) { stuck = self.new.stuck } }
         ensures sizes { self.new.sizes.items ≡ self.old.sizes.items }
-        ensures good { result ≡ true → Collects (program_of self.old) (state_of self.old) (state_of self.new) }
-        ensures bad { result ≡ false → Spoils (state_of self.old) (state_of self.new) }
+        ensures going { result ≡ true → self.new.stuck ≡ self.old.stuck }
+        ensures good { result ≡ true → IsGoing self.old → Collects (program_of self.old) (state_of self.old) (state_of self.new) }
+        ensures bad { result ≡ false → IsGoing self.old → Spoils (program_of self.old) (state_of self.old) (state_of self.new) }
     {
-        if self.stuck || self.depth() != Some(self.stack) {
+        if self.stuck {
             return false;
         }
         let done = collect_now(

@@ -18,7 +18,7 @@ use m3_strides::near::{Place, Stack};
 use m3_threads::Status;
 
 // No run carries out more forks and waits: each of them passes a point.
-const MOST_MADE: u64 = 1 << 62;
+const MOST_MADE: u64 = 1 << 63;
 
 impl<'a, S: Store> Parts<'a, S> {
     /// The registers of the running thread.
@@ -81,20 +81,10 @@ impl<'a, S: Store> Parts<'a, S> {
         }
     }
 
-    /// How many words the stacks have, if there is a thread.
-    pub fn depth(&self) -> Option<u64>
-        ensures { IfSome result (λ words. words ≡ self.now.memory.threads.stack) }
-    {
-        match self.memory.threads.number(0) {
-            Some(first) => self.depth_of(first),
-            None => None,
-        }
-    }
-
     /// Gives the running thread other registers.
     pub fn set_regs(&mut self, regs: Regs)
         ensures rest { rest_of self.new ≡ rest_of self.old }
-        ensures set { (t : Thread) → Running self.old t → state_of self.new ≡ with_regs (state_of self.old) regs }
+        ensures set { state_of self.new ≡ with_regs (state_of self.old) regs }
     {
         if let Some(place) = self.memory.threads.regs_mut(self.running) {
             *place = regs;
@@ -174,8 +164,8 @@ impl<'a, S: Store> Parts<'a, S> {
 
     /// Whether one fork or wait more may be counted.
     pub fn may_count(&self) -> bool
-        ensures more { result ≡ true → self.now.made + 1 ≤ 2 ^ 62 }
-        ensures none { result ≡ false → 2 ^ 62 ≤ self.now.made }
+        ensures more { result ≡ true → self.now.made + 1 ≤ 2 ^ 63 }
+        ensures none { result ≡ false → 2 ^ 63 ≤ self.now.made }
     {
         self.made < MOST_MADE
     }

@@ -1,4 +1,4 @@
-ghost use Rattle.std.specs.Prelude.{◌≡◌, ◌<◌, ◌≤◌, ◌+◌, ◌-◌, ◌*◌, ◌/◌, ◌%◌, ◌^◌, ◌==◌, if◌then◌else◌, is_some, [], ◌∷◌, min, take, drop, slice_index, Some, Ok, OnOk, OnErr, IfOk};
+ghost use Rattle.std.specs.Prelude.{◌≡◌, ◌<◌, ◌≤◌, ◌+◌, ◌-◌, ◌*◌, ◌/◌, ◌%◌, ◌^◌, ◌==◌, if◌then◌else◌, is_some, true, [], ◌∷◌, min, take, drop, slice_index, Some, Ok, OnOk, OnErr, IfOk};
 ghost use Rattle.std.specs.Int.{div_ceil};
 ghost use Rattle.m3_ports.specs.Counts.{Rose};
 ghost use Rattle.m3_base.specs.Words.{add_words};
@@ -14,7 +14,7 @@ ghost use Rattle.m3_strides.specs.Making.{HasNew};
 ghost use Rattle.m3_strides.specs.NewTexts.{with_words, both, part_of, FillsText, GivesText, Makes_text, Makes_char, Cats, lengths_at, sub_count, Subs};
 ghost use Rattle.m3_strides.specs.Acts.{has_text, puts_text};
 ghost use Rattle.m3_new_cells.specs.Blanks.{WasBlank, IsWithin, both_bytes};
-ghost use Rattle.m3_new_cells.specs.Seen.{state_of, program_of, rest_of, Running, Took};
+ghost use Rattle.m3_new_cells.specs.Seen.{state_of, program_of, rest_of, IsGoing, goes_on, Running, Took};
 
 use crate::parts::Parts;
 use m3_base::Outcome;
@@ -248,7 +248,8 @@ impl<'a, S: Store> Parts<'a, S> {
         requires left { i.b < 16 }
         requires right { i.c < 16 }
         ensures rest { rest_of self.new ≡ record (rest_of self.old) { stuck = self.new.stuck } }
-        ensures cats { (t : Thread) → Running self.old t
+        ensures going { goes_on result ≡ true → self.new.stuck ≡ self.old.stuck }
+        ensures cats { IsGoing self.old → (t : Thread) → Running self.old t
             → Cats (program_of self.old) i (state_of self.old) (lengths_at (memory_of (program_of self.old) (state_of self.old)) (reg t.regs i.b) (reg t.regs i.c)) (became result (state_of self.new)) }
     {
         let left_text = self.word(i.b);
@@ -265,7 +266,8 @@ impl<'a, S: Store> Parts<'a, S> {
         requires left { i.b < 16 }
         requires right { i.c < 16 }
         ensures rest { rest_of self.new ≡ record (rest_of self.old) { stuck = self.new.stuck } }
-        ensures makes { Makes_text (program_of self.old) i.a (state_of self.old) (left + right)
+        ensures going { goes_on result ≡ true → self.new.stuck ≡ self.old.stuck }
+        ensures makes { IsGoing self.old → Makes_text (program_of self.old) i.a (state_of self.old) (left + right)
             (λ memory u. both (part_of memory (reg u.regs i.b) 0 left) (part_of memory (reg u.regs i.c) 0 right)) (became result (state_of self.new)) }
     {
         let words = words_for(left, right);
@@ -308,7 +310,8 @@ impl<'a, S: Store> Parts<'a, S> {
         requires answer { i.a < 16 }
         requires byte { i.b < 16 }
         ensures rest { rest_of self.new ≡ record (rest_of self.old) { stuck = self.new.stuck } }
-        ensures makes { Makes_char (program_of self.old) i (state_of self.old) (became result (state_of self.new)) }
+        ensures going { goes_on result ≡ true → self.new.stuck ≡ self.old.stuck }
+        ensures makes { IsGoing self.old → Makes_char (program_of self.old) i (state_of self.old) (became result (state_of self.new)) }
     {
         match self.make_cell(0, 3) {
             Ok(start) => self.fill_char(i, start),
@@ -346,7 +349,8 @@ impl<'a, S: Store> Parts<'a, S> {
         requires text { i.b < 16 }
         requires from { i.c < 16 }
         ensures rest { rest_of self.new ≡ record (rest_of self.old) { stuck = self.new.stuck } }
-        ensures subs { (t : Thread) → Running self.old t
+        ensures going { goes_on result ≡ true → self.new.stuck ≡ self.old.stuck }
+        ensures subs { IsGoing self.old → (t : Thread) → Running self.old t
             → Subs (program_of self.old) t i (state_of self.old) (or_trap 2 (memory_of (program_of self.old) (state_of self.old) (add_words (reg t.regs i.b) 1))) (became result (state_of self.new)) }
     {
         let text = self.word(i.b);
@@ -364,7 +368,8 @@ impl<'a, S: Store> Parts<'a, S> {
         requires answer { i.a < 16 }
         requires text { i.b < 16 }
         ensures rest { rest_of self.new ≡ record (rest_of self.old) { stuck = self.new.stuck } }
-        ensures makes { Makes_text (program_of self.old) i.a (state_of self.old) (sub_count bytes from most)
+        ensures going { goes_on result ≡ true → self.new.stuck ≡ self.old.stuck }
+        ensures makes { IsGoing self.old → Makes_text (program_of self.old) i.a (state_of self.old) (sub_count bytes from most)
             (λ memory u. part_of memory (reg u.regs i.b) from (sub_count bytes from most)) (became result (state_of self.new)) }
     {
         let count = cut_length(bytes, from, most);

@@ -4,12 +4,31 @@ use m3_scopes::{EntityId, Predeclared};
 use m3_syntax::{Kept, Name};
 use m3_types::TypeId;
 
+impl State {
+    /// Whether it is a designator.
+    pub fn is_designator(self) -> bool {
+        match self {
+            State::Place { is_designator, .. } => is_designator,
+            State::Value => false,
+        }
+    }
+
+    /// Whether it is a place that may be written.
+    pub fn is_writable(self) -> bool {
+        match self {
+            State::Place { is_writable, .. } => is_writable,
+            State::Value => false,
+        }
+    }
+}
+
 /// A value: its expression and its type.
 #[derive(Clone, Copy)]
 pub struct Valued<'a> {
     pub kept: Kept<'a, CoreExpr<'a>>,
     pub kind: TypeId,
-    /// Whether it is what a formal or a name of WITH holds, which may be a procedure inside another.
+    /// Whether it is what a formal or a name of WITH holds, which may be a procedure inside
+    /// another.
     pub may_be_inner: bool,
 }
 
@@ -35,8 +54,8 @@ pub struct Draft<'a> {
 /// What a chain gives so far.
 #[derive(Clone, Copy, Debug, PartialEq, Eq)]
 pub enum State {
-    /// A place; whether it may be written, and whether it is a designator or a part of a new variable
-    /// that holds a value.
+    /// A place; whether it may be written, and whether it is a designator or a part of a new
+    /// variable that holds a value.
     Place {
         is_writable: bool,
         is_designator: bool,
@@ -44,8 +63,8 @@ pub enum State {
     Value,
 }
 
-/// A method of the object that a chain gives: the object type that declares it, its place there, and
-/// its signature.
+/// A method of the object that a chain gives: the object type that declares it, its place there,
+/// and its signature.
 #[derive(Clone, Copy)]
 pub struct Method<'a> {
     pub object: Draft<'a>,
@@ -77,8 +96,9 @@ pub enum Thing<'a> {
     Change(Pos, Kept<'a, CoreStmt<'a>>),
 }
 
-/// An actual of a call or a part of a constructor: what it is, the place of its first token, its name
-/// where it has one, and the place of the name of an inner procedure where it is nothing else.
+/// An actual of a call or a part of a constructor: what it is, the place of its first token, its
+/// name where it has one, and the place of the name of an inner procedure where it is nothing
+/// else.
 #[derive(Clone, Copy)]
 pub struct Given<'a> {
     pub pos: Pos,

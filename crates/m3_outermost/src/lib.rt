@@ -5,5 +5,4 @@
 mod bodies;
 mod outermost;
 
-pub use bodies::has_body;
 pub use outermost::{add_infos, declare_units, judge_units, walk_units};

@@ -55,24 +55,28 @@ pub fn judge_units<'a>(
 }
 
 /// Says of each unit what it is. Those from `given` on are built in.
-pub fn add_infos(linker: &mut Linker<'_>, alloc: Global, given: usize) -> Result<(), NoMemory> {
-    for place in 0..linker.units.len() {
-        add_info(linker, alloc, place, place >= given)?;
+pub fn add_infos<'a>(
+    linker: &mut Linker<'a>,
+    alloc: Global,
+    units: &[Unit<'a>],
+    given: usize,
+) -> Result<(), NoMemory> {
+    for (place, unit) in units.iter().enumerate() {
+        add_info(linker, alloc, unit, place, place >= given)?;
     }
     Ok(())
 }
 
-fn add_info(
-    linker: &mut Linker<'_>,
+fn add_info<'a>(
+    linker: &mut Linker<'a>,
     alloc: Global,
+    unit: &Unit<'a>,
     place: usize,
     is_built_in: bool,
 ) -> Result<(), NoMemory> {
-    let Some(unit) = linker.units.get(place).copied() else {
-        return Ok(());
-    };
     let number = place_number(place)?;
     linker.infos.push(UnitInfo {
+        name: unit.name,
         number: unit.pos.file,
         is_interface: is_interface(unit.kind),
         is_built_in,
@@ -88,17 +92,18 @@ fn add_info(
 }
 
 /// Makes an entity of each outermost declaration of each unit.
-pub fn declare_units(linker: &mut Linker<'_>) -> Result<(), NoMemory> {
-    for place in 0..linker.units.len() {
-        declare_unit(linker, place)?;
+pub fn declare_units<'a>(linker: &mut Linker<'a>, units: &[Unit<'a>]) -> Result<(), NoMemory> {
+    for (place, unit) in units.iter().enumerate() {
+        declare_unit(linker, unit, place)?;
     }
     Ok(())
 }
 
-fn declare_unit(linker: &mut Linker<'_>, place: usize) -> Result<(), NoMemory> {
-    let Some(unit) = linker.units.get(place).copied() else {
-        return Ok(());
-    };
+fn declare_unit<'a>(
+    linker: &mut Linker<'a>,
+    unit: &Unit<'a>,
+    place: usize,
+) -> Result<(), NoMemory> {
     linker.unit = place_number(place)?;
     let first = linker.binds.entities().len();
     linker.scopes.enter()?;
@@ -114,17 +119,14 @@ fn declare_unit(linker: &mut Linker<'_>, place: usize) -> Result<(), NoMemory> {
 }
 
 /// Reads each unit in its own scope: what it imports, declares and exports, and then all its names.
-pub fn walk_units(linker: &mut Linker<'_>) -> Result<(), NoMemory> {
-    for place in 0..linker.units.len() {
-        walk_unit(linker, place)?;
+pub fn walk_units<'a>(linker: &mut Linker<'a>, units: &[Unit<'a>]) -> Result<(), NoMemory> {
+    for (place, unit) in units.iter().enumerate() {
+        walk_unit(linker, unit, place)?;
     }
     Ok(())
 }
 
-fn walk_unit(linker: &mut Linker<'_>, place: usize) -> Result<(), NoMemory> {
-    let Some(unit) = linker.units.get(place).copied() else {
-        return Ok(());
-    };
+fn walk_unit<'a>(linker: &mut Linker<'a>, unit: &Unit<'a>, place: usize) -> Result<(), NoMemory> {
     linker.unit = place_number(place)?;
     linker.procedure = None;
     if unit.is_unsafe {

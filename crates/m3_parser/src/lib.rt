@@ -1,7 +1,6 @@
 //! The parser of Modula-3: the tokens of a file to its unit.
 #![tactic(auto)]
 
-mod closings;
 mod units;
 
 pub use units::parse;

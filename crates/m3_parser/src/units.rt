@@ -1,175 +1,141 @@
-ghost use Rattle.std.specs.Prelude.{◌≡◌, ◌<◌, ◌≤◌, IfOk, IfErr, OnOk, OnSome, length};
-ghost use Rattle.m3_cursor.specs.Readers.{Follows};
-ghost use Rattle.m3_base.specs.declared.refusals.Refused.TheVariants.{Rule};
-ghost use Rattle.m3_parser.specs.Refusals.{IsRefusal};
-ghost use Rattle.m3_parser.specs.Refusals as spec;
+ghost use Rattle.std.specs.Prelude.{◌≡◌, ◌<◌, ◌≤◌, IfOk, IfErr, OnOk, OnSome, List, length};
+ghost use Rattle.m3_syntax.specs.declared.tokens.Token.{Token};
+ghost use Rattle.m3_cursor.specs.Readers.{Follows, IsRest};
+ghost use Rattle.m3_parser.specs.Places.{HasPlaces};
+ghost use Rattle.m3_stops.specs.Refusals.{IsRefusal};
 
-use crate::closings::first_wrong_closing;
 use bumpalo::Bump;
-use m3_base::{NoMemory, Pos, Refusal, Refused};
-use m3_cursor::{Reader, Stop, Why, name_list, names_up_to};
+use m3_base::{NoMemory, Refused};
+use m3_cursor::{Reader, name_list, names_between};
 use m3_statements::{block, declaration_list};
-use m3_syntax::{Import, ImportItem, Kept, Lexed, Name, Sign, Token, Unit, UnitKind, Word};
+use m3_stops::{MAX_TOKENS, refusal_of, too_many_tokens, wrong_closing};
+use m3_syntax::{Import, ImportItem, Kept, Lexed, Name, Sign, Unit, UnitKind, Word};
 use std::alloc::Global;
-
-/// How many tokens a file may have.
-const MAX_TOKENS: usize = 500_000;
 
 /// How many constructs may be open at a place.
 const MAX_OPEN: u32 = 200;
 
-/// The rule that a token breaks with which no text of the grammar goes on.
-const UNEXPECTED_TOKEN: u16 = 10;
-
-/// The rule that a file breaks that ends too early.
-const END_OF_FILE: u16 = 11;
-
-/// The rule that a closing name breaks that differs from the name that it closes.
-const END_NAME_DIFFERS: u16 = 12;
-
-/// The rule that a token breaks that lies inside too many constructs.
-const NESTING_TOO_DEEP: u16 = 13;
-
-/// The rule that token 500,001 breaks.
-const TOO_MANY_TOKENS: u16 = 14;
-
-/// The unit of a file (the report, section 2.5), given its tokens. Its names and texts borrow those
-/// of the tokens, and its tree stands in the arena.
+/// The unit of a file (the report, section 2.5), given its tokens. Its names and texts borrow
+/// those of the tokens, and its tree stands in the arena.
 ///
-/// An `Err` is the first broken rule of 10 to 14: of phase 2, with its place, and with the file of
-/// `lexed.end` as its unit. Rule 12 is judged only where no other is broken. Want of memory is the
-/// other
-/// `Err`.
+/// An `Err` is the first broken rule of 10 to 14: of phase 2, with its place, and with the file
+/// of `lexed.end` as its unit. Rule 12 is judged only where no other is broken. Want of memory is
+/// the other `Err`.
 pub fn parse<'a>(alloc: Global, arena: &'a Bump, lexed: &Lexed<'a>) -> Result<Unit<'a>, Refused>
     ensures tokens { IfOk result (λ unit. unit.tokens ≡ length lexed.now.tokens.items) }
     ensures within_limit { OnOk result (length lexed.now.tokens.items ≤ 500000) }
+    ensures places { IfOk result (HasPlaces lexed.now.tokens.items) }
+    ensures closed { IfOk result (λ unit. unit.closing.text.now ≡ unit.name.text.now) }
     ensures refused { IfErr result (IsRefusal lexed.now.end lexed.now.tokens.items) }
 {
     let mut reader = Reader::new(alloc, arena, lexed)?;
-    let unit = unit(&mut reader);
-    if let Some(stop) = reader.stop() {
-        return Err(refusal_of(lexed, stop));
+    let found = unit(&mut reader);
+    match reader.stop() {
+        Some(stop) => Err(refusal_of(lexed, stop)),
+        None => match found {
+            Ok(unit) => finished(lexed, unit, reader.wrong_closing()),
+            Err(_) => Err(Refused::NoMemory),
+        },
     }
+}
+
+/// The unit of a file that was read to its end, with the number of its tokens, where these aren't
+/// too many and no closing name, given how many tokens were left there, is wrong.
+fn finished<'a>(
+    lexed: &Lexed<'a>,
+    unit: Unit<'a>,
+    wrong: Option<usize>,
+) -> Result<Unit<'a>, Refused>
+    requires places { HasPlaces lexed.now.tokens.items unit }
+    requires closed { wrong ≡ None → unit.closing.text.now ≡ unit.name.text.now }
+    ensures tokens { IfOk result (λ found. found.tokens ≡ length lexed.now.tokens.items) }
+    ensures within_limit { OnOk result (length lexed.now.tokens.items ≤ 500000) }
+    ensures places { IfOk result (HasPlaces lexed.now.tokens.items) }
+    ensures closed { IfOk result (λ found. found.closing.text.now ≡ found.name.text.now) }
+    ensures refused { IfErr result (IsRefusal lexed.now.end lexed.now.tokens.items) }
+{
     let count = lexed.tokens.len();
     if count > MAX_TOKENS {
         return Err(too_many_tokens(lexed));
     }
-    let mut unit = unit?;
-    unit.tokens = count as u32;
-    match first_wrong_closing(&unit) {
-        Some(pos) => Err(end_name_differs(lexed, pos)),
-        None => Ok(unit),
+    match wrong {
+        Some(left) => Err(wrong_closing(lexed, left)),
+        None => Ok(Unit {
+            tokens: count as u32,
+            ..unit
+        }),
     }
-}
-
-/// What a file is refused for whose reading stopped: token 500,001 where that was taken before.
-#[tactic(auto, using(crate::proofs::RefusalLaws::refused_at))]
-fn refusal_of(lexed: &Lexed<'_>, stop: Stop) -> Refused
-    ensures { IsRefusal lexed.now.end lexed.now.tokens.items result }
-{
-    let taken = lexed.tokens.len().saturating_sub(stop.left);
-    if taken > MAX_TOKENS {
-        return too_many_tokens(lexed);
-    }
-    let rest = &lexed.tokens.as_slice()[taken..];
-    match stop.why {
-        Why::NoMemory => Refused::NoMemory,
-        Why::Unexpected => unexpected(lexed.end, rest),
-        Why::TooDeep => refusal(lexed.end, rest, NESTING_TOO_DEEP),
-    }
-}
-
-/// The refusal of the first token, which may not stand there, or of the end of the file, which
-/// comes too early.
-fn unexpected(end: Pos, rest: &[Token<'_>]) -> Refused
-    ensures { result ≡ Rule (spec.unexpected end rest.now) }
-{
-    if rest.is_empty() {
-        refusal(end, rest, END_OF_FILE)
-    } else {
-        refusal(end, rest, UNEXPECTED_TOKEN)
-    }
-}
-
-fn refusal(end: Pos, rest: &[Token<'_>], rule: u16) -> Refused
-    ensures { result ≡ Rule (spec.broken rule end rest.now) }
-{
-    Refused::Rule(Refusal {
-        phase: 2,
-        unit: end.file,
-        pos: first_place(rest, end),
-        rule,
-    })
-}
-
-/// The refusal of token 500,001.
-fn too_many_tokens(lexed: &Lexed<'_>) -> Refused
-    requires { 500000 < length lexed.now.tokens.items }
-    ensures { IsRefusal lexed.now.end lexed.now.tokens.items result }
-{
-    let rest = &lexed.tokens.as_slice()[MAX_TOKENS..];
-    Refused::Rule(Refusal {
-        phase: 2,
-        unit: lexed.end.file,
-        pos: first_place(rest, lexed.end),
-        rule: TOO_MANY_TOKENS,
-    })
-}
-
-/// The place of the first token, or the end of the file.
-fn first_place(tokens: &[Token<'_>], end: Pos) -> Pos
-    ensures { result ≡ spec.place_at end tokens.now }
-{
-    match tokens {
-        [] => end,
-        [token, ..] => token.pos,
-    }
-}
-
-/// The refusal of a closing name that is another than the one that it closes.
-fn end_name_differs(lexed: &Lexed<'_>, pos: Pos) -> Refused
-    ensures { IsRefusal lexed.now.end lexed.now.tokens.items result }
-{
-    Refused::Rule(Refusal {
-        phase: 2,
-        unit: lexed.end.file,
-        pos,
-        rule: END_NAME_DIFFERS,
-    })
 }
 
 /// The unit that all tokens make. The number of tokens is left at 0.
 fn unit<'a>(reader: &mut Reader<'_, 'a>) -> Result<Unit<'a>, NoMemory>
-    ensures { Follows reader.old reader.new }
+    ensures follows { Follows reader.old reader.new }
+    ensures places { (file : List Token) → IsRest file reader.old.rest.now → reader.new.stop ≡ None
+        → IfOk result (HasPlaces file) }
+    ensures closed { reader.new.wrong_closing ≡ None
+        → IfOk result (λ unit. unit.closing.text.now ≡ unit.name.text.now) }
 {
     let pos = reader.pos();
+    let words = first_words(reader);
+    let name = reader.take_name();
+    let kind = unit_kind(reader, words);
+    let closing = reader.take_closing(&name);
+    end_of_file(reader);
+    Ok(Unit {
+        pos,
+        is_unsafe: words.is_unsafe,
+        name,
+        kind: kind?,
+        closing,
+        tokens: 0,
+    })
+}
+
+/// What the words before a unit's name say of it.
+#[derive(Clone, Copy)]
+struct FirstWords {
+    is_unsafe: bool,
+    is_generic: bool,
+    is_interface: bool,
+}
+
+fn first_words(reader: &mut Reader<'_, '_>) -> FirstWords
+    ensures { Follows reader.old reader.new }
+{
     let is_unsafe = reader.skip_word(Word::Unsafe);
     let is_generic = !is_unsafe && reader.skip_word(Word::Generic);
     let is_interface = reader.skip_word(Word::Interface);
     if !is_interface {
         reader.take_word(Word::Module);
     }
-    let name = reader.take_name();
-    let kind = if is_generic {
-        generic(reader, is_interface)
-    } else if is_interface {
+    FirstWords {
+        is_unsafe,
+        is_generic,
+        is_interface,
+    }
+}
+
+/// What stands in a unit behind its name, up to its closing name.
+fn unit_kind<'a>(reader: &mut Reader<'_, 'a>, words: FirstWords) -> Result<UnitKind<'a>, NoMemory>
+    ensures { Follows reader.old reader.new }
+{
+    if words.is_generic {
+        generic(reader, words.is_interface)
+    } else if words.is_interface {
         interface(reader)
     } else {
         module(reader)
-    };
-    let closing = reader.take_name();
+    }
+}
+
+/// Goes past the dot that ends a file.
+fn end_of_file(reader: &mut Reader<'_, '_>)
+    ensures { Follows reader.old reader.new }
+{
     reader.take_sign(Sign::Dot);
     if reader.kind().is_some() {
         reader.unexpected();
     }
-    Ok(Unit {
-        pos,
-        is_unsafe,
-        name,
-        kind: kind?,
-        closing,
-        tokens: 0,
-    })
 }
 
 /// What stands in an interface behind its name, up to its closing name.
@@ -221,7 +187,7 @@ fn module<'a>(reader: &mut Reader<'_, 'a>) -> Result<UnitKind<'a>, NoMemory>
 fn generic<'a>(reader: &mut Reader<'_, 'a>, is_interface: bool) -> Result<UnitKind<'a>, NoMemory>
     ensures { Follows reader.old reader.new }
 {
-    let formals = parenthesized_names(reader);
+    let formals = names_between(reader, Sign::OpenParen, Sign::CloseParen);
     reader.take_sign(Sign::Semicolon);
     let imports = imports(reader);
     if !is_interface {
@@ -252,17 +218,9 @@ fn instance<'a>(reader: &mut Reader<'_, 'a>) -> (Name<'a>, &'a [Name<'a>])
     ensures { Follows reader.old reader.new }
 {
     let generic = reader.take_name();
-    let actuals = parenthesized_names(reader);
+    let actuals = names_between(reader, Sign::OpenParen, Sign::CloseParen);
     reader.take_word(Word::End);
     (generic, actuals)
-}
-
-/// Names in parentheses, maybe none.
-fn parenthesized_names<'a>(reader: &mut Reader<'_, 'a>) -> &'a [Name<'a>]
-    ensures { Follows reader.old reader.new }
-{
-    reader.take_sign(Sign::OpenParen);
-    names_up_to(reader, Sign::CloseParen)
 }
 
 /// The imports of a unit.

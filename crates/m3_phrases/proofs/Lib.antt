@@ -1,1 +1,3 @@
 pub mod Looseness
+pub mod Begun
+pub mod Spelling

@@ -1,26 +1,31 @@
-ghost use Rattle.std.specs.Prelude.{◌≡◌, ◌+◌, ◌<◌, ◌≤◌, OnSome, IfSome, length};
-ghost use Rattle.m3_cursor.specs.Readers.{Follows};
+ghost use Rattle.std.specs.Prelude.{◌≡◌, ◌+◌, ◌<◌, ◌≤◌, OnSome, IfSome, IfNone, IsSome, length};
+ghost use Rattle.m3_grammar.specs.Ranks.{whole, e2, e6, next, rank_of};
+ghost use Rattle.m3_cursor.specs.Readers.{Follows, Reads};
+ghost use Rattle.m3_phrases.specs.Spelled.{ReadsFound, ReadsExpr};
+ghost use Rattle.m3_phrases.specs.Spelled.{IsInfix, IsPrefixSign};
 
 use crate::operands::operand;
-use crate::settings::{Found, Level, Setting, Want, level_of};
-use m3_cursor::{Reader, begins_expression, operator_of};
+use crate::settings::{Found, Setting, Want};
+use m3_cursor::{Reader, begins_expression};
+use m3_grammar::{Level, level_of, operator_of};
 use m3_syntax::{Expr, Operation, Operator, PrefixSign, Sign, Word};
 
 /// An expression (the report, section 2.6). `room` is that of what surrounds it: the expression
 /// itself opens one construct.
 #[cycle(expressions)]
 pub fn expression<'a>(reader: &mut Reader<'_, 'a>, room: u32) -> &'a Expr<'a>
-    ensures { Follows reader.old reader.new }
+    ensures follows { Follows reader.old reader.new }
+    ensures reads { ReadsExpr whole reader.old reader.new result.now }
 {
     let found = phrase(reader, room, Want::Value);
-    let expr = value_of(reader, found);
-    reader.expr(expr)
+    kept_value(reader, found)
 }
 
 /// An expression of which something is wanted, or a type that no brace follows.
 #[cycle(expressions)]
 pub fn phrase<'a>(reader: &mut Reader<'_, 'a>, room: u32, want: Want) -> Found<'a>
-    ensures { Follows reader.old reader.new }
+    ensures follows { Follows reader.old reader.new }
+    ensures reads { ReadsFound whole reader.old reader.new result }
 {
     let pos = reader.pos();
     let Some(inside) = inside_expression(reader, room) else {
@@ -37,12 +42,13 @@ pub fn phrase<'a>(reader: &mut Reader<'_, 'a>, room: u32, want: Want) -> Found<'
 /// The expression that begins a statement. `room` is that inside the statement. The actuals of
 /// calls on the whole of it lie in the statement alone, since such a call may be the statement
 /// itself.
-pub fn statement_head<'a>(reader: &mut Reader<'_, 'a>, room: u32) -> Expr<'a>
-    ensures { Follows reader.old reader.new }
+pub fn statement_head<'a>(reader: &mut Reader<'_, 'a>, room: u32) -> &'a Expr<'a>
+    ensures follows { Follows reader.old reader.new }
+    ensures reads { ReadsExpr whole reader.old reader.new result.now }
 {
     let pos = reader.pos();
     let Some(inside) = inside_expression(reader, room) else {
-        return Expr::Missing { pos };
+        return reader.expr(Expr::Missing { pos });
     };
     let setting = Setting {
         room: inside,
@@ -50,13 +56,15 @@ pub fn statement_head<'a>(reader: &mut Reader<'_, 'a>, room: u32) -> Expr<'a>
         want: Want::Value,
     };
     let found = operations(reader, setting, Level::Disjunction);
-    value_of(reader, found)
+    kept_value(reader, found)
 }
 
 /// The room inside an expression that the token here opens.
 fn inside_expression(reader: &mut Reader<'_, '_>, room: u32) -> Option<u32>
     ensures follows { Follows reader.old reader.new }
     ensures less { IfSome result (λ inside. inside + 1 ≡ room) }
+    ensures stays { OnSome result (reader.new ≡ reader.old) }
+    ensures stopped { IfNone result (IsSome reader.new.stop) }
 {
     match reader.kind() {
         Some(kind) if begins_expression(kind) => reader.inside(room),
@@ -67,15 +75,17 @@ fn inside_expression(reader: &mut Reader<'_, '_>, room: u32) -> Option<u32>
     }
 }
 
-/// The expression that was found. A type alone is none, since no brace follows it.
-pub fn value_of<'a>(reader: &mut Reader<'_, 'a>, found: Found<'a>) -> Expr<'a>
-    ensures { Follows reader.old reader.new }
+/// Keeps the expression that was found. A type alone is none, since no brace follows it.
+pub fn kept_value<'a>(reader: &mut Reader<'_, 'a>, found: Found<'a>) -> &'a Expr<'a>
+    ensures follows { Follows reader.old reader.new }
+    ensures stays { Reads reader.old reader.new (λ before after. after ≡ before) }
+    ensures value { reader.new.stop ≡ None → found.entry ≡ Found.Value result.now }
 {
     match found {
-        Found::Value(expr) => expr,
+        Found::Value(expr) => reader.expr(expr),
         Found::TypeExp(kind) => {
             reader.unexpected();
-            Expr::Missing { pos: kind.pos() }
+            reader.expr(Expr::Missing { pos: kind.pos() })
         }
     }
 }
@@ -84,24 +94,25 @@ pub fn value_of<'a>(reader: &mut Reader<'_, 'a>, found: Found<'a>) -> Expr<'a>
 #[cycle(expressions)]
 pub fn operations<'a>(reader: &mut Reader<'_, 'a>, setting: Setting, level: Level) -> Found<'a>
     requires { setting.room ≤ setting.calls }
-    ensures { Follows reader.old reader.new }
+    ensures follows { Follows reader.old reader.new }
+    ensures reads { ReadsFound (rank_of level) reader.old reader.new result }
 {
+    let pos = reader.pos();
     let first = match tighter(reader, setting, level) {
         Found::Value(first) => first,
-        kind => return kind,
+        Found::TypeExp(kind) => return Found::TypeExp(kind),
     };
     let mut rest = Vec::new(reader.alloc());
     'operations: loop {
-        let pos = reader.pos();
-        let Some(operator) = infix(reader, level) else {
+        let place = reader.pos();
+        let Some(operator) = operator_here(reader, level) else {
             break;
         };
         let found = tighter(reader, setting.behind_operator(), level);
-        let right = value_of(reader, found);
-        let right = reader.expr(right);
+        let right = kept_value(reader, found);
         let operation = Operation {
             operator,
-            pos,
+            pos: place,
             right,
         };
         reader.put(&mut rest, operation);
@@ -111,31 +122,33 @@ pub fn operations<'a>(reader: &mut Reader<'_, 'a>, setting: Setting, level: Leve
         return Found::Value(first);
     }
     Found::Value(Expr::Operations {
-        pos: first.pos(),
+        pos,
         first: reader.expr(first),
         rest,
     })
 }
 
 /// Goes past the operator of this level, where one is here.
-fn infix(reader: &mut Reader<'_, '_>, level: Level) -> Option<Operator>
+fn operator_here(reader: &mut Reader<'_, '_>, level: Level) -> Option<Operator>
     ensures follows { Follows reader.old reader.new }
     ensures past { OnSome result (length reader.new.rest.now < length reader.old.rest.now) }
+    ensures reads { IfSome result (IsInfix level reader.old.rest.now reader.new.rest.now) }
+    ensures stays { IfNone result (reader.new ≡ reader.old) }
 {
-    let kind = reader.kind()?;
-    let operator = operator_of(kind)?;
-    if level_of(operator) == level && reader.skip(kind) {
-        Some(operator)
-    } else {
-        None
+    let operator = operator_of(reader.kind()?)?;
+    if level_of(operator) != level {
+        return None;
     }
+    reader.step();
+    Some(operator)
 }
 
 /// What stands between the operators of a level.
 #[cycle(expressions)]
 fn tighter<'a>(reader: &mut Reader<'_, 'a>, setting: Setting, level: Level) -> Found<'a>
     requires { setting.room ≤ setting.calls }
-    ensures { Follows reader.old reader.new }
+    ensures follows { Follows reader.old reader.new }
+    ensures reads { ReadsFound (next (rank_of level)) reader.old reader.new result }
 {
     match level {
         Level::Disjunction => operations(reader, setting, Level::Conjunction),
@@ -150,7 +163,8 @@ fn tighter<'a>(reader: &mut Reader<'_, 'a>, setting: Setting, level: Level) -> F
 #[cycle(expressions)]
 fn negation<'a>(reader: &mut Reader<'_, 'a>, setting: Setting) -> Found<'a>
     requires { setting.room ≤ setting.calls }
-    ensures { Follows reader.old reader.new }
+    ensures follows { Follows reader.old reader.new }
+    ensures reads { ReadsFound e2 reader.old reader.new result }
 {
     let pos = reader.pos();
     let mut words = Vec::new(reader.alloc());
@@ -166,11 +180,11 @@ fn negation<'a>(reader: &mut Reader<'_, 'a>, setting: Setting) -> Found<'a>
         return operations(reader, setting, Level::Relation);
     }
     let found = operations(reader, setting.behind_operator(), Level::Relation);
-    let operand = value_of(reader, found);
+    let operand = kept_value(reader, found);
     Found::Value(Expr::Not {
         pos,
         words,
-        operand: reader.expr(operand),
+        operand,
     })
 }
 
@@ -178,7 +192,8 @@ fn negation<'a>(reader: &mut Reader<'_, 'a>, setting: Setting) -> Found<'a>
 #[cycle(expressions)]
 fn signed<'a>(reader: &mut Reader<'_, 'a>, setting: Setting) -> Found<'a>
     requires { setting.room ≤ setting.calls }
-    ensures { Follows reader.old reader.new }
+    ensures follows { Follows reader.old reader.new }
+    ensures reads { ReadsFound e6 reader.old reader.new result }
 {
     let pos = reader.pos();
     let mut signs = Vec::new(reader.alloc());
@@ -190,11 +205,11 @@ fn signed<'a>(reader: &mut Reader<'_, 'a>, setting: Setting) -> Found<'a>
         return operand(reader, setting);
     }
     let found = operand(reader, setting.behind_operator());
-    let operand = value_of(reader, found);
+    let operand = kept_value(reader, found);
     Found::Value(Expr::Signed {
         pos,
         signs,
-        operand: reader.expr(operand),
+        operand,
     })
 }
 
@@ -202,6 +217,8 @@ fn signed<'a>(reader: &mut Reader<'_, 'a>, setting: Setting) -> Found<'a>
 fn prefix_sign(reader: &mut Reader<'_, '_>) -> Option<PrefixSign>
     ensures follows { Follows reader.old reader.new }
     ensures past { OnSome result (length reader.new.rest.now < length reader.old.rest.now) }
+    ensures reads { IfSome result (IsPrefixSign reader.old.rest.now reader.new.rest.now) }
+    ensures stays { IfNone result (reader.new ≡ reader.old) }
 {
     let pos = reader.pos();
     if reader.skip_sign(Sign::Plus) {

@@ -1,10 +1,16 @@
-ghost use Rattle.std.specs.Prelude.{◌≡◌, ◌+◌, ◌<◌, ◌≤◌, OnSome, IfSome, length};
-ghost use Rattle.m3_cursor.specs.Readers.{Follows};
+ghost use Rattle.std.specs.Prelude.{◌≡◌, ◌+◌, ◌<◌, ◌≤◌, OnSome, IfSome, IfNone, IsSome, length};
+ghost use Rattle.m3_grammar.specs.Plain.{HasType};
+ghost use Rattle.m3_grammar.specs.Ranks.{e7, e8};
+ghost use Rattle.m3_cursor.specs.Readers.{Follows, Reads};
+ghost use Rattle.m3_phrases.specs.Spelled.{ReadsFound, ReadsSelector};
+ghost use Rattle.m3_phrases.specs.Spelled.{ReadsIndexes, ReadsActuals, ReadsActual, Continues};
+ghost use Rattle.m3_phrases.specs.Spelled.{BindingSpells, NameSpells};
 
 use crate::expressions::{expression, phrase};
 use crate::settings::{Found, Setting, Want};
 use crate::trees::{qualid_of, type_of};
-use crate::types::{named_type, opened_type};
+use crate::types::{begins_object, named_type, opened_type};
+use m3_base::Pos;
 use m3_cursor::{Reader, begins_type, goes_on};
 use m3_syntax::{Actual, Element, Expr, Name, Selector, Sign, TokenKind, TypeExp, TypeName, Word};
 
@@ -12,28 +18,34 @@ use m3_syntax::{Actual, Element, Expr, Name, Selector, Sign, TokenKind, TypeExp,
 #[cycle(expressions)]
 pub fn operand<'a>(reader: &mut Reader<'_, 'a>, setting: Setting) -> Found<'a>
     requires { setting.room ≤ setting.calls }
-    ensures { Follows reader.old reader.new }
+    ensures follows { Follows reader.old reader.new }
+    ensures reads { ReadsFound e7 reader.old reader.new result }
 {
+    let pos = reader.pos();
     let found = without_brace(reader, setting);
     if !reader.is_sign(Sign::OpenBrace) {
         return found;
     }
     let constructor = constructor(reader, setting, found);
-    Found::Value(selected(reader, setting, constructor))
+    Found::Value(selected(reader, setting, pos, constructor))
 }
 
 /// An operand up to the brace of a constructor, or a type. Behind a name it may be an object type
-/// of which that is the parent.
+/// of which that is the parent; but behind the text of BRANDED the word OBJECT begins what is
+/// branded.
 #[cycle(expressions)]
 fn without_brace<'a>(reader: &mut Reader<'_, 'a>, setting: Setting) -> Found<'a>
     requires { setting.room ≤ setting.calls }
-    ensures { Follows reader.old reader.new }
+    ensures follows { Follows reader.old reader.new }
+    ensures reads { ReadsFound e7 reader.old reader.new result }
 {
+    let pos = reader.pos();
     let expr = match primary(reader, setting) {
-        Found::Value(expr) => selected(reader, setting, expr),
-        kind => return kind,
+        Found::Value(expr) => selected(reader, setting, pos, expr),
+        Found::TypeExp(kind) => return Found::TypeExp(kind),
     };
-    if !goes_on_as_object(reader, setting.want) {
+    let is_branded = setting.want == Want::Brand && reader.is_word(Word::Object);
+    if is_branded || !begins_object(reader) {
         return Found::Value(expr);
     }
     let Some(parent) = qualid_of(&expr) else {
@@ -46,16 +58,11 @@ fn without_brace<'a>(reader: &mut Reader<'_, 'a>, setting: Setting) -> Found<'a>
     }
 }
 
-/// Whether an object type follows the name of its parent. Behind the text of BRANDED the word
-/// OBJECT begins what is branded.
-fn goes_on_as_object(reader: &Reader<'_, '_>, want: Want) -> bool {
-    reader.is_word(Word::Branded) || (reader.is_word(Word::Object) && want != Want::Brand)
-}
-
 /// The room inside a type that begins with an expression. An actual may be the type itself.
 fn inside_type(reader: &mut Reader<'_, '_>, setting: Setting) -> Option<u32>
     ensures follows { Follows reader.old reader.new }
     ensures within { IfSome result (λ room. room ≤ setting.room) }
+    ensures stopped { IfNone result (IsSome reader.new.stop) }
 {
     match reader.kind() {
         Some(kind) if begins_type(kind) => match setting.want {
@@ -73,7 +80,8 @@ fn inside_type(reader: &mut Reader<'_, '_>, setting: Setting) -> Option<u32>
 #[cycle(expressions)]
 fn primary<'a>(reader: &mut Reader<'_, 'a>, setting: Setting) -> Found<'a>
     requires { setting.room ≤ setting.calls }
-    ensures { Follows reader.old reader.new }
+    ensures follows { Follows reader.old reader.new }
+    ensures reads { ReadsFound e8 reader.old reader.new result }
 {
     let pos = reader.pos();
     match reader.kind() {
@@ -87,7 +95,7 @@ fn primary<'a>(reader: &mut Reader<'_, 'a>, setting: Setting) -> Found<'a>
             Found::Value(Expr::CharLit { pos, value })
         }
         Some(TokenKind::TextLit) => {
-            let text = reader.take_text(TokenKind::TextLit);
+            let text = reader.take_text();
             Found::Value(Expr::TextLit { pos, text })
         }
         Some(TokenKind::Symbol(Sign::OpenParen)) => parenthesis(reader, setting),
@@ -102,7 +110,8 @@ fn primary<'a>(reader: &mut Reader<'_, 'a>, setting: Setting) -> Found<'a>
 #[cycle(expressions)]
 fn parenthesis<'a>(reader: &mut Reader<'_, 'a>, setting: Setting) -> Found<'a>
     requires { setting.room ≤ setting.calls }
-    ensures { Follows reader.old reader.new }
+    ensures follows { Follows reader.old reader.new }
+    ensures reads { ReadsFound e8 reader.old reader.new result }
 {
     let pos = reader.take_sign(Sign::OpenParen);
     let want = match setting.want {
@@ -123,11 +132,17 @@ fn parenthesis<'a>(reader: &mut Reader<'_, 'a>, setting: Setting) -> Found<'a>
     }
 }
 
-/// An operand with the selectors that follow it.
+/// An operand, which begins at a place, with the selectors that follow it.
 #[cycle(expressions)]
-fn selected<'a>(reader: &mut Reader<'_, 'a>, setting: Setting, operand: Expr<'a>) -> Expr<'a>
+fn selected<'a>(
+    reader: &mut Reader<'_, 'a>,
+    setting: Setting,
+    pos: Pos,
+    operand: Expr<'a>,
+) -> Expr<'a>
     requires { setting.room ≤ setting.calls }
-    ensures { Follows reader.old reader.new }
+    ensures follows { Follows reader.old reader.new }
+    ensures reads { Continues pos operand.entry reader.old reader.new result }
 {
     let mut selectors = Vec::new(reader.alloc());
     'selectors: while let Some(selector) = selector(reader, setting) {
@@ -138,7 +153,7 @@ fn selected<'a>(reader: &mut Reader<'_, 'a>, setting: Setting, operand: Expr<'a>
         return operand;
     }
     Expr::Selected {
-        pos: operand.pos(),
+        pos,
         operand: reader.expr(operand),
         selectors,
     }
@@ -150,6 +165,7 @@ fn selector<'a>(reader: &mut Reader<'_, 'a>, setting: Setting) -> Option<Selecto
     requires { setting.room ≤ setting.calls }
     ensures follows { Follows reader.old reader.new }
     ensures past { OnSome result (length reader.new.rest.now < length reader.old.rest.now) }
+    ensures reads { ReadsSelector reader.old reader.new result }
 {
     let pos = reader.pos();
     if reader.skip_sign(Sign::Caret) {
@@ -168,7 +184,8 @@ fn selector<'a>(reader: &mut Reader<'_, 'a>, setting: Setting) -> Option<Selecto
 /// The expressions behind an opening bracket, at least one, up to and with the closing one.
 #[cycle(expressions)]
 fn indexes<'a>(reader: &mut Reader<'_, 'a>, room: u32) -> &'a [Expr<'a>]
-    ensures { Follows reader.old reader.new }
+    ensures follows { Follows reader.old reader.new }
+    ensures reads { ReadsIndexes reader.old reader.new result.now }
 {
     let mut indexes = Vec::new(reader.alloc());
     'indexes: loop {
@@ -185,7 +202,8 @@ fn indexes<'a>(reader: &mut Reader<'_, 'a>, room: u32) -> &'a [Expr<'a>]
 /// The actuals behind an opening parenthesis, up to and with the closing one.
 #[cycle(expressions)]
 fn actuals<'a>(reader: &mut Reader<'_, 'a>, room: u32) -> &'a [Actual<'a>]
-    ensures { Follows reader.old reader.new }
+    ensures follows { Follows reader.old reader.new }
+    ensures reads { ReadsActuals reader.old reader.new result.now }
 {
     if reader.skip_sign(Sign::CloseParen) {
         return reader.no_items();
@@ -204,23 +222,25 @@ fn actuals<'a>(reader: &mut Reader<'_, 'a>, room: u32) -> &'a [Actual<'a>]
 
 #[cycle(expressions)]
 fn actual<'a>(reader: &mut Reader<'_, 'a>, room: u32) -> Actual<'a>
-    ensures { Follows reader.old reader.new }
+    ensures follows { Follows reader.old reader.new }
+    ensures reads { ReadsActual reader.old reader.new result }
 {
-    if let Some(name) = binding(reader) {
-        return Actual::Named(name, expression(reader, room));
-    }
-    if let Some(name) = lone_name(reader, room) {
-        return Actual::Value(reader.expr(Expr::Name(name)));
-    }
-    match phrase(reader, room, Want::Actual) {
-        Found::Value(expr) => Actual::Value(reader.expr(expr)),
-        Found::TypeExp(kind) => Actual::Type(reader.type_exp(kind)),
+    match binding(reader) {
+        Some(name) => Actual::Named(name, expression(reader, room)),
+        None => match lone_name(reader, room) {
+            Some(name) => Actual::Value(reader.expr(Expr::Name(name))),
+            None => match phrase(reader, room, Want::Actual) {
+                Found::Value(expr) => Actual::Value(reader.expr(expr)),
+                Found::TypeExp(kind) => Actual::Type(reader.type_exp(kind)),
+            },
+        },
     }
 }
 
 /// Goes past a name and `:=`, where they are here.
 fn binding<'a>(reader: &mut Reader<'_, 'a>) -> Option<Name<'a>>
-    ensures { Follows reader.old reader.new }
+    ensures follows { Follows reader.old reader.new }
+    ensures reads { Reads reader.old reader.new (λ before after. BindingSpells before after result) }
 {
     if !reader.is_name() || reader.next_kind() != Some(TokenKind::Symbol(Sign::Assign)) {
         return None;
@@ -233,24 +253,28 @@ fn binding<'a>(reader: &mut Reader<'_, 'a>) -> Option<Name<'a>>
 /// A name that begins an actual or an element where no construct can be opened any more: it needs
 /// none yet, as it may stand before `:=`. What goes on with it lies too deep.
 fn lone_name<'a>(reader: &mut Reader<'_, 'a>, room: u32) -> Option<Name<'a>>
-    ensures { Follows reader.old reader.new }
+    ensures follows { Follows reader.old reader.new }
+    ensures reads { Reads reader.old reader.new (λ before after. NameSpells before after result) }
 {
     if room > 0 || !reader.is_name() {
         return None;
     }
     let name = reader.take_name();
     match reader.kind() {
-        Some(kind) if goes_on(kind) => reader.too_deep(),
-        _ => {}
+        Some(kind) if goes_on(kind) => {
+            reader.too_deep();
+            Some(name)
+        }
+        _ => Some(name),
     }
-    Some(name)
 }
 
 /// The constructor of a type whose opening brace is here.
 #[cycle(expressions)]
 fn constructor<'a>(reader: &mut Reader<'_, 'a>, setting: Setting, head: Found<'a>) -> Expr<'a>
     requires { setting.room ≤ setting.calls }
-    ensures { Follows reader.old reader.new }
+    ensures follows { Follows reader.old reader.new }
+    ensures typed { reader.new.stop ≡ None → HasType result }
 {
     let kind = match head {
         Found::Value(expr) => type_of(reader, &expr),

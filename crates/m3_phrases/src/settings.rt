@@ -1,6 +1,6 @@
 ghost use Rattle.std.specs.Prelude.{◌≡◌};
 
-use m3_syntax::{Expr, Operator, TypeExp};
+use m3_syntax::{Expr, TypeExp};
 
 /// What may be an expression or a type: what is both is an expression.
 #[derive(Clone, Copy)]
@@ -25,8 +25,8 @@ pub enum Want {
 pub struct Setting {
     /// How many constructs may still open in it.
     pub room: u32,
-    /// The same for the actuals of calls on the whole of it: one more where it begins a statement,
-    /// since such a call may be the statement itself.
+    /// The same for the actuals of calls on the whole of it: one more where it begins a
+    /// statement, since such a call may be the statement itself.
     pub calls: u32,
     pub want: Want,
 }
@@ -44,32 +44,5 @@ impl Setting {
             },
             _ => self,
         }
-    }
-}
-
-/// How tightly operators bind, the loosest first. NOT stands between AND and the relations.
-#[derive(Clone, Copy, PartialEq, Eq)]
-pub enum Level {
-    Disjunction,
-    Conjunction,
-    Relation,
-    Sum,
-    Product,
-}
-
-/// The level of an operator.
-pub fn level_of(operator: Operator) -> Level {
-    match operator {
-        Operator::Or => Level::Disjunction,
-        Operator::And => Level::Conjunction,
-        Operator::Equal
-        | Operator::NotEqual
-        | Operator::Less
-        | Operator::LessEqual
-        | Operator::Greater
-        | Operator::GreaterEqual
-        | Operator::In => Level::Relation,
-        Operator::Plus | Operator::Minus | Operator::Concatenate => Level::Sum,
-        Operator::Times | Operator::Slash | Operator::Div | Operator::Mod => Level::Product,
     }
 }

@@ -1,10 +1,10 @@
 ghost use Rattle.m3_cursor.specs.Readers.{Follows};
 
-use crate::expressions::{expression, phrase, value_of};
+use crate::expressions::{expression, kept_value, phrase};
 use crate::members::{fields, methods, overrides, signature};
 use crate::settings::Want;
 use m3_base::Pos;
-use m3_cursor::{Reader, begins_type, names_up_to, qualid};
+use m3_cursor::{Reader, begins_type, names_between, qualid};
 use m3_syntax::{Brand, ObjectPart, Sign, TokenKind, TypeExp, TypeName, Word};
 
 /// A type (the report, section 2.2). `room` is that of what surrounds it: the type itself opens one
@@ -41,7 +41,10 @@ pub fn opened_type<'a>(reader: &mut Reader<'_, 'a>, room: u32) -> TypeExp<'a>
         }
         Some(TokenKind::Symbol(Sign::OpenParen)) => parenthesized_type(reader, room),
         Some(TokenKind::Symbol(Sign::OpenBracket)) => subrange(reader, room),
-        Some(TokenKind::Symbol(_)) => enumeration(reader),
+        Some(TokenKind::Symbol(_)) => {
+            let members = names_between(reader, Sign::OpenBrace, Sign::CloseBrace);
+            TypeExp::Enumeration { pos, members }
+        }
         Some(TokenKind::Keyword(word)) => match word {
             Word::Root => {
                 reader.step();
@@ -51,7 +54,12 @@ pub fn opened_type<'a>(reader: &mut Reader<'_, 'a>, room: u32) -> TypeExp<'a>
             Word::Ref | Word::Branded | Word::Object => reference_or_object(reader, room),
             Word::Array => array(reader, room),
             Word::Bits => bits(reader, room),
-            Word::Set => set(reader, room),
+            Word::Set => {
+                reader.step();
+                reader.take_word(Word::Of);
+                let base = type_expression(reader, room);
+                TypeExp::Set { pos, base }
+            }
             Word::Procedure => {
                 reader.step();
                 let signature = signature(reader, room);
@@ -86,15 +94,6 @@ fn subrange<'a>(reader: &mut Reader<'_, 'a>, room: u32) -> TypeExp<'a>
     let last = expression(reader, room);
     reader.take_sign(Sign::CloseBracket);
     TypeExp::Subrange { pos, first, last }
-}
-
-/// `{a, b}`, or `{}`.
-fn enumeration<'a>(reader: &mut Reader<'_, 'a>) -> TypeExp<'a>
-    ensures { Follows reader.old reader.new }
-{
-    let pos = reader.take_sign(Sign::OpenBrace);
-    let members = names_up_to(reader, Sign::CloseBrace);
-    TypeExp::Enumeration { pos, members }
 }
 
 /// `UNTRACED ROOT`, or an untraced reference.
@@ -184,16 +183,6 @@ fn bits<'a>(reader: &mut Reader<'_, 'a>, room: u32) -> TypeExp<'a>
 }
 
 #[cycle(expressions)]
-fn set<'a>(reader: &mut Reader<'_, 'a>, room: u32) -> TypeExp<'a>
-    ensures { Follows reader.old reader.new }
-{
-    let pos = reader.take_word(Word::Set);
-    reader.take_word(Word::Of);
-    let base = type_expression(reader, room);
-    TypeExp::Set { pos, base }
-}
-
-#[cycle(expressions)]
 fn record<'a>(reader: &mut Reader<'_, 'a>, room: u32) -> TypeExp<'a>
     ensures { Follows reader.old reader.new }
 {
@@ -220,7 +209,8 @@ pub fn named_type<'a>(reader: &mut Reader<'_, 'a>, room: u32, name: TypeName<'a>
     }
 }
 
-fn begins_object(reader: &Reader<'_, '_>) -> bool {
+/// Whether an object type begins or goes on with the token here.
+pub fn begins_object(reader: &Reader<'_, '_>) -> bool {
     reader.is_word(Word::Branded) || reader.is_word(Word::Object)
 }
 
@@ -289,8 +279,7 @@ fn brand<'a>(reader: &mut Reader<'_, 'a>, room: u32) -> Option<Brand<'a>>
     let text = match reader.kind() {
         Some(TokenKind::Ident | TokenKind::TextLit | TokenKind::Symbol(Sign::OpenParen)) => {
             let found = phrase(reader, room, Want::Brand);
-            let text = value_of(reader, found);
-            Some(reader.expr(text))
+            Some(kept_value(reader, found))
         }
         _ => None,
     };

@@ -7,7 +7,7 @@ use m3_generics::expand;
 use m3_lexer::lex;
 use m3_modules::link;
 use m3_parser::parse;
-use m3_scopes::Program;
+use m3_scopes::Linked;
 use m3_syntax::{Lexed, Unit};
 use std::alloc::Global;
 
@@ -17,7 +17,7 @@ pub fn read_program<'a>(
     alloc: Global,
     arena: &'a Bump,
     sources: &[Source<'a>],
-) -> Result<Program<'a>, Refused>
+) -> Result<Linked<'a>, Refused>
     requires { All (λ source. length source.text.now < 4294967295) sources.now }
 {
     let given = read_units(alloc, arena, sources)?;
@@ -43,7 +43,7 @@ fn link_units<'a>(
     arena: &'a Bump,
     given: &[Unit<'a>],
     built_in: &[Unit<'a>],
-) -> Result<Program<'a>, Refused> {
+) -> Result<Linked<'a>, Refused> {
     let expanded = expand(alloc, arena, given)?;
     link(alloc, expanded, given, built_in)
 }

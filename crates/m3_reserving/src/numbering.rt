@@ -1,18 +1,11 @@
 use m3_base::{NoMemory, Pos, place_number};
 use m3_declarer::Declarer;
 use m3_fold::spelled;
-use m3_scopes::{Entity, EntityId, EntityKind};
-use m3_syntax::{Decl, UnitKind};
+use m3_scopes::{EntityId, EntityKind};
+use m3_syntax::{Unit, UnitKind};
 
 /// An entity of a unit, in the order of the text.
 type Ordered = (u32, Pos, EntityId);
-
-fn has_body(entity: &Entity<'_>) -> bool {
-    match entity.declaration {
-        Some(Decl::Procedure { body, .. }) => body.is_some(),
-        _ => false,
-    }
-}
 
 /// Gives each text literal its cell.
 pub fn number_texts(declarer: &mut Declarer<'_, '_>) -> Result<(), NoMemory> {
@@ -37,7 +30,7 @@ fn in_order(declarer: &Declarer<'_, '_>, are_exceptions: bool) -> Result<Vec<Ord
         let is_wanted = if are_exceptions {
             entity.kind == EntityKind::Exception
         } else {
-            entity.kind == EntityKind::Procedure && has_body(entity)
+            entity.kind == EntityKind::Procedure && entity.has_body
         };
         if is_wanted {
             let id = EntityId(place_number(place)?);
@@ -62,12 +55,14 @@ pub fn number_exceptions(declarer: &mut Declarer<'_, '_>) -> Result<(), NoMemory
 
 /// Numbers the procedures with bodies and the bodies of modules, a module's behind the
 /// procedures of its unit, and each head with its body's number.
-pub fn number_procedures(declarer: &mut Declarer<'_, '_>) -> Result<(), NoMemory> {
+pub fn number_procedures<'a>(
+    declarer: &mut Declarer<'_, 'a>,
+    units: &[Unit<'a>],
+) -> Result<(), NoMemory> {
     let found = in_order(declarer, false)?;
-    let program = declarer.eval.program;
     let mut next = 0usize;
     let mut modules = 0u32;
-    for (place, unit) in program.units.iter().enumerate() {
+    for (place, unit) in units.iter().enumerate() {
         let here = place_number(place)?;
         next = number_unit(declarer, found.as_slice(), here, next, modules)?;
         if let UnitKind::Module { .. } = unit.kind {

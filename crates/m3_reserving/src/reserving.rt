@@ -1,20 +1,23 @@
 use crate::numbering::{number_exceptions, number_procedures, number_texts};
 use m3_base::{NoMemory, Pos, place_number};
 use m3_declarer::{Declarer, Plan, Written};
-use m3_gather::TypeAt;
-use m3_scopes::{Entity, EntityId, EntityKind};
-use m3_syntax::{Decl, ObjectPart, TypeExp};
+use m3_gathered::TypeAt;
+use m3_scopes::{Declaration, Entity, EntityId, EntityKind};
+use m3_syntax::{ObjectPart, TypeExp, Unit};
 use m3_types::TypeId;
 use m3_worth::Need;
 
 /// Gives each type expression, method and procedure a place in the graph, and numbers to
 /// texts, procedures and exceptions.
-pub fn reserve_all(declarer: &mut Declarer<'_, '_>) -> Result<(), NoMemory> {
+pub fn reserve_all<'a>(
+    declarer: &mut Declarer<'_, 'a>,
+    units: &[Unit<'a>],
+) -> Result<(), NoMemory> {
     let refused = Need::Node(declarer.eval.declared.basic.refused);
     declarer.eval.settled.insert(refused)?;
     number_texts(declarer)?;
     number_exceptions(declarer)?;
-    number_procedures(declarer)?;
+    number_procedures(declarer, units)?;
     for place in 0..declarer.gathered.types.len() {
         if let Some(written) = declarer.gathered.types.get(place).copied() {
             reserve_type(declarer, written)?;
@@ -132,7 +135,7 @@ fn reserve_procedure<'a>(
     if entity.kind != EntityKind::Procedure {
         return Ok(());
     }
-    let Some(Decl::Procedure { signature, .. }) = entity.declaration else {
+    let Some(Declaration::Procedure { signature, .. }) = declarer.declaration(entity) else {
         return Ok(());
     };
     let kind = plan_nilable(

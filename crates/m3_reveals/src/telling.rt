@@ -2,7 +2,7 @@ use indexmap::IndexSet;
 use m3_base::{NoMemory, Pos, place_number};
 use m3_declarer::Declarer;
 use m3_early_names::type_of;
-use m3_scopes::Revealed;
+use m3_scopes::{Declaration, Revealed};
 use m3_types::{Reveal, TypeGraph, TypeId, TypeNode};
 
 /// A revelation with its types.
@@ -17,7 +17,10 @@ pub struct Told {
 
 /// A revelation with its types; none where one of them was refused.
 fn types_of<'a>(declarer: &mut Declarer<'_, 'a>, revealed: &Revealed) -> Option<Told> {
-    let written = revealed.written(declarer.eval.program.units.as_slice())?;
+    let declaration = declarer.declarations.get(revealed.declaration as usize);
+    let Some(Declaration::Reveal(written)) = declaration else {
+        return None;
+    };
     let opaque = declarer.eval.declared.type_named(revealed.opaque)?;
     let TypeNode::Opaque(_, _) = declarer.eval.definition(opaque) else {
         return None;

@@ -7,7 +7,7 @@ use Rattle.std.proofs.lemmas.Bool.Decides.{nat_tests}
 use Rattle.m3_base.specs.Words.{add_words, sub_words}
 use Rattle.m3_tables.specs.Numbers.{has}
 use Rattle.m3_tables.specs.Rows.{Bases}
-use Rattle.m3_roots.specs.ThreadWords.{word_at, Derived, place_of, way_number, way_at, bases_at, path_places, base_places}
+use Rattle.m3_roots.specs.ThreadWords.{word_at_place, Derived, place_of, way_number, way_at, bases_by_way, path_places, base_places}
 use Rattle.m3_roots.specs.TakingApart.{apart, together}
 use Rattle.m3_roots.proofs.WordLemmas.{SameAt, way_same, bases_same, has_first, has_more}
 
@@ -55,12 +55,12 @@ set_same words p v places free = λ q h. (let ne : q ≢ p = differs q p places 
 pub record IsLess (old new : List ℕ) (d : Derived) : Type 0 where
   pub way : Bases
   pub takes : way_at old d ≡ Some way
-  pub word : word_at new (place_of d) ≡ sub_words (word_at old (place_of d)) (bases_at old d.first way)
+  pub word : word_at_place new (place_of d) ≡ sub_words (word_at_place old (place_of d)) (bases_by_way old d.first way)
 
 pub record AreLess (ds : List Derived) (old new : List ℕ) : Type 0 where
   pub count : length new ≡ length old
   pub each : AllByRecursion (IsLess old new) ds
-  pub others : (q : ℕ) → has (map place_of ds) q ≡ false → word_at new q ≡ word_at old q
+  pub others : (q : ℕ) → has (map place_of ds) q ≡ false → word_at_place new q ≡ word_at_place old q
 
 not_here : (a b : Bool) → (a || b) ≡ false → (a ≡ false) × (b ≡ false)
 not_here true b e = absurd cc
@@ -95,7 +95,7 @@ apart_less (d ∷ ds) old new free within e = elim (way_at old d) as (λ (o : Op
   | None ↦ λ w. (let f : apart (d ∷ ds) old ≡ None = rw (← w) refl in absurd cc)
   | Some way ↦ λ w. (
       let p = place_of d in
-      let v = sub_words (word_at old p) (bases_at old d.first way) in
+      let v = sub_words (word_at_place old p) (bases_by_way old d.first way) in
       let middle = set old p v in
       let f : apart (d ∷ ds) old ≡ apart ds middle = rw (← w) refl in
       let len : length middle ≡ length old = length-set old p v in
@@ -138,7 +138,7 @@ apart_past (d ∷ ds) old free e = elim (way_at old d) as (λ (o : Option Bases)
   | None ↦ λ w. record { derived = d; front = []; back = ds; split = refl; past = sym w }
   | Some way ↦ λ w. (
       let p = place_of d in
-      let v = sub_words (word_at old p) (bases_at old d.first way) in
+      let v = sub_words (word_at_place old p) (bases_by_way old d.first way) in
       let f : apart (d ∷ ds) old ≡ apart ds (set old p v) = rw (← w) refl in
       past_after d v old ds free.2 (apart_past ds (set old p v) free.3 (sym f ∙ e)))
 ] refl
@@ -149,12 +149,12 @@ apart_past (d ∷ ds) old free e = elim (way_at old d) as (λ (o : Option Bases)
 pub record IsMore (way_of : Derived → Option Bases) (old new : List ℕ) (d : Derived) : Type 0 where
   pub way : Bases
   pub takes : way_of d ≡ Some way
-  pub word : word_at new (place_of d) ≡ add_words (word_at old (place_of d)) (bases_at new d.first way)
+  pub word : word_at_place new (place_of d) ≡ add_words (word_at_place old (place_of d)) (bases_by_way new d.first way)
 
 pub record AreMore (way_of : Derived → Option Bases) (ds : List Derived) (old new : List ℕ) : Type 0 where
   pub count : length new ≡ length old
   pub each : AllByRecursion (IsMore way_of old new) ds
-  pub others : (q : ℕ) → has (map place_of ds) q ≡ false → word_at new q ≡ word_at old q
+  pub others : (q : ℕ) → has (map place_of ds) q ≡ false → word_at_place new q ≡ word_at_place old q
 
 -- each takes the way that it took
 abbrev pub TakeWays : (Derived → Option Bases) → List ℕ → List Derived → Type 0
@@ -185,12 +185,12 @@ together_more way_of (d ∷ ds) old free within takes =
     let p = place_of d in
     let way = takes.0.0 in
     let goes : way_at middle d ≡ Some way = way_same d old middle (λ q h. rest.2.others q (paths_absent d ds free.2 q h)) ∙ takes.0.2 in
-    let v = add_words (word_at middle p) (bases_at middle d.first way) in
+    let v = add_words (word_at_place middle p) (bases_by_way middle d.first way) in
     let made : together (d ∷ ds) old ≡ Some (set middle p v) = rw (rest.1, goes) refl in
     let within_middle : p < length middle = rw rest.2.count within.0 in
-    let here : word_at (set middle p v) p ≡ v = get_or-set_same middle p v 0 within_middle in
-    let stays : word_at middle p ≡ word_at old p = rest.2.others p (absent d ds free.2) in
-    let bases : bases_at (set middle p v) d.first way ≡ bases_at middle d.first way = bases_same d _ way middle (set middle p v) goes (set_same middle p v (base_places d) free.1) in
+    let here : word_at_place (set middle p v) p ≡ v = get_or-set_same middle p v 0 within_middle in
+    let stays : word_at_place middle p ≡ word_at_place old p = rest.2.others p (absent d ds free.2) in
+    let bases : bases_by_way (set middle p v) d.first way ≡ bases_by_way middle d.first way = bases_same d _ way middle (set middle p v) goes (set_same middle p v (base_places d) free.1) in
     let found : AllByRecursion (λ e. (n : ℕ) × (way : Bases) × (way_of e ≡ Some way) × (slice_get e.entry.ways n ≡ Some way)) ds = each_weaker _ _ (λ e t. (way_number old e.first e.entry.path, t.0, t.1, t.2)) ds takes.1 in (
       set middle p v,
       made,
@@ -208,13 +208,13 @@ back_and_forth x less more le = omega arith
 
 -- a derived word grows by as much as its bases grow
 abbrev pub Grows : List ℕ → List ℕ → Derived → Type 0
-Grows old new d = (way : Bases) → way_at old d ≡ Some way → word_at new (place_of d) ≡ add_words (word_at old (place_of d)) (sub_words (bases_at new d.first way) (bases_at old d.first way))
+Grows old new d = (way : Bases) → way_at old d ≡ Some way → word_at_place new (place_of d) ≡ add_words (word_at_place old (place_of d)) (sub_words (bases_by_way new d.first way) (bases_by_way old d.first way))
 
 pub record AreMended (ds : List Derived) (tidy : List ℕ) (old visited new : List ℕ) : Type 0 where
   pub count : length new ≡ length old
   pub each : AllByRecursion (Grows old new) ds
-  pub visited_words : (q : ℕ) → has tidy q ≡ true → word_at new q ≡ word_at visited q
-  pub others : (q : ℕ) → has tidy q ≡ false → has (map place_of ds) q ≡ false → word_at new q ≡ word_at old q
+  pub visited_words : (q : ℕ) → has tidy q ≡ true → word_at_place new q ≡ word_at_place visited q
+  pub others : (q : ℕ) → has tidy q ≡ false → has (map place_of ds) q ≡ false → word_at_place new q ≡ word_at_place old q
 
 -- the paths are no derived words and no tidy ones
 abbrev pub PathsAreFree : List Derived → List ℕ → List Derived → Type 0
@@ -223,7 +223,7 @@ PathsAreFree all tidy ds = AllByRecursion (λ d. (q : ℕ) → has (path_places 
 -- tidy words alone were changed
 pub record AreVisited (tidy : List ℕ) (old new : List ℕ) : Type 0 where
   pub count : length new ≡ length old
-  pub others : (q : ℕ) → has tidy q ≡ false → word_at new q ≡ word_at old q
+  pub others : (q : ℕ) → has tidy q ≡ false → word_at_place new q ≡ word_at_place old q
 
 way_kept : (all : List Derived) (tidy old taken visited : List ℕ) (d : Derived) → AreLess all old taken → AreVisited tidy taken visited → ((q : ℕ) → has (path_places d) q ≡ true → (has (map place_of all) q ≡ false) × (has tidy q ≡ false)) → way_at visited d ≡ way_at old d
 way_kept all tidy old taken visited d less changed free = way_same d old visited (λ q h. (let f = free q h in changed.others q f.1 ∙ less.others q f.0))
@@ -235,10 +235,10 @@ grown old taken visited new tidy d changed apart h way takes =
     let more = h.1 in
     let a : less.way ≡ way = let t = less.takes in cc in
     let b : more.way ≡ way = let t = more.takes in cc in
-    let stays : word_at visited p ≡ word_at taken p = changed.others p apart in
-    let w : word_at new p ≡ add_words (word_at visited p) (bases_at new d.first way) = rw b at more.word in
-    let l : word_at taken p ≡ sub_words (word_at old p) (bases_at old d.first way) = rw a at less.word in
-    rw (w, stays, l) (back_and_forth (word_at old p) (bases_at old d.first way) (bases_at new d.first way) (omega arith))
+    let stays : word_at_place visited p ≡ word_at_place taken p = changed.others p apart in
+    let w : word_at_place new p ≡ add_words (word_at_place visited p) (bases_by_way new d.first way) = rw b at more.word in
+    let l : word_at_place taken p ≡ sub_words (word_at_place old p) (bases_by_way old d.first way) = rw a at less.word in
+    rw (w, stays, l) (back_and_forth (word_at_place old p) (bases_by_way old d.first way) (bases_by_way new d.first way) (omega arith))
 
 apart_from : (tidy : List ℕ) (p : ℕ) (b : Bool) → b ≡ has tidy p → (b ≡ true → ⊥) → has tidy p ≡ false
 apart_from tidy p true e h = absurd (h refl)

@@ -23,7 +23,7 @@ use Rattle.m3_threads.proofs.Places.{some_same, place_rising}
 use Rattle.m3_sections.specs.Parts.{Program}
 use Rattle.m3_image.specs.Programs.{fault_of}
 use Rattle.m3_frames.specs.declared.frame.Frame.{Frame}
-use Rattle.m3_roots.specs.ThreadWords.{word_at, Derived, way_at}
+use Rattle.m3_roots.specs.ThreadWords.{word_at_place, Derived, way_at}
 use Rattle.m3_roots.specs.RowMeaning.{AreFramesAt, tidy_places, derived_words}
 use Rattle.m3_roots.specs.RowLists.{ListsFit}
 use Rattle.m3_roots.specs.Gathering.{StopsGathering, lists, path, tidy, GoesOn}
@@ -151,8 +151,8 @@ walks_once p good all ws vs h k =
 -- a gathered thread, as it was before
 pub record Good (p : Program) (cells : List Cell) (words : List ℕ) (moves : List Move) (frames : List Frame) : Type 0 where
   pub fit : ListsFit p frames
-  pub known : (q : ℕ) → has (tidy_places p frames) q ≡ true → IsKnown moves (word_at words q)
-  pub good : (q : ℕ) → has (tidy_places p frames) q ≡ true → IsBadPointer cells (word_at words q) → ⊥
+  pub known : (q : ℕ) → has (tidy_places p frames) q ≡ true → IsKnown moves (word_at_place words q)
+  pub good : (q : ℕ) → has (tidy_places p frames) q ≡ true → IsBadPointer cells (word_at_place words q) → ⊥
   pub ways : (d : Derived) → Contains (derived_words p frames) d → way_at words d ≡ None → ⊥
 
 some_way : (p : Program) (frames : List Frame) (old taken : List ℕ) → AreLess (derived_words p frames) old taken → (d : Derived) → Contains (derived_words p frames) d → way_at old d ≡ None → ⊥
@@ -168,7 +168,7 @@ good_thread p good cells first now moves k frames g =
     let f = forwards p cells (length (words_of first g.t)) frames old g.before (words_at now g.u) g.after has_frames g.gathers in
     record {
       fit = g.gathers.fit;
-      known = λ q h. subst (IsKnown moves) (f.tidy_same q h) (known_stays g.after moves (word_at f.taken q) (grew_if g.after moves g.grew) (f.words.each q h).1);
+      known = λ q h. subst (IsKnown moves) (f.tidy_same q h) (known_stays g.after moves (word_at_place f.taken q) (grew_if g.after moves g.grew) (f.words.each q h).1);
       good = λ q h bad. (f.words.each q h).2 (subst (IsBadPointer cells) (sym (f.tidy_same q h)) bad);
       ways = some_way p frames old f.taken f.less;
     }
@@ -226,11 +226,11 @@ tidy_from p all (u ∷ us) (f ∷ fs) w h = elim (Contains-append_cases (tidy_wo
 ]
 
 -- a word of some places is the word of one of them
-pub in_words : (words places : List ℕ) (w : ℕ) → Contains (map (word_at words) places) w → (q : ℕ) × (has places q ≡ true) × (word_at words q ≡ w)
+pub in_words : (words places : List ℕ) (w : ℕ) → Contains (map (word_at_place words) places) w → (q : ℕ) × (has places q ≡ true) × (word_at_place words q ≡ w)
 in_words words [] w h = let lt = h.1 in absurd (omega arith)
-in_words words (p ∷ ps) w h = elim (has_cases (word_at words p) w (map (word_at words) ps) (has_contains (map (word_at words) (p ∷ ps)) w h)) [
+in_words words (p ∷ ps) w h = elim (has_cases (word_at_place words p) w (map (word_at_place words) ps) (has_contains (map (word_at_place words) (p ∷ ps)) w h)) [
   | inl same ↦ (p, has_first p ps, same)
-  | inr later ↦ (let rest = in_words words ps w (contains_has (map (word_at words) ps) w later) in (rest.0, has_more p rest.0 ps rest.1, rest.2))
+  | inr later ↦ (let rest = in_words words ps w (contains_has (map (word_at_place words) ps) w later) in (rest.0, has_more p rest.0 ps rest.1, rest.2))
 ]
 
 -- ---- the roots, when all were visited
@@ -356,7 +356,7 @@ moves_globals p good old now globals moves last count v grew =
     let f = visited_globals p good old now globals moves count v in (
       f.count,
       λ n. elim (choice (has p.globals.pointers n)) [
-        | inl pointer ↦ (let each = f.each n pointer in rw pointer (each.0 ∙ sym (forwarded_stays moves last (word_at old.globals n) grew each.1)))
+        | inl pointer ↦ (let each = f.each n pointer in rw pointer (each.0 ∙ sym (forwarded_stays moves last (word_at_place old.globals n) grew each.1)))
         | inr plain ↦ rw plain (f.others n plain)
       ],
     )

@@ -11,7 +11,7 @@ use Rattle.m3_tables.proofs.KeepingLemmas.{and_parts, not_true}
 use Rattle.m3_sections.specs.Parts.{Program}
 use Rattle.m3_frames.specs.declared.frame.Frame.{Frame}
 use Rattle.m3_roots.specs.ThreadWords.{place_from, Derived, derived_at, derived_from, place_of, path_places, bases_in_way, base_places}
-use Rattle.m3_roots.specs.RowMeaning.{tidy_in, tidy_below, newest_arguments, tidy_places, derived_in, derived_words}
+use Rattle.m3_roots.specs.RowMeaning.{tidy_of_frame, tidy_below, newest_arguments, tidy_places, derived_of_frame, derived_words}
 use Rattle.m3_roots.specs.RowLists.{derived_places, listed_below, listed_places, barred_in, barred_places, BasesArePlain, ListsFit}
 use Rattle.m3_roots.proofs.WordLemmas.{has_first, has_more, has_left, has_right}
 use Rattle.m3_roots.proofs.MarkLemmas.{false_if, clash, or_parts, gone}
@@ -128,7 +128,7 @@ RowsKept p fs = AllByRecursion (λ f. RowKept p.tables f.row) fs
 frames_bases : (p : Program) (fs : List Frame) (newer : List ℕ) → RowsKept p fs → BasesArePlain p newer fs → BasesAreLater (derived_words p fs) × NoBaseIn newer (derived_words p fs)
 frames_bases p [] newer kept plain = (tt, tt)
 frames_bases p (f ∷ fs) newer kept plain =
-    let ds = derived_in p f in
+    let ds = derived_of_frame p f in
     let rest = derived_words p fs in
     let later = frames_bases p fs (derived_places p f ++ newer) kept.1 plain.1 in
     let here = row_bases (is_listed (is_tidy p.tables f.row) (contents_in p.tables f.row)) (contents_in p.tables f.row).derived f.first (contents_in p.tables f.row).derived kept.0.entries in (
@@ -163,18 +163,18 @@ apart_from (d ∷ ds) once paths bases =
 -- ---- tidy and derived places
 
 pub derived_split : (p : Program) (f : Frame) (fs : List Frame) → map place_of (derived_words p (f ∷ fs)) ≡ derived_places p f ++ map place_of (derived_words p fs)
-derived_split p f fs = map-append place_of (derived_in p f) (derived_words p fs)
+derived_split p f fs = map-append place_of (derived_of_frame p f) (derived_words p fs)
 
 pub below_has : (p : Program) (fs : List Frame) (q : ℕ) → (has (tidy_below p fs) q ≡ true) ⊎ (has (map place_of (derived_words p fs)) q ≡ true) → has (listed_below p fs) q ≡ true
 below_has p [] q (inl h) = absurd cc
 below_has p [] q (inr h) = absurd cc
-below_has p (f ∷ fs) q (inl h) = elim (in_either (tidy_in p f) (tidy_below p fs) q h) [
-  | inl here ↦ has_left (tidy_in p f) (derived_places p f ++ listed_below p fs) q here
-  | inr later ↦ has_right (tidy_in p f) (derived_places p f ++ listed_below p fs) q (has_right (derived_places p f) (listed_below p fs) q (below_has p fs q (inl later)))
+below_has p (f ∷ fs) q (inl h) = elim (in_either (tidy_of_frame p f) (tidy_below p fs) q h) [
+  | inl here ↦ has_left (tidy_of_frame p f) (derived_places p f ++ listed_below p fs) q here
+  | inr later ↦ has_right (tidy_of_frame p f) (derived_places p f ++ listed_below p fs) q (has_right (derived_places p f) (listed_below p fs) q (below_has p fs q (inl later)))
 ]
 below_has p (f ∷ fs) q (inr h) = elim (in_either (derived_places p f) (map place_of (derived_words p fs)) q (rw (← derived_split p f fs) h)) [
-  | inl here ↦ has_right (tidy_in p f) (derived_places p f ++ listed_below p fs) q (has_left (derived_places p f) (listed_below p fs) q here)
-  | inr later ↦ has_right (tidy_in p f) (derived_places p f ++ listed_below p fs) q (has_right (derived_places p f) (listed_below p fs) q (below_has p fs q (inr later)))
+  | inl here ↦ has_right (tidy_of_frame p f) (derived_places p f ++ listed_below p fs) q (has_left (derived_places p f) (listed_below p fs) q here)
+  | inr later ↦ has_right (tidy_of_frame p f) (derived_places p f ++ listed_below p fs) q (has_right (derived_places p f) (listed_below p fs) q (below_has p fs q (inr later)))
 ]
 
 -- a place that isn't listed is neither tidy nor derived
@@ -192,7 +192,7 @@ pub record TidyApart (tidy derived : List ℕ) : Type 0 where
 below_apart : (p : Program) (fs : List Frame) → is_once (listed_below p fs) ≡ true → TidyApart (tidy_below p fs) (map place_of (derived_words p fs))
 below_apart p [] once = record { tidy_once = refl; derived_once = refl; apart = λ q h. refl }
 below_apart p (f ∷ fs) once =
-    let t = tidy_in p f in
+    let t = tidy_of_frame p f in
     let d = derived_places p f in
     let l = listed_below p fs in
     let outer = once_parts t (d ++ l) once in
@@ -222,8 +222,8 @@ all_apart p fs once =
 
 pub path_barred : (p : Program) (fs : List Frame) (q : ℕ) → has (flat_map path_places (derived_words p fs)) q ≡ true → has (barred_places p fs) q ≡ true
 path_barred p [] q h = absurd cc
-path_barred p (f ∷ fs) q h = elim (in_either (flat_map path_places (derived_in p f)) (flat_map path_places (derived_words p fs)) q (rw (flat_append path_places (derived_in p f) (derived_words p fs)) at h)) [
-  | inl here ↦ has_left (barred_in p f) (barred_places p fs) q (has_more (place_from f.first 16) q (place_from f.first 17 ∷ flat_map path_places (derived_in p f)) (has_more (place_from f.first 17) q (flat_map path_places (derived_in p f)) here))
+path_barred p (f ∷ fs) q h = elim (in_either (flat_map path_places (derived_of_frame p f)) (flat_map path_places (derived_words p fs)) q (rw (flat_append path_places (derived_of_frame p f) (derived_words p fs)) at h)) [
+  | inl here ↦ has_left (barred_in p f) (barred_places p fs) q (has_more (place_from f.first 16) q (place_from f.first 17 ∷ flat_map path_places (derived_of_frame p f)) (has_more (place_from f.first 17) q (flat_map path_places (derived_of_frame p f)) here))
   | inr later ↦ has_right (barred_in p f) (barred_places p fs) q (path_barred p fs q later)
 ]
 

@@ -14,7 +14,7 @@ use Rattle.m3_sections.specs.Parts.{Program}
 use Rattle.m3_sections.specs.Forms.{procs_fit}
 use Rattle.m3_image.specs.Sound.{IsSoundProgram}
 use Rattle.m3_frames.specs.declared.frame.Frame.{Frame}
-use Rattle.m3_roots.specs.ThreadWords.{word_at}
+use Rattle.m3_roots.specs.ThreadWords.{word_at_place}
 use Rattle.m3_roots.specs.RowMeaning.{AreFramesAt, tidy_places}
 use Rattle.m3_roots.specs.Gathering.{Gathers, GoesOn}
 use Rattle.m3_roots.specs.Collected.{with_registers, words_at, frames_at, tidy_words}
@@ -119,9 +119,9 @@ just_gathered p sound fits cells first new before after n t frames stack r new_s
       starts = λ s h. elim (f.words.starts s h) [
         | inl kept ↦ inl kept
         | inr word ↦ inr (
-            let same : map (word_at f.taken) (tidy_places p frames) ≡ map (word_at (t.regs.r ++ stack)) (tidy_places p frames) = map_same (tidy_places p frames) (t.regs.r ++ stack) f.taken f.tidy_same in
-            let here : has (map (word_at (t.regs.r ++ stack)) (tidy_places p frames)) s ≡ true = rw same at word in
-            subst (λ (ws : List ℕ). has (map (word_at (t.regs.r ++ ws)) (tidy_places p frames)) s ≡ true) (sym old_words) here)
+            let same : map (word_at_place f.taken) (tidy_places p frames) ≡ map (word_at_place (t.regs.r ++ stack)) (tidy_places p frames) = map_same (tidy_places p frames) (t.regs.r ++ stack) f.taken f.tidy_same in
+            let here : has (map (word_at_place (t.regs.r ++ stack)) (tidy_places p frames)) s ≡ true = rw same at word in
+            subst (λ (ws : List ℕ). has (map (word_at_place (t.regs.r ++ ws)) (tidy_places p frames)) s ≡ true) (sym old_words) here)
       ];
     }
 

@@ -11,8 +11,8 @@ use Rattle.m3_heap.specs.Moves.{Move}
 use Rattle.m3_sections.specs.Parts.{Program}
 use Rattle.m3_frames.specs.declared.frame.Frame.{Frame}
 use Rattle.m3_frames.specs.Frames.{IsFrame, IsOlder}
-use Rattle.m3_roots.specs.ThreadWords.{word_at, place_of, path_places}
-use Rattle.m3_roots.specs.RowMeaning.{AreBelow, AreFramesAt, tidy_places, derived_in, derived_words}
+use Rattle.m3_roots.specs.ThreadWords.{word_at_place, place_of, path_places}
+use Rattle.m3_roots.specs.RowMeaning.{AreBelow, AreFramesAt, tidy_places, derived_of_frame, derived_words}
 use Rattle.m3_roots.specs.RowLists.{listed_places, barred_in, barred_places, ListsFit}
 use Rattle.m3_roots.proofs.WordLemmas.{has_first, has_more, has_left, has_right}
 use Rattle.m3_roots.proofs.MarkLemmas.{false_if, clash}
@@ -22,7 +22,7 @@ use Rattle.m3_roots.proofs.ThreadLemmas.{Forwards}
 
 -- ---- words that no row may list stay
 
-pub barred_stays : (p : Program) (cells : List Cell) (frames : List Frame) (old : List ℕ) (before : List Move) (new : List ℕ) (after : List Move) → ListsFit p frames → Forwards p cells frames old before new after → (q : ℕ) → has (barred_places p frames) q ≡ true → word_at new q ≡ word_at old q
+pub barred_stays : (p : Program) (cells : List Cell) (frames : List Frame) (old : List ℕ) (before : List Move) (new : List ℕ) (after : List Move) → ListsFit p frames → Forwards p cells frames old before new after → (q : ℕ) → has (barred_places p frames) q ≡ true → word_at_place new q ≡ word_at_place old q
 barred_stays p cells frames old before new after fit h q barred =
     let unlisted = false_if (has (listed_places p frames) q) (λ k. clash (has (barred_places p frames) q) barred (fit.free q k)) in
     let untidy = false_if (has (tidy_places p frames) q) (λ k. clash (has (listed_places p frames) q) (listed_if p frames q (inl k)) unlisted) in
@@ -37,7 +37,7 @@ links_barred p [] = tt
 links_barred p (f ∷ fs) =
     let rest = barred_places p fs in
     let here = barred_in p f in
-    let paths = flat_map path_places (derived_in p f) in
+    let paths = flat_map path_places (derived_of_frame p f) in
     let first : has here (f.first + 16) ≡ true = has_first (f.first + 16) ((f.first + 17) ∷ paths) in
     let second : has here (f.first + 17) ≡ true = has_more (f.first + 16) (f.first + 17) ((f.first + 17) ∷ paths) (has_first (f.first + 17) paths) in (
       (has_left here rest (f.first + 16) first, has_left here rest (f.first + 17) second),
@@ -56,16 +56,16 @@ same_get old new i e h = elim (cases_lt i (length old)) [
   | inr past ↦ (let past_too : length new ≤ i = omega arith in slice_get_past new i past_too ∙ sym (slice_get_past old i past))
 ]
 
-in_stack : (r stack : List ℕ) (i q : ℕ) → length r ≡ 16 → q ≡ i + 16 → word_at (r ++ stack) q ≡ get_or stack i 0
+in_stack : (r stack : List ℕ) (i q : ℕ) → length r ≡ 16 → q ≡ i + 16 → word_at_place (r ++ stack) q ≡ get_or stack i 0
 in_stack r stack i q e at =
     let place : length r + i ≡ q = omega arith in
-    subst (λ (n : ℕ). word_at (r ++ stack) n ≡ get_or stack i 0) place (get_or-append-add r stack i 0)
+    subst (λ (n : ℕ). word_at_place (r ++ stack) n ≡ get_or stack i 0) place (get_or-append-add r stack i 0)
 
-link_stays : (r old s new : List ℕ) (i q : ℕ) → length r ≡ 16 → length s ≡ 16 → length new ≡ length old → q ≡ i + 16 → word_at (s ++ new) q ≡ word_at (r ++ old) q → slice_get new i ≡ slice_get old i
+link_stays : (r old s new : List ℕ) (i q : ℕ) → length r ≡ 16 → length s ≡ 16 → length new ≡ length old → q ≡ i + 16 → word_at_place (s ++ new) q ≡ word_at_place (r ++ old) q → slice_get new i ≡ slice_get old i
 link_stays r old s new i q e f depth at same = same_get old new i depth (sym (in_stack s new i q f at) ∙ same ∙ in_stack r old i q e at)
 
 abbrev pub WordsStay : List ℕ → List ℕ → Frame → Type 0
-WordsStay old new f = (word_at new (f.first + 16) ≡ word_at old (f.first + 16)) × (word_at new (f.first + 17) ≡ word_at old (f.first + 17))
+WordsStay old new f = (word_at_place new (f.first + 16) ≡ word_at_place old (f.first + 16)) × (word_at_place new (f.first + 17) ≡ word_at_place old (f.first + 17))
 
 pub links_stay : (r old s new : List ℕ) (fs : List Frame) → length r ≡ 16 → length s ≡ 16 → length new ≡ length old → AllByRecursion (WordsStay (r ++ old) (s ++ new)) fs → AllByRecursion (LinksStay old new) fs
 links_stay r old s new fs e f depth h = each_weaker (WordsStay (r ++ old) (s ++ new)) (LinksStay old new) (λ g k.

@@ -13,7 +13,7 @@ use Rattle.m3_tables.proofs.KeepingLemmas.{choice}
 use Rattle.m3_heap.specs.Moves.{Move}
 use Rattle.m3_sections.specs.Parts.{Program}
 use Rattle.m3_frames.specs.declared.frame.Frame.{Frame}
-use Rattle.m3_roots.specs.ThreadWords.{word_at, places_from, Derived, place_of, path_places, way_at, bases_at}
+use Rattle.m3_roots.specs.ThreadWords.{word_at_place, places_from, Derived, place_of, path_places, way_at, bases_by_way}
 use Rattle.m3_roots.specs.RowMeaning.{tidy_places, derived_words}
 use Rattle.m3_roots.specs.RowLists.{ListsFit}
 use Rattle.m3_roots.specs.Moving.{MovesWords}
@@ -53,27 +53,27 @@ pub record GrowsBy (old new : List ℕ) (d : Derived) : Type 0 where
   pub way : Bases
   pub takes : way_at old d ≡ Some way
   pub still : way_at new d ≡ Some way
-  pub word : word_at new (place_of d) ≡ add_words (word_at old (place_of d)) (sub_words (bases_at new d.first way) (bases_at old d.first way))
+  pub word : word_at_place new (place_of d) ≡ add_words (word_at_place old (place_of d)) (sub_words (bases_by_way new d.first way) (bases_by_way old d.first way))
 
-pub replaced_alike : (ds : List Derived) (old new : List ℕ) → AllByRecursion (GrowsBy old new) ds → (q : ℕ) → GrowAlike (word_at old q) (word_at new q) (replaced old ds q) (replaced new ds q)
-replaced_alike [] old new h q = ap (λ (n : ℕ). n % 2 ^ 64) (let e : word_at new q + word_at old q ≡ word_at old q + word_at new q = omega arith in e)
+pub replaced_alike : (ds : List Derived) (old new : List ℕ) → AllByRecursion (GrowsBy old new) ds → (q : ℕ) → GrowAlike (word_at_place old q) (word_at_place new q) (replaced old ds q) (replaced new ds q)
+replaced_alike [] old new h q = ap (λ (n : ℕ). n % 2 ^ 64) (let e : word_at_place new q + word_at_place old q ≡ word_at_place old q + word_at_place new q = omega arith in e)
 replaced_alike (d ∷ ds) old new h q = elim (choice (place_of d == q)) [
   | inr other ↦ rw other (replaced_alike ds old new h.1 q)
   | inl here ↦ (
       let same : place_of d ≡ q = grind (arith, nat_tests) in
       let way = h.0.way in
       let each = replaced_alike ds old new h.1 in
-      let added = sums_alike (word_at old) (word_at new) (replaced old ds) (replaced new ds) each (places_from d.first way.added) in
-      let subtracted = sums_alike (word_at old) (word_at new) (replaced old ds) (replaced new ds) each (places_from d.first way.subtracted) in
-      let bases = differ_alike (sum (map (word_at old) (places_from d.first way.added))) (sum (map (word_at new) (places_from d.first way.added)))
-      (sum (map (word_at old) (places_from d.first way.subtracted))) (sum (map (word_at new) (places_from d.first way.subtracted)))
+      let added = sums_alike (word_at_place old) (word_at_place new) (replaced old ds) (replaced new ds) each (places_from d.first way.added) in
+      let subtracted = sums_alike (word_at_place old) (word_at_place new) (replaced old ds) (replaced new ds) each (places_from d.first way.subtracted) in
+      let bases = differ_alike (sum (map (word_at_place old) (places_from d.first way.added))) (sum (map (word_at_place new) (places_from d.first way.added)))
+      (sum (map (word_at_place old) (places_from d.first way.subtracted))) (sum (map (word_at_place new) (places_from d.first way.subtracted)))
       (sum (map (replaced old ds) (places_from d.first way.added))) (sum (map (replaced new ds) (places_from d.first way.added)))
       (sum (map (replaced old ds) (places_from d.first way.subtracted))) (sum (map (replaced new ds) (places_from d.first way.subtracted))) added subtracted in
-      let grown = grown_alike (word_at old (place_of d)) (word_at new (place_of d)) (bases_at old d.first way) (bases_at new d.first way)
+      let grown = grown_alike (word_at_place old (place_of d)) (word_at_place new (place_of d)) (bases_by_way old d.first way) (bases_by_way new d.first way)
       (bases_by (replaced old ds) d.first (Some way)) (bases_by (replaced new ds) d.first (Some way)) h.0.word bases (omega arith) (omega arith) in
       let of_old : bases_by (replaced old ds) d.first (way_at old d) ≡ bases_by (replaced old ds) d.first (Some way) = ap (bases_by (replaced old ds) d.first) h.0.takes in
       let of_new : bases_by (replaced new ds) d.first (way_at new d) ≡ bases_by (replaced new ds) d.first (Some way) = ap (bases_by (replaced new ds) d.first) h.0.still in
-      rw here (subst (λ (n : ℕ). GrowAlike (word_at old n) (word_at new n) (bases_by (replaced old ds) d.first (way_at old d)) (bases_by (replaced new ds) d.first (way_at new d))) same
+      rw here (subst (λ (n : ℕ). GrowAlike (word_at_place old n) (word_at_place new n) (bases_by (replaced old ds) d.first (way_at old d)) (bases_by (replaced new ds) d.first (way_at new d))) same
       (rw (of_old, of_new) grown)))
 ]
 
@@ -122,4 +122,4 @@ keeps_offsets p frames moves old new fit ways moved = λ d among.
     let each = grow_each ds ds old new (λ e h. (let way = has_way (way_at old e) (ways e h) in takes_way p frames moves old new fit moved e h way.0 way.1)) (λ e h. h) in
     let alike = replaced_alike ds old new each (place_of d) in
     let there = among_places ds d among.0 (slice_get-get_or ds among.0 d among.1 ∙ ap Some among.2) in
-    offset_stays (word_at old (place_of d)) (word_at new (place_of d)) (replaced old ds (place_of d)) (replaced new ds (place_of d)) alike (replaced_small old ds (place_of d) there) (replaced_small new ds (place_of d) there))
+    offset_stays (word_at_place old (place_of d)) (word_at_place new (place_of d)) (replaced old ds (place_of d)) (replaced new ds (place_of d)) alike (replaced_small old ds (place_of d) there) (replaced_small new ds (place_of d) there))

@@ -8,9 +8,9 @@ use Rattle.m3_tables.proofs.SectionLemmas.{has_append}
 use Rattle.m3_sections.specs.Parts.{Program}
 use Rattle.m3_frames.specs.declared.frame.Frame.{Frame}
 use Rattle.m3_roots.specs.ThreadWords.{place_from, Derived, path_places, base_places}
-use Rattle.m3_roots.specs.RowMeaning.{tidy_in, newest_arguments, derived_in}
+use Rattle.m3_roots.specs.RowMeaning.{tidy_of_frame, newest_arguments, derived_of_frame}
 use Rattle.m3_roots.specs.RowLists.{derived_places, listed_below, listed_places, barred_in, barred_places, bases_in, BasesArePlain, ListsFit}
-use Rattle.m3_roots.specs.Marking.{Act, Lists, Derives, Bars, Uses, unmarked, all_go}
+use Rattle.m3_roots.specs.Marking.{Act, Lists, Derives, Bars, Uses, nothing_marked, all_go}
 use Rattle.m3_roots.specs.BarActs.{bar_acts}
 use Rattle.m3_roots.specs.RowActs.{frame_acts, acts_below, acts_of}
 use Rattle.m3_roots.proofs.WordLemmas.{has_first, has_more}
@@ -71,22 +71,22 @@ barred_bar : (first : ℕ) (ds : List Derived) → barred_of (bar_acts first ds)
 barred_bar first ds =
     rw (barred_append (map Bars (flat_map path_places ds)) (map Uses (flat_map base_places ds)), barred_bars (flat_map path_places ds), barred_uses (flat_map base_places ds), append-nil (flat_map path_places ds)) refl
 
-listed_frame : (p : Program) (f : Frame) → listed_of (frame_acts p f) ≡ tidy_in p f ++ derived_places p f
+listed_frame : (p : Program) (f : Frame) → listed_of (frame_acts p f) ≡ tidy_of_frame p f ++ derived_places p f
 listed_frame p f =
-    listed_append (bar_acts f.first (derived_in p f)) (map Lists (tidy_in p f) ++ map Derives (derived_places p f)) ∙ ap (λ (l : List ℕ). l ++ listed_of (map Lists (tidy_in p f) ++ map Derives (derived_places p f))) (listed_bar f.first (derived_in p f))
-    ∙ listed_append (map Lists (tidy_in p f)) (map Derives (derived_places p f)) ∙ ap (λ (l : List ℕ). l ++ listed_of (map Derives (derived_places p f))) (listed_lists (tidy_in p f)) ∙ ap (λ (l : List ℕ). tidy_in p f ++ l) (listed_derives (derived_places p f))
+    listed_append (bar_acts f.first (derived_of_frame p f)) (map Lists (tidy_of_frame p f) ++ map Derives (derived_places p f)) ∙ ap (λ (l : List ℕ). l ++ listed_of (map Lists (tidy_of_frame p f) ++ map Derives (derived_places p f))) (listed_bar f.first (derived_of_frame p f))
+    ∙ listed_append (map Lists (tidy_of_frame p f)) (map Derives (derived_places p f)) ∙ ap (λ (l : List ℕ). l ++ listed_of (map Derives (derived_places p f))) (listed_lists (tidy_of_frame p f)) ∙ ap (λ (l : List ℕ). tidy_of_frame p f ++ l) (listed_derives (derived_places p f))
 
 barred_frame : (p : Program) (f : Frame) → barred_of (frame_acts p f) ≡ barred_in p f
 barred_frame p f =
-    barred_append (bar_acts f.first (derived_in p f)) (map Lists (tidy_in p f) ++ map Derives (derived_places p f)) ∙ ap (λ (l : List ℕ). l ++ barred_of (map Lists (tidy_in p f) ++ map Derives (derived_places p f))) (barred_bar f.first (derived_in p f))
-    ∙ ap (λ (l : List ℕ). barred_in p f ++ l) (barred_append (map Lists (tidy_in p f)) (map Derives (derived_places p f)) ∙ ap (λ (l : List ℕ). l ++ barred_of (map Derives (derived_places p f))) (barred_lists (tidy_in p f)) ∙ barred_derives (derived_places p f))
+    barred_append (bar_acts f.first (derived_of_frame p f)) (map Lists (tidy_of_frame p f) ++ map Derives (derived_places p f)) ∙ ap (λ (l : List ℕ). l ++ barred_of (map Lists (tidy_of_frame p f) ++ map Derives (derived_places p f))) (barred_bar f.first (derived_of_frame p f))
+    ∙ ap (λ (l : List ℕ). barred_in p f ++ l) (barred_append (map Lists (tidy_of_frame p f)) (map Derives (derived_places p f)) ∙ ap (λ (l : List ℕ). l ++ barred_of (map Derives (derived_places p f))) (barred_lists (tidy_of_frame p f)) ∙ barred_derives (derived_places p f))
     ∙ append-nil (barred_in p f)
 
 listed_frames : (p : Program) (fs : List Frame) → listed_of (acts_below p fs) ≡ listed_below p fs
 listed_frames p [] = refl
 listed_frames p (f ∷ fs) =
-    listed_append (frame_acts p f) (acts_below p fs) ∙ ap (λ (l : List ℕ). l ++ listed_of (acts_below p fs)) (listed_frame p f) ∙ ap (λ (l : List ℕ). (tidy_in p f ++ derived_places p f) ++ l) (listed_frames p fs)
-    ∙ append_assoc (tidy_in p f) (derived_places p f) (listed_below p fs)
+    listed_append (frame_acts p f) (acts_below p fs) ∙ ap (λ (l : List ℕ). l ++ listed_of (acts_below p fs)) (listed_frame p f) ∙ ap (λ (l : List ℕ). (tidy_of_frame p f ++ derived_places p f) ++ l) (listed_frames p fs)
+    ∙ append_assoc (tidy_of_frame p f) (derived_places p f) (listed_below p fs)
 
 barred_frames : (p : Program) (fs : List Frame) → barred_of (acts_below p fs) ≡ barred_places p fs
 barred_frames p [] = refl
@@ -152,11 +152,11 @@ derives_in n (x ∷ xs) acts h = derives_in (λ q. x == q || n q) xs acts (alike
 
 -- the acts of a frame, one list after another
 frame_parts : (p : Program) (f : Frame) (acts : List Act)
-    → frame_acts p f ++ acts ≡ Bars (place_from f.first 16) ∷ (Bars (place_from f.first 17) ∷ (map Bars (flat_map path_places (derived_in p f)) ++ (map Uses (bases_in p f) ++ (map Lists (tidy_in p f) ++ (map Derives (derived_places p f) ++ acts)))))
+    → frame_acts p f ++ acts ≡ Bars (place_from f.first 16) ∷ (Bars (place_from f.first 17) ∷ (map Bars (flat_map path_places (derived_of_frame p f)) ++ (map Uses (bases_in p f) ++ (map Lists (tidy_of_frame p f) ++ (map Derives (derived_places p f) ++ acts)))))
 frame_parts p f acts =
-    let paths = map Bars (flat_map path_places (derived_in p f)) in
+    let paths = map Bars (flat_map path_places (derived_of_frame p f)) in
     let bases = map Uses (bases_in p f) in
-    let tidy = map Lists (tidy_in p f) in
+    let tidy = map Lists (tidy_of_frame p f) in
     let derived = map Derives (derived_places p f) in
     ap (λ (l : List Act). Bars (place_from f.first 16) ∷ (Bars (place_from f.first 17) ∷ l))
     (append_assoc (paths ++ bases) (tidy ++ derived) acts ∙ append_assoc paths bases ((tidy ++ derived) ++ acts) ∙ ap (λ (l : List Act). paths ++ (bases ++ l)) (append_assoc tidy derived acts))
@@ -166,8 +166,8 @@ plain_out p [] newer n same h = tt
 plain_out p (f ∷ fs) newer n same h =
     let rest = acts_below p fs in
     let parts = rw (frame_parts p f rest) at h in
-    let bases = uses_out n (bases_in p f) (map Lists (tidy_in p f) ++ (map Derives (derived_places p f) ++ rest)) (bars_out n (flat_map path_places (derived_in p f)) _ parts) in
-    let later = derives_out n (derived_places p f) rest (lists_out n (tidy_in p f) _ bases.1) in
+    let bases = uses_out n (bases_in p f) (map Lists (tidy_of_frame p f) ++ (map Derives (derived_places p f) ++ rest)) (bars_out n (flat_map path_places (derived_of_frame p f)) _ parts) in
+    let later = derives_out n (derived_places p f) rest (lists_out n (tidy_of_frame p f) _ bases.1) in
     (λ base k. sym (same base) ∙ bases.0 base k, plain_out p fs (derived_places p f ++ newer) (λ q. has (derived_places p f) q || n q) (λ q. ap (λ (b : Bool). has (derived_places p f) q || b) (same q) ∙ sym (has_append (derived_places p f) newer q)) later)
 
 plain_in : (p : Program) (fs : List Frame) (newer : List ℕ) (n : ℕ → Bool) → ((q : ℕ) → n q ≡ has newer q) → BasesArePlain p newer fs → UsesArePlain n (acts_below p fs)
@@ -176,21 +176,21 @@ plain_in p (f ∷ fs) newer n same h =
     let rest = acts_below p fs in
     let later = plain_in p fs (derived_places p f ++ newer) (λ q. has (derived_places p f) q || n q) (λ q. ap (λ (b : Bool). has (derived_places p f) q || b) (same q) ∙ sym (has_append (derived_places p f) newer q)) h.1 in
     rw (frame_parts p f rest)
-    (bars_in n (flat_map path_places (derived_in p f)) _ (uses_in n (bases_in p f) _ (λ q k. same q ∙ h.0 q k) (lists_in n (tidy_in p f) _ (derives_in n (derived_places p f) rest later))))
+    (bars_in n (flat_map path_places (derived_of_frame p f)) _ (uses_in n (bases_in p f) _ (λ q k. same q ∙ h.0 q k) (lists_in n (tidy_of_frame p f) _ (derives_in n (derived_places p f) rest later))))
 
 -- ---- all of them
 
-pub fits_from : (p : Program) (fs : List Frame) → all_go unmarked (acts_of p fs) ≡ true → ListsFit p fs
+pub fits_from : (p : Program) (fs : List Frame) → all_go nothing_marked (acts_of p fs) ≡ true → ListsFit p fs
 fits_from p fs e =
-    let go = together_from unmarked (acts_of p fs) e in
+    let go = together_from nothing_marked (acts_of p fs) e in
     record {
       once = rw (← listed_all p fs) go.once;
       free = λ q h. rw (← barred_all p fs) (go.free q (rw (listed_all p fs) h)).0;
       plain = plain_out p fs [] (has []) (λ q. refl) (lists_out (has []) (newest_arguments p fs) (acts_below p fs) go.plain);
     }
 
-pub go_from : (p : Program) (fs : List Frame) → ListsFit p fs → all_go unmarked (acts_of p fs) ≡ true
-go_from p fs h = together_go unmarked (acts_of p fs) (record {
+pub go_from : (p : Program) (fs : List Frame) → ListsFit p fs → all_go nothing_marked (acts_of p fs) ≡ true
+go_from p fs h = together_go nothing_marked (acts_of p fs) (record {
   once = rw (listed_all p fs) h.once;
   fresh = λ q k. refl;
   free = λ q k. (rw (barred_all p fs) (h.free q (rw (← listed_all p fs) k)), refl);

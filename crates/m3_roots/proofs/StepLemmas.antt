@@ -10,7 +10,7 @@ use Rattle.m3_tables.specs.Tables.{section_of_row, number_of_row, arguments_in a
 use Rattle.m3_sections.specs.Parts.{Program}
 use Rattle.m3_frames.specs.declared.frame.Frame.{Frame}
 use Rattle.m3_roots.specs.ThreadWords.{places_from, Derived, derived_from}
-use Rattle.m3_roots.specs.RowMeaning.{arguments_in, newest_arguments, derived_in, derived_words}
+use Rattle.m3_roots.specs.RowMeaning.{arguments_of_frame, newest_arguments, derived_of_frame, derived_words}
 use Rattle.m3_roots.specs.TakingApart.{apart, together}
 use Rattle.m3_roots.proofs.TogetherLemmas.{apart_append, together_append}
 
@@ -19,16 +19,16 @@ pub record IsRowOf (p : Program) (f : Frame) (row : Row) : Type 0 where
   pub section : section_of_row row ≡ p.tables
   pub number : number_of_row row ≡ f.row
 
-pub derived_of : (p : Program) (f : Frame) (row : Row) → IsRowOf p f row → derived_from f.first (row_derived row) ≡ derived_in p f
+pub derived_of : (p : Program) (f : Frame) (row : Row) → IsRowOf p f row → derived_from f.first (row_derived row) ≡ derived_of_frame p f
 derived_of p f row is = ap (λ (s : List ℕ). derived_from f.first (contents_in s (number_of_row row)).derived) is.section ∙ ap (λ (n : ℕ). derived_from f.first (contents_in p.tables n).derived) is.number
 
-pub arguments_of : (p : Program) (f : Frame) (row : Row) → IsRowOf p f row → places_from f.first (row_arguments row) ≡ arguments_in p f
+pub arguments_of : (p : Program) (f : Frame) (row : Row) → IsRowOf p f row → places_from f.first (row_arguments row) ≡ arguments_of_frame p f
 arguments_of p f row is = ap (λ (s : List ℕ). places_from f.first (contents_in s (number_of_row row)).arguments) is.section ∙ ap (λ (n : ℕ). places_from f.first (contents_in p.tables n).arguments) is.number
 
 -- ---- taken apart
 
 apart_first : (p : Program) (f : Frame) (fs : List Frame) (row : Row) (w : List ℕ) → IsRowOf p f row → apart (derived_words p (f ∷ fs)) w ≡ option_and_then (apart (derived_words p fs)) (apart (derived_from f.first (row_derived row)) w)
-apart_first p f fs row w is = apart_append (derived_in p f) (derived_words p fs) w ∙ ap (λ (ds : List Derived). option_and_then (apart (derived_words p fs)) (apart ds w)) (sym (derived_of p f row is))
+apart_first p f fs row w is = apart_append (derived_of_frame p f) (derived_words p fs) w ∙ ap (λ (ds : List Derived). option_and_then (apart (derived_words p fs)) (apart ds w)) (sym (derived_of p f row is))
 
 pub apart_more : (p : Program) (f : Frame) (fs : List Frame) (row : Row) (w v : List ℕ) → IsRowOf p f row → apart (derived_from f.first (row_derived row)) w ≡ Some v → apart (derived_words p fs) v ≡ apart (derived_words p (f ∷ fs)) w
 apart_more p f fs row w v is e = sym (apart_first p f fs row w is ∙ ap (λ (o : Option (List ℕ)). option_and_then (apart (derived_words p fs)) o) e)
@@ -40,12 +40,12 @@ apart_stop p f fs row w is e = apart_first p f fs row w is ∙ ap (λ (o : Optio
 
 pub together_more : (p : Program) (f : Frame) (fs : List Frame) (row : Row) (w v : List ℕ) (o : Option (List ℕ)) → IsRowOf p f row → together (derived_words p fs) w ≡ Some v → together (derived_from f.first (row_derived row)) v ≡ o → together (derived_words p (f ∷ fs)) w ≡ o
 together_more p f fs row w v o is e h =
-    together_append (derived_in p f) (derived_words p fs) w ∙ ap (λ (x : Option (List ℕ)). option_and_then (together (derived_in p f)) x) e ∙ ap (λ (ds : List Derived). together ds v) (sym (derived_of p f row is)) ∙ h
+    together_append (derived_of_frame p f) (derived_words p fs) w ∙ ap (λ (x : Option (List ℕ)). option_and_then (together (derived_of_frame p f)) x) e ∙ ap (λ (ds : List Derived). together ds v) (sym (derived_of p f row is)) ∙ h
 
 pub together_stop : (p : Program) (fs : List Frame) (k : ℕ) (w : List ℕ) → together (derived_words p (drop k fs)) w ≡ None → together (derived_words p fs) w ≡ None
 together_stop p fs zero w e = e
 together_stop p [] (suc k) w e = e
-together_stop p (f ∷ fs) (suc k) w e = together_append (derived_in p f) (derived_words p fs) w ∙ ap (λ (x : Option (List ℕ)). option_and_then (together (derived_in p f)) x) (together_stop p fs k w e)
+together_stop p (f ∷ fs) (suc k) w e = together_append (derived_of_frame p f) (derived_words p fs) w ∙ ap (λ (x : Option (List ℕ)). option_and_then (together (derived_of_frame p f)) x) (together_stop p fs k w e)
 
 -- ---- the frames of a list
 
@@ -59,7 +59,7 @@ each_at P (g ∷ gs) zero d lt h = h.0
 each_at P (g ∷ gs) (suc i) d lt h = each_at P gs i d (omega arith) h.1
 
 -- the newest frame is the first of the list
-pub newest_is : (p : Program) (fs : List Frame) (d : Frame) → 0 < length fs → newest_arguments p fs ≡ arguments_in p (get_or fs 0 d)
+pub newest_is : (p : Program) (fs : List Frame) (d : Frame) → 0 < length fs → newest_arguments p fs ≡ arguments_of_frame p (get_or fs 0 d)
 newest_is p [] d some = absurd (omega arith)
 newest_is p (g ∷ gs) d some = refl
 

@@ -10,7 +10,7 @@ use Rattle.m3_heap.specs.Moves.{Move, forwarded}
 use Rattle.m3_heap.specs.Reach.{IsBadPointer}
 use Rattle.m3_sections.specs.Parts.{Program}
 use Rattle.m3_frames.specs.declared.frame.Frame.{Frame}
-use Rattle.m3_roots.specs.ThreadWords.{word_at, Derived, way_at}
+use Rattle.m3_roots.specs.ThreadWords.{word_at_place, Derived, way_at}
 use Rattle.m3_roots.specs.RowMeaning.{tidy_places, derived_words}
 use Rattle.m3_roots.specs.RowLists.{ListsFit}
 use Rattle.m3_roots.specs.TakingApart.{apart, together}
@@ -76,7 +76,7 @@ mends p cells end frames old before new after last has_frames fit h grew =
         tidy = λ q k. (
             let each = h.words.each q k in
             let same = h.tidy_same q k in
-            done.2.visited_words q k ∙ each.0 ∙ sym (forwarded_stays after last (word_at h.taken q) grew each.1) ∙ ap (forwarded last) same);
+            done.2.visited_words q k ∙ each.0 ∙ sym (forwarded_stays after last (word_at_place h.taken q) grew each.1) ∙ ap (forwarded last) same);
         derived = λ d way among takes. All-contains (Grows old z) ds d (All-from_recursion (Grows old z) ds done.2.each) among way takes;
         others = done.2.others;
       },
@@ -94,7 +94,7 @@ stops_path p end frames old has_frames fit e =
     (past.derived, subst (λ (ds : List Derived). Contains ds past.derived) (sym past.split) (contains_split past.front past.derived past.back), past.past)
 
 pub stops_tidy : (p : Program) (cells : List Cell) (end : ℕ) (frames : List Frame) (old taken : List ℕ) (before : List Move) → HasFrames p end frames old → ListsFit p frames → apart (derived_words p frames) old ≡ Some taken → StopsVisit cells (tidy_places p frames) taken before
-    → (q : ℕ) × (has (tidy_places p frames) q ≡ true) × IsBadPointer cells (word_at old q)
+    → (q : ℕ) × (has (tidy_places p frames) q ≡ true) × IsBadPointer cells (word_at_place old q)
 stops_tidy p cells end frames old taken before has_frames fit e stops =
     let ds = derived_words p frames in
     let within = derived_within p end frames has_frames.sit in

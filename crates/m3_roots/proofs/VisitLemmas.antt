@@ -9,7 +9,7 @@ use Rattle.m3_tables.proofs.KeepingLemmas.{choice, and_parts, not_true}
 use Rattle.m3_heap.specs.Cells.{Cell, heap_base}
 use Rattle.m3_heap.specs.Moves.{Move, new_start, is_kept, forwarded, kept_starts}
 use Rattle.m3_heap.specs.Reach.{IsBadPointer}
-use Rattle.m3_roots.specs.ThreadWords.{word_at}
+use Rattle.m3_roots.specs.ThreadWords.{word_at_place}
 use Rattle.m3_heap.specs.Heap.{Heap}
 use Rattle.m3_roots.specs.Visiting.{Visits, VisitsAll, StopsVisit, VisitsPart, KeepsHeap}
 use Rattle.m3_roots.proofs.WordLemmas.{has_first, has_more}
@@ -110,18 +110,18 @@ visit_starts cells word old to new h start k = elim (choice (nat_lt word heap_ba
 pub record AreForwarded (cells : List Cell) (places words : List ℕ) (old : List Move) (new_words : List ℕ) (new : List Move) : Type 0 where
   pub count : length new_words ≡ length words
   pub grew : Grew old new
-  pub each : (q : ℕ) → has places q ≡ true → (word_at new_words q ≡ forwarded new (word_at words q)) × IsKnown new (word_at words q) × (IsBadPointer cells (word_at words q) → ⊥)
-  pub others : (q : ℕ) → has places q ≡ false → word_at new_words q ≡ word_at words q
-  pub starts : (start : ℕ) → has (kept_starts new) start ≡ true → (has (kept_starts old) start ≡ true) ⊎ (has (map (word_at words) places) start ≡ true)
+  pub each : (q : ℕ) → has places q ≡ true → (word_at_place new_words q ≡ forwarded new (word_at_place words q)) × IsKnown new (word_at_place words q) × (IsBadPointer cells (word_at_place words q) → ⊥)
+  pub others : (q : ℕ) → has places q ≡ false → word_at_place new_words q ≡ word_at_place words q
+  pub starts : (start : ℕ) → has (kept_starts new) start ≡ true → (has (kept_starts old) start ≡ true) ⊎ (has (map (word_at_place words) places) start ≡ true)
 
 abbrev pub AllBefore : ℕ → List ℕ → Type 0
 AllBefore end places = (q : ℕ) → has places q ≡ true → q < end
 
-map_unset : (words : List ℕ) (p v : ℕ) (places : List ℕ) → has places p ≡ false → map (word_at (set words p v)) places ≡ map (word_at words) places
+map_unset : (words : List ℕ) (p v : ℕ) (places : List ℕ) → has places p ≡ false → map (word_at_place (set words p v)) places ≡ map (word_at_place words) places
 map_unset words p v [] h = refl
 map_unset words p v (q ∷ qs) h =
     let away = gone q p qs h in
-    let here : word_at (set words p v) q ≡ word_at words q = get_or-set_other words p q v 0 away.0 in
+    let here : word_at_place (set words p v) q ≡ word_at_place words q = get_or-set_other words p q v 0 away.0 in
     let rest = map_unset words p v qs away.1 in
     cc
 
@@ -133,7 +133,7 @@ visits_forward cells [] words old new_words new once within h =
       count = ap length e;
       grew = rw f (grew_not old);
       each = λ q k. absurd cc;
-      others = λ q k. ap (λ (ws : List ℕ). word_at ws q) e;
+      others = λ q k. ap (λ (ws : List ℕ). word_at_place ws q) e;
       starts = λ start k. inl (rw f at k);
     }
 visits_forward cells (p ∷ ps) words old new_words new once within h =
@@ -145,15 +145,15 @@ visits_forward cells (p ∷ ps) words old new_words new once within h =
     let middle = set words p to in
     let len : length middle ≡ length words = length-set words p to in
     let rest = visits_forward cells ps middle next new_words new parts.1 (λ q k. rw len (within q (has_more p q ps k))) h.3 in
-    let known = visit_known cells (word_at words p) old to next visit in
-    let here : word_at new_words p ≡ forwarded new (word_at words p) =
-    rest.others p absent ∙ get_or-set_same words p to 0 (within p (has_first p ps)) ∙ visit.goes ∙ sym (forwarded_stays next new (word_at words p) rest.grew known) in
-    let same : (q : ℕ) → p ≢ q → word_at middle q ≡ word_at words q = λ q ne. get_or-set_other words p q to 0 (λ e. ne (sym e)) in
+    let known = visit_known cells (word_at_place words p) old to next visit in
+    let here : word_at_place new_words p ≡ forwarded new (word_at_place words p) =
+    rest.others p absent ∙ get_or-set_same words p to 0 (within p (has_first p ps)) ∙ visit.goes ∙ sym (forwarded_stays next new (word_at_place words p) rest.grew known) in
+    let same : (q : ℕ) → p ≢ q → word_at_place middle q ≡ word_at_place words q = λ q ne. get_or-set_other words p q to 0 (λ e. ne (sym e)) in
     record {
       count = rest.count ∙ len;
-      grew = grew_twice old next new (visit_grew cells (word_at words p) old to next visit) rest.grew;
+      grew = grew_twice old next new (visit_grew cells (word_at_place words p) old to next visit) rest.grew;
       each = λ q k. elim (choice (p == q)) [
-        | inl here_it_is ↦ (let e : p ≡ q = grind (arith, nat_tests) in rw (← e) (here, known_stays next new (word_at words p) rest.grew known, visit.good))
+        | inl here_it_is ↦ (let e : p ≡ q = grind (arith, nat_tests) in rw (← e) (here, known_stays next new (word_at_place words p) rest.grew known, visit.good))
         | inr other ↦ (
             let ne : p ≢ q = grind (arith, nat_tests) in
             let more = rest.each q (rw other at k) in
@@ -162,16 +162,16 @@ visits_forward cells (p ∷ ps) words old new_words new once within h =
       ];
       others = λ q k. (let away = gone p q ps k in rest.others q away.1 ∙ same q away.0);
       starts = λ start k. elim (rest.starts start k) [
-        | inl before ↦ (elim (visit_starts cells (word_at words p) old to next visit start before) [
+        | inl before ↦ (elim (visit_starts cells (word_at_place words p) old to next visit start before) [
           | inl first ↦ inl first
-          | inr new_one ↦ inr (rw new_one (has_first (word_at words p) (map (word_at words) ps)))
+          | inr new_one ↦ inr (rw new_one (has_first (word_at_place words p) (map (word_at_place words) ps)))
         ])
-        | inr later ↦ inr (has_more (word_at words p) start (map (word_at words) ps) (rw (map_unset words p to ps absent) at later))
+        | inr later ↦ inr (has_more (word_at_place words p) start (map (word_at_place words) ps) (rw (map_unset words p to ps absent) at later))
       ];
     }
 
 -- where the visit stops, a word was a bad pointer from the first
-pub stops_bad : (cells : List Cell) (places words : List ℕ) (old : List Move) → is_once places ≡ true → StopsVisit cells places words old → (q : ℕ) × (has places q ≡ true) × IsBadPointer cells (word_at words q)
+pub stops_bad : (cells : List Cell) (places words : List ℕ) (old : List Move) → is_once places ≡ true → StopsVisit cells places words old → (q : ℕ) × (has places q ≡ true) × IsBadPointer cells (word_at_place words q)
 stops_bad cells [] words old once h = elim h [ ]
 stops_bad cells (p ∷ ps) words old once (inl bad) = (p, has_first p ps, bad)
 stops_bad cells (p ∷ ps) words old once (inr later) =
@@ -180,7 +180,7 @@ stops_bad cells (p ∷ ps) words old once (inr later) =
     let found = stops_bad cells ps (set words p later.0) later.1 parts.1 later.3 in
     let q = found.0 in
     let ne : q ≢ p = λ e. (let t : has ps p ≡ true = rw (← e) found.1 in cc) in
-    let same : word_at (set words p later.0) q ≡ word_at words q = get_or-set_other words p q later.0 0 ne in
+    let same : word_at_place (set words p later.0) q ≡ word_at_place words q = get_or-set_other words p q later.0 0 ne in
     (q, has_more p q ps found.1, rw same at found.2)
 
 -- ---- one list of places after another

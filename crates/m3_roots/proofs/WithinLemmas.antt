@@ -17,7 +17,7 @@ use Rattle.m3_image.specs.Sound.{IsInFrame, EntryPlaces, RowInFrame, IsSoundProg
 use Rattle.m3_frames.specs.declared.frame.Frame.{Frame}
 use Rattle.m3_frames.specs.Frames.{IsFrame}
 use Rattle.m3_roots.specs.ThreadWords.{places_from, Derived, derived_at, derived_from, place_of, path_list, path_places, base_places}
-use Rattle.m3_roots.specs.RowMeaning.{AreBelow, AreFramesAt, HaveRows, tidy_in, arguments_in, tidy_below, newest_arguments, tidy_places, derived_in, derived_words}
+use Rattle.m3_roots.specs.RowMeaning.{AreBelow, AreFramesAt, HaveRows, tidy_of_frame, arguments_of_frame, tidy_below, newest_arguments, tidy_places, derived_of_frame, derived_words}
 use Rattle.m3_roots.specs.RowLists.{derived_places}
 use Rattle.m3_roots.specs.Marking.{Act, Lists, Derives, Bars, Uses, place_in_act, AreBefore}
 use Rattle.m3_roots.specs.BarActs.{bar_acts}
@@ -104,10 +104,10 @@ numbers_below p end f numbers sits inside q h =
     let low = place_low f.first found.0 f.words end (inside found.0 found.2) sits.within in
     rw (← found.1) low
 
-pub tidy_within : (p : Program) (end : ℕ) (f : Frame) → Sits p end f → AllBelow (end + 16) (tidy_in p f)
+pub tidy_within : (p : Program) (end : ℕ) (f : Frame) → Sits p end f → AllBelow (end + 16) (tidy_of_frame p f)
 tidy_within p end f sits = numbers_below p end f (tidy_list p.tables f.row) sits (λ l h. sits.inside.tidy l (sym (has_tidy_list p.tables f.row l) ∙ h))
 
-pub arguments_within : (p : Program) (end : ℕ) (f : Frame) → Sits p end f → AllBelow (end + 16) (arguments_in p f)
+pub arguments_within : (p : Program) (end : ℕ) (f : Frame) → Sits p end f → AllBelow (end + 16) (arguments_of_frame p f)
 arguments_within p end f sits = numbers_below p end f (contents_in p.tables f.row).arguments sits sits.inside.arguments
 
 abbrev EntriesIn : ℕ → List Entry → Type 0
@@ -178,15 +178,15 @@ places_below end (d ∷ ds) h q k = elim (has_cases (place_of d) q (map place_of
 frame_before : (p : Program) (end : ℕ) (f : Frame) → Sits p end f → AreBefore (end + 16) (frame_acts p f)
 frame_before p end f sits =
     let es = (contents_in p.tables f.row).derived in
-    let ds = derived_in p f in
+    let ds = derived_of_frame p f in
     let paths = before_map Bars (λ q. refl) (end + 16) (flat_map path_places ds) (paths_below p end f es sits sits.inside.derived) in
     let bases = before_map Uses (λ q. refl) (end + 16) (flat_map base_places ds) (bases_below p end f es es sits sits.inside.derived sits.kept.entries) in
-    let tidy = before_map Lists (λ q. refl) (end + 16) (tidy_in p f) (tidy_within p end f sits) in
+    let tidy = before_map Lists (λ q. refl) (end + 16) (tidy_of_frame p f) (tidy_within p end f sits) in
     let derived = before_map Derives (λ q. refl) (end + 16) (derived_places p f) (places_below (end + 16) ds (derived_below p end f es sits sits.inside.derived)) in
     let words = sits.within in
     let tall = sits.tall in
     let bars : AreBefore (end + 16) (bar_acts f.first ds) = (omega arith, (omega arith, before_join (end + 16) (map Bars (flat_map path_places ds)) (map Uses (flat_map base_places ds)) paths bases)) in
-    before_join (end + 16) (bar_acts f.first ds) (map Lists (tidy_in p f) ++ map Derives (derived_places p f)) bars (before_join (end + 16) (map Lists (tidy_in p f)) (map Derives (derived_places p f)) tidy derived)
+    before_join (end + 16) (bar_acts f.first ds) (map Lists (tidy_of_frame p f) ++ map Derives (derived_places p f)) bars (before_join (end + 16) (map Lists (tidy_of_frame p f)) (map Derives (derived_places p f)) tidy derived)
 
 below_before : (p : Program) (end : ℕ) (fs : List Frame) → AllByRecursion (Sits p end) fs → AreBefore (end + 16) (acts_below p fs)
 below_before p end [] h = tt
@@ -194,7 +194,7 @@ below_before p end (f ∷ fs) h = before_join (end + 16) (frame_acts p f) (acts_
 
 newest_before : (p : Program) (end : ℕ) (fs : List Frame) → AllByRecursion (Sits p end) fs → AreBefore (end + 16) (map Lists (newest_arguments p fs))
 newest_before p end [] h = tt
-newest_before p end (f ∷ fs) h = before_map Lists (λ q. refl) (end + 16) (arguments_in p f) (arguments_within p end f h.0)
+newest_before p end (f ∷ fs) h = before_map Lists (λ q. refl) (end + 16) (arguments_of_frame p f) (arguments_within p end f h.0)
 
 pub acts_before : (p : Program) (end : ℕ) (fs : List Frame) → AllByRecursion (Sits p end) fs → AreBefore (end + 16) (acts_of p fs)
 acts_before p end fs h = before_join (end + 16) (map Lists (newest_arguments p fs)) (acts_below p fs) (newest_before p end fs h) (below_before p end fs h)
@@ -208,11 +208,11 @@ each_append P (x ∷ xs) ys h k = (h.0, each_append P xs ys h.1 k)
 pub derived_within : (p : Program) (end : ℕ) (fs : List Frame) → AllByRecursion (Sits p end) fs → AreWithin (end + 16) (derived_words p fs)
 derived_within p end [] h = tt
 derived_within p end (f ∷ fs) h =
-    each_append (λ d. place_of d < end + 16) (derived_in p f) (derived_words p fs) (derived_below p end f (contents_in p.tables f.row).derived h.0 h.0.inside.derived) (derived_within p end fs h.1)
+    each_append (λ d. place_of d < end + 16) (derived_of_frame p f) (derived_words p fs) (derived_below p end f (contents_in p.tables f.row).derived h.0 h.0.inside.derived) (derived_within p end fs h.1)
 
 below_within : (p : Program) (end : ℕ) (fs : List Frame) → AllByRecursion (Sits p end) fs → AllBelow (end + 16) (tidy_below p fs)
 below_within p end [] h q k = absurd cc
-below_within p end (f ∷ fs) h q k = elim (in_either (tidy_in p f) (tidy_below p fs) q k) [ inl here ↦ tidy_within p end f h.0 q here | inr later ↦ below_within p end fs h.1 q later ]
+below_within p end (f ∷ fs) h q k = elim (in_either (tidy_of_frame p f) (tidy_below p fs) q k) [ inl here ↦ tidy_within p end f h.0 q here | inr later ↦ below_within p end fs h.1 q later ]
 
 newest_within : (p : Program) (end : ℕ) (fs : List Frame) → AllByRecursion (Sits p end) fs → AllBelow (end + 16) (newest_arguments p fs)
 newest_within p end [] h q k = absurd cc

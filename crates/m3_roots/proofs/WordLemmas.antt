@@ -6,11 +6,11 @@ use Rattle.std.proofs.lemmas.Bool.Decides.{nat_tests}
 use Rattle.m3_tables.specs.Numbers.{has}
 use Rattle.m3_tables.specs.Rows.{Bases}
 use Rattle.m3_tables.proofs.SectionLemmas.{has_append}
-use Rattle.m3_roots.specs.ThreadWords.{word_at, place_from, places_from, Derived, way_number, way_at, sum_at, bases_at, path_list, path_places, bases_in_way, base_places}
+use Rattle.m3_roots.specs.ThreadWords.{word_at_place, place_from, places_from, Derived, way_number, way_at, sum_at, bases_by_way, path_list, path_places, bases_in_way, base_places}
 
 -- two lists of words have the same words at some places
 abbrev pub SameAt : List ℕ → List ℕ → List ℕ → Type 0
-SameAt places old new = (q : ℕ) → has places q ≡ true → word_at new q ≡ word_at old q
+SameAt places old new = (q : ℕ) → has places q ≡ true → word_at_place new q ≡ word_at_place old q
 
 or_first : (a b : Bool) → a ≡ true → (a || b) ≡ true
 or_first true b e = refl
@@ -36,7 +36,7 @@ pub has_right : (xs ys : List ℕ) (n : ℕ) → has ys n ≡ true → has (xs +
 has_right xs ys n h = has_append xs ys n ∙ or_second (has xs n) (has ys n) h
 
 -- sums over the same words are the same
-pub map_same : (places old new : List ℕ) → SameAt places old new → map (word_at new) places ≡ map (word_at old) places
+pub map_same : (places old new : List ℕ) → SameAt places old new → map (word_at_place new) places ≡ map (word_at_place old) places
 map_same [] old new same = refl
 map_same (q ∷ qs) old new same =
     let here = same q (has_first q qs) in
@@ -68,7 +68,7 @@ pub way_same : (d : Derived) (old new : List ℕ) → SameAt (path_places d) old
 way_same d old new same = ap (λ (n : ℕ). slice_get d.entry.ways n) (number_same d.first d.entry.path old new same)
 
 -- its bases come to the same where they have the same words
-pub bases_same : (d : Derived) (n : ℕ) (way : Bases) (old new : List ℕ) → slice_get d.entry.ways n ≡ Some way → SameAt (base_places d) old new → bases_at new d.first way ≡ bases_at old d.first way
+pub bases_same : (d : Derived) (n : ℕ) (way : Bases) (old new : List ℕ) → slice_get d.entry.ways n ≡ Some way → SameAt (base_places d) old new → bases_by_way new d.first way ≡ bases_by_way old d.first way
 bases_same d n way old new e same =
     let added : SameAt (places_from d.first way.added) old new = λ q h. same q (has_in_way d.first d.entry.ways n way q e (rw (places_append d.first way.added way.subtracted) (has_left (places_from d.first way.added) (places_from d.first way.subtracted) q h))) in
     let subtracted : SameAt (places_from d.first way.subtracted) old new = λ q h. same q (has_in_way d.first d.entry.ways n way q e (rw (places_append d.first way.added way.subtracted) (has_right (places_from d.first way.added) (places_from d.first way.subtracted) q h))) in

@@ -12,7 +12,7 @@ use Rattle.m3_threads.specs.All.{Everyone, base_of, words_of}
 use Rattle.m3_sections.specs.Parts.{Program}
 use Rattle.m3_sections.specs.Shapes.{shape_of}
 use Rattle.m3_frames.specs.declared.frame.Frame.{Frame}
-use Rattle.m3_roots.specs.ThreadWords.{word_at, Derived, way_at}
+use Rattle.m3_roots.specs.ThreadWords.{word_at_place, Derived, way_at}
 use Rattle.m3_roots.specs.RowMeaning.{AreFramesAt, tidy_places, derived_words}
 use Rattle.m3_roots.specs.RowLists.{ListsFit}
 use Rattle.m3_roots.specs.Moving.{MovesWords}
@@ -47,7 +47,7 @@ pub record AllFramed (p : Program) (all : Everyone) (walks : List (List Frame)) 
 
 -- the tidy words of a thread, of all threads, and of the globals
 abbrev pub tidy_words : Program → Everyone → Thread → List Frame → List ℕ
-tidy_words p all t frames = map (word_at (words_at all t)) (tidy_places p frames)
+tidy_words p all t frames = map (word_at_place (words_at all t)) (tidy_places p frames)
 
 abbrev pub all_tidy_words : Program → Everyone → List Thread → List (List Frame) → List ℕ
 all_tidy_words p all [] frames = []
@@ -55,7 +55,7 @@ all_tidy_words p all (t ∷ ts) [] = []
 all_tidy_words p all (t ∷ ts) (frames ∷ rest) = tidy_words p all t frames ++ all_tidy_words p all ts rest
 
 abbrev pub tidy_globals : Program → List ℕ → List ℕ
-tidy_globals p globals = map (word_at globals) p.globals.pointers
+tidy_globals p globals = map (word_at_place globals) p.globals.pointers
 
 -- all words that lead to cells: the starts of the cells that are kept unasked, and the tidy words
 abbrev pub roots_of : Program → Parts → List (List Frame) → List ℕ
@@ -77,7 +77,7 @@ pub record MovesThreads (p : Program) (moves : List Move) (walks : List (List Fr
 
 abbrev pub MovesGlobals : Program → List Move → List ℕ → List ℕ → Type 0
 MovesGlobals p moves old new =
-    (length new ≡ length old) × ((n : ℕ) → word_at new n ≡ (if has p.globals.pointers n then forwarded moves (word_at old n) else word_at old n))
+    (length new ≡ length old) × ((n : ℕ) → word_at_place new n ≡ (if has p.globals.pointers n then forwarded moves (word_at_place old n) else word_at_place old n))
 
 -- ---- the whole
 
@@ -105,7 +105,7 @@ pub record Collected (p : Program) (old new : Parts) : Type 0 where
 -- is no cell's start, or a path is past its ways
 pub data StopsThread (p : Program) (s : Parts) (t : Thread) (frames : List Frame) : Type 0 where
   lists : (ListsFit p frames → ⊥) → StopsThread p s t frames
-  tidy : (place : ℕ) → has (tidy_places p frames) place ≡ true → IsBadPointer s.heap.cells (word_at (words_at s.all t) place) → StopsThread p s t frames
+  tidy : (place : ℕ) → has (tidy_places p frames) place ≡ true → IsBadPointer s.heap.cells (word_at_place (words_at s.all t) place) → StopsThread p s t frames
   path : (d : Derived) → Contains (derived_words p frames) d → way_at (words_at s.all t) d ≡ None → StopsThread p s t frames
 
 -- A thread's frames aren't as frames are, or one of these holds of them; or a pointer among the globals, or of a cell
@@ -113,5 +113,5 @@ pub data StopsThread (p : Program) (s : Parts) (t : Thread) (frames : List Frame
 pub data StopsCollection (p : Program) (s : Parts) : Type 0 where
   frames : (t : Thread) → Contains s.all.threads t → ((frames : List Frame) → AreFrames p s.all t frames → ⊥) → StopsCollection p s
   thread : (t : Thread) (frames : List Frame) → Contains s.all.threads t → AreFrames p s.all t frames → StopsThread p s t frames → StopsCollection p s
-  global : (n : ℕ) → has p.globals.pointers n ≡ true → IsBadPointer s.heap.cells (word_at s.globals n) → StopsCollection p s
+  global : (n : ℕ) → has p.globals.pointers n ≡ true → IsBadPointer s.heap.cells (word_at_place s.globals n) → StopsCollection p s
   pointer : (walks : List (List Frame)) → AllFramed p s.all walks → HasBadPointer (shapes_of p) s.heap.cells (roots_of p s walks) → StopsCollection p s

@@ -23,8 +23,8 @@ pub record Marked : Type 0 where
   pub derived : List ℕ
   pub barred : List ℕ
 
-abbrev pub unmarked : Marked
-unmarked = record { listed = []; derived = []; barred = [] }
+abbrev pub nothing_marked : Marked
+nothing_marked = record { listed = []; derived = []; barred = [] }
 
 abbrev pub may_list : Marked → ℕ → Bool
 may_list s q = not (has s.listed q) && not (has s.barred q)

@@ -6,14 +6,14 @@ use Rattle.m3_tables.specs.Rows.{Bases}
 use Rattle.m3_heap.specs.Moves.{Move, forwarded}
 use Rattle.m3_sections.specs.Parts.{Program}
 use Rattle.m3_frames.specs.declared.frame.Frame.{Frame}
-use Rattle.m3_roots.specs.ThreadWords.{word_at, Derived, place_of, way_at, bases_at}
+use Rattle.m3_roots.specs.ThreadWords.{word_at_place, Derived, place_of, way_at, bases_by_way}
 use Rattle.m3_roots.specs.RowMeaning.{tidy_places, derived_words}
 
 -- Tidy words follow their cells, each derived word grows by as much as its bases grow, modulo 2 ^ 64, and every other
 -- word stays. A cell that is kept unasked stays where it is, and so do the words that refer to it.
 pub record MovesWords (p : Program) (moves : List Move) (frames : List Frame) (old new : List ℕ) : Type 0 where
   pub count : length new ≡ length old
-  pub tidy : (place : ℕ) → has (tidy_places p frames) place ≡ true → word_at new place ≡ forwarded moves (word_at old place)
+  pub tidy : (place : ℕ) → has (tidy_places p frames) place ≡ true → word_at_place new place ≡ forwarded moves (word_at_place old place)
   pub derived : (d : Derived) (way : Bases) → Contains (derived_words p frames) d → way_at old d ≡ Some way
-      → word_at new (place_of d) ≡ add_words (word_at old (place_of d)) (sub_words (bases_at new d.first way) (bases_at old d.first way))
-  pub others : (place : ℕ) → has (tidy_places p frames) place ≡ false → has (map place_of (derived_words p frames)) place ≡ false → word_at new place ≡ word_at old place
+      → word_at_place new (place_of d) ≡ add_words (word_at_place old (place_of d)) (sub_words (bases_by_way new d.first way) (bases_by_way old d.first way))
+  pub others : (place : ℕ) → has (tidy_places p frames) place ≡ false → has (map place_of (derived_words p frames)) place ≡ false → word_at_place new place ≡ word_at_place old place

@@ -7,7 +7,7 @@ use Rattle.m3_threads.specs.declared.status.Thread.{Thread}
 use Rattle.m3_threads.specs.All.{Everyone}
 use Rattle.m3_sections.specs.Parts.{Program}
 use Rattle.m3_frames.specs.declared.frame.Frame.{Frame}
-use Rattle.m3_roots.specs.ThreadWords.{word_at, places_from, Derived, place_of, way_at}
+use Rattle.m3_roots.specs.ThreadWords.{word_at_place, places_from, Derived, place_of, way_at}
 use Rattle.m3_roots.specs.RowMeaning.{derived_words}
 use Rattle.m3_roots.specs.Collected.{words_at, AreFrames}
 
@@ -20,13 +20,13 @@ bases_by value first (Some way) =
 -- the word at a place; but a derived word is replaced by its own bases, and so are those of its bases that are derived
 -- words themselves, which come later in the list
 abbrev pub replaced : List ℕ → List Derived → ℕ → ℕ
-replaced words [] place = word_at words place
+replaced words [] place = word_at_place words place
 replaced words (d ∷ ds) place =
     if place_of d == place then bases_by (replaced words ds) d.first (way_at words d) else replaced words ds place
 
 -- a derived word less its bases, where each of them that is a derived word itself is replaced by its own bases
 abbrev pub offset_at : List ℕ → List Derived → Derived → ℕ
-offset_at words ds d = sub_words (word_at words (place_of d)) (replaced words ds (place_of d))
+offset_at words ds d = sub_words (word_at_place words (place_of d)) (replaced words ds (place_of d))
 
 -- each derived word is as far from its bases as before
 abbrev pub KeepsOffsets : List Derived → List ℕ → List ℕ → Type 0

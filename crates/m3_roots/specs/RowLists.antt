@@ -5,22 +5,22 @@ use Rattle.m3_tables.specs.Numbers.{has, is_once}
 use Rattle.m3_sections.specs.Parts.{Program}
 use Rattle.m3_frames.specs.declared.frame.Frame.{Frame}
 use Rattle.m3_roots.specs.ThreadWords.{place_from, place_of, path_places, base_places}
-use Rattle.m3_roots.specs.RowMeaning.{tidy_in, newest_arguments, derived_in}
+use Rattle.m3_roots.specs.RowMeaning.{tidy_of_frame, newest_arguments, derived_of_frame}
 
 abbrev pub derived_places : Program → Frame → List ℕ
-derived_places p f = map place_of (derived_in p f)
+derived_places p f = map place_of (derived_of_frame p f)
 
 -- the places that the rows list: the arguments of the newest frame, and the tidy words and the derived words of each
 abbrev pub listed_below : Program → List Frame → List ℕ
 listed_below p [] = []
-listed_below p (f ∷ fs) = tidy_in p f ++ (derived_places p f ++ listed_below p fs)
+listed_below p (f ∷ fs) = tidy_of_frame p f ++ (derived_places p f ++ listed_below p fs)
 
 abbrev pub listed_places : Program → List Frame → List ℕ
 listed_places p frames = newest_arguments p frames ++ listed_below p frames
 
 -- the places that no row may list: the first two words of each frame, which lead to the frame below it, and the paths
 abbrev pub barred_in : Program → Frame → List ℕ
-barred_in p f = place_from f.first 16 ∷ place_from f.first 17 ∷ flat_map path_places (derived_in p f)
+barred_in p f = place_from f.first 16 ∷ place_from f.first 17 ∷ flat_map path_places (derived_of_frame p f)
 
 abbrev pub barred_places : Program → List Frame → List ℕ
 barred_places p [] = []
@@ -28,7 +28,7 @@ barred_places p (f ∷ fs) = barred_in p f ++ barred_places p fs
 
 -- the bases of every way of every derived word of a frame
 abbrev pub bases_in : Program → Frame → List ℕ
-bases_in p f = flat_map base_places (derived_in p f)
+bases_in p f = flat_map base_places (derived_of_frame p f)
 
 -- no base of a frame is a derived word of a newer one. The newer ones' derived words have these places
 abbrev pub BasesArePlain : Program → List ℕ → List Frame → Type 0

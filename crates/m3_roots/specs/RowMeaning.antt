@@ -29,20 +29,20 @@ HaveRows p frames = AllByRecursion (λ f. f.row < word_in p.tables) frames
 -- ---- tidy words
 
 -- the places of the tidy words of a frame, and of the arguments by value of the call that it stands at
-abbrev pub tidy_in : Program → Frame → List ℕ
-tidy_in p f = places_from f.first (tidy_list p.tables f.row)
+abbrev pub tidy_of_frame : Program → Frame → List ℕ
+tidy_of_frame p f = places_from f.first (tidy_list p.tables f.row)
 
-abbrev pub arguments_in : Program → Frame → List ℕ
-arguments_in p f = places_from f.first (contents_in p.tables f.row).arguments
+abbrev pub arguments_of_frame : Program → Frame → List ℕ
+arguments_of_frame p f = places_from f.first (contents_in p.tables f.row).arguments
 
 abbrev pub tidy_below : Program → List Frame → List ℕ
 tidy_below p [] = []
-tidy_below p (f ∷ fs) = tidy_in p f ++ tidy_below p fs
+tidy_below p (f ∷ fs) = tidy_of_frame p f ++ tidy_below p fs
 
 -- those of the newest frame: the arguments count in no older one, where they are words of the frame that was called
 abbrev pub newest_arguments : Program → List Frame → List ℕ
 newest_arguments p [] = []
-newest_arguments p (newest ∷ below) = arguments_in p newest
+newest_arguments p (newest ∷ below) = arguments_of_frame p newest
 
 -- the places of all tidy words
 abbrev pub tidy_places : Program → List Frame → List ℕ
@@ -51,9 +51,9 @@ tidy_places p frames = newest_arguments p frames ++ tidy_below p frames
 -- ---- derived words
 
 -- the derived words of a frame, and of several, in the order of the frames and of the entries of each
-abbrev pub derived_in : Program → Frame → List Derived
-derived_in p f = derived_from f.first (contents_in p.tables f.row).derived
+abbrev pub derived_of_frame : Program → Frame → List Derived
+derived_of_frame p f = derived_from f.first (contents_in p.tables f.row).derived
 
 abbrev pub derived_words : Program → List Frame → List Derived
 derived_words p [] = []
-derived_words p (f ∷ fs) = derived_in p f ++ derived_words p fs
+derived_words p (f ∷ fs) = derived_of_frame p f ++ derived_words p fs

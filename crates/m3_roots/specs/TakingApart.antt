@@ -3,12 +3,12 @@ use Rattle.std.specs.Prelude.{ℕ, List, [], ◌∷◌, Option, None, Some, slic
 use Rattle.std.specs.Option.{option_and_then}
 use Rattle.m3_base.specs.Words.{add_words, sub_words}
 use Rattle.m3_tables.specs.Rows.{Bases}
-use Rattle.m3_roots.specs.ThreadWords.{word_at, Derived, place_of, way_at, bases_at}
+use Rattle.m3_roots.specs.ThreadWords.{word_at_place, Derived, place_of, way_at, bases_by_way}
 
 -- the bases of a derived word are subtracted from it, by the way that it takes
 abbrev pub apart_by : List ℕ → Derived → Option Bases → Option (List ℕ)
 apart_by words d None = None
-apart_by words d (Some way) = Some (slice_set words (place_of d) (sub_words (word_at words (place_of d)) (bases_at words d.first way)))
+apart_by words d (Some way) = Some (slice_set words (place_of d) (sub_words (word_at_place words (place_of d)) (bases_by_way words d.first way)))
 
 abbrev pub apart_at : Derived → List ℕ → Option (List ℕ)
 apart_at d words = apart_by words d (way_at words d)
@@ -21,7 +21,7 @@ apart (d ∷ ds) words = option_and_then (apart ds) (apart_at d words)
 -- the bases of a derived word are added to it
 abbrev pub together_by : List ℕ → Derived → Option Bases → Option (List ℕ)
 together_by words d None = None
-together_by words d (Some way) = Some (slice_set words (place_of d) (add_words (word_at words (place_of d)) (bases_at words d.first way)))
+together_by words d (Some way) = Some (slice_set words (place_of d) (add_words (word_at_place words (place_of d)) (bases_by_way words d.first way)))
 
 abbrev pub together_at : Derived → List ℕ → Option (List ℕ)
 together_at d words = together_by words d (way_at words d)

@@ -6,8 +6,8 @@ use Rattle.m3_tables.specs.Rows.{Bases, Entry}
 
 -- the word at a place, and 0 where there is none. The words of a thread have places: 0 to 15 are its registers, and
 -- from 16 on come the words of its stack
-abbrev pub word_at : List ℕ → ℕ → ℕ
-word_at words place = slice_index_or words place 0
+abbrev pub word_at_place : List ℕ → ℕ → ℕ
+word_at_place words place = slice_index_or words place 0
 
 -- the place that a number of a row stands for in a frame that begins at a word of the stack: 0 to 15 are the
 -- registers, and 16 is the frame's first word
@@ -34,7 +34,7 @@ derived_from first entries = map (derived_at first) entries
 -- the number of the way that an entry takes: that in its path's word, and 0 without a path
 abbrev pub way_number : List ℕ → ℕ → Option ℕ → ℕ
 way_number words first None = 0
-way_number words first (Some path) = word_at words (place_from first path)
+way_number words first (Some path) = word_at_place words (place_from first path)
 
 -- the way, and none where the number is past the ways
 abbrev pub way_at : List ℕ → Derived → Option Bases
@@ -42,11 +42,11 @@ way_at words d = slice_get d.entry.ways (way_number words d.first d.entry.path)
 
 -- the sum of the words at some places, modulo 2 ^ 64
 abbrev pub sum_at : List ℕ → List ℕ → ℕ
-sum_at words places = sum (map (word_at words) places) % 2 ^ 64
+sum_at words places = sum (map (word_at_place words) places) % 2 ^ 64
 
 -- what the bases of a way come to: the sum of those added, less the sum of those subtracted
-abbrev pub bases_at : List ℕ → ℕ → Bases → ℕ
-bases_at words first way =
+abbrev pub bases_by_way : List ℕ → ℕ → Bases → ℕ
+bases_by_way words first way =
     sub_words (sum_at words (places_from first way.added)) (sum_at words (places_from first way.subtracted))
 
 -- the places of its path, and of the bases of all its ways

@@ -5,7 +5,7 @@ use Rattle.m3_heap.specs.Cells.{Cell}
 use Rattle.m3_heap.specs.Moves.{Move, forwarded, with_kept}
 use Rattle.m3_heap.specs.Reach.{IsBadPointer}
 use Rattle.m3_heap.specs.Heap.{Heap}
-use Rattle.m3_roots.specs.ThreadWords.{word_at}
+use Rattle.m3_roots.specs.ThreadWords.{word_at_place}
 
 -- a word is no bad pointer, its cell is kept, and it goes there
 pub record Visits (cells : List Cell) (word : ℕ) (old : List Move) (to : ℕ) (new : List Move) : Type 0 where
@@ -17,13 +17,13 @@ pub record Visits (cells : List Cell) (word : ℕ) (old : List Move) (to : ℕ) 
 abbrev pub VisitsAll : List Cell → List ℕ → List ℕ → List Move → List ℕ → List Move → Type 0
 VisitsAll cells [] words moves new_words new_moves = (new_words ≡ words) × (new_moves ≡ moves)
 VisitsAll cells (q ∷ qs) words moves new_words new_moves =
-    (to : ℕ) × (next : List Move) × Visits cells (word_at words q) moves to next × VisitsAll cells qs (slice_set words q to) next new_words new_moves
+    (to : ℕ) × (next : List Move) × Visits cells (word_at_place words q) moves to next × VisitsAll cells qs (slice_set words q to) next new_words new_moves
 
 -- or the first that is a bad pointer stops it
 abbrev pub StopsVisit : List Cell → List ℕ → List ℕ → List Move → Type 0
 StopsVisit cells [] words moves = ⊥
 StopsVisit cells (q ∷ qs) words moves =
-    IsBadPointer cells (word_at words q) ⊎ ((to : ℕ) × (next : List Move) × Visits cells (word_at words q) moves to next × StopsVisit cells qs (slice_set words q to) next)
+    IsBadPointer cells (word_at_place words q) ⊎ ((to : ℕ) × (next : List Move) × Visits cells (word_at_place words q) moves to next × StopsVisit cells qs (slice_set words q to) next)
 
 -- nothing of a heap but its forwarding list is another
 abbrev pub KeepsHeap : Heap → Heap → Type 0

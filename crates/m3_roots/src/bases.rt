@@ -4,7 +4,7 @@ ghost use Rattle.std.specs.Bool.{MatchBool};
 ghost use Rattle.std.specs.Option.{option_map};
 ghost use Rattle.m3_tables.specs.Views.{numbers_of, bases_of, entry_of};
 ghost use Rattle.m3_tables.specs.Tables.{derived_in};
-ghost use Rattle.m3_roots.specs.ThreadWords.{places_from, derived_at, derived_from, way_at, sum_at, bases_at};
+ghost use Rattle.m3_roots.specs.ThreadWords.{places_from, derived_at, derived_from, way_at, sum_at, bases_by_way};
 ghost use Rattle.m3_roots.specs.TakingApart.{apart_at, apart, together_at, together};
 
 use crate::places::{set_word, word_at};
@@ -61,7 +61,7 @@ fn bases_of<L: Ledger>(
     entry: &Derivation<'_>,
     steps: &mut Steps<L>,
 ) -> Option<u64>
-    ensures { result ≡ option_map (bases_at (r.now ++ stack.now) first) (way_at (r.now ++ stack.now) (derived_at first (entry_of entry.now))) }
+    ensures { result ≡ option_map (bases_by_way (r.now ++ stack.now) first) (way_at (r.now ++ stack.now) (derived_at first (entry_of entry.now))) }
 {
     let way = way_of(r, stack, first, entry)?;
     let added = sum_of(r, stack, first, way.added, steps);

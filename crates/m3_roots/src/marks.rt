@@ -2,7 +2,7 @@
 ghost use Rattle.std.specs.Prelude.{◌≡◌, ◌<◌, ◌≤◌, ◌∷◌, [], ℕ, length, Some};
 ghost use Rattle.std.specs.List.{slice_get};
 ghost use Rattle.m3_roots.specs.ThreadWords.{place_from};
-ghost use Rattle.m3_roots.specs.Marking.{Lists, Derives, Bars, Uses, MarksAll, mark_of, unmarked};
+ghost use Rattle.m3_roots.specs.Marking.{Lists, Derives, Bars, Uses, MarksAll, mark_of, nothing_marked};
 
 use crate::places::place_before;
 
@@ -24,7 +24,7 @@ pub(crate) const BLANK: Mark = Mark {
 /// Clears the marks before an end.
 pub(crate) fn clear(marks: &mut [Mark], end: usize)
     requires { end ≤ length marks.old }
-    ensures cleared { (q : ℕ) → q < end → slice_get marks.new q ≡ Some (mark_of unmarked q) }
+    ensures cleared { (q : ℕ) → q < end → slice_get marks.new q ≡ Some (mark_of nothing_marked q) }
     ensures length { length marks.new ≡ length marks.old }
 {
     for place in 0..end {

@@ -1,6 +1,6 @@
 //! The words of a thread by their places: the registers are 0 to 15, and 16 and more are the words of its stack.
 ghost use Rattle.std.specs.Prelude.{◌≡◌, ◌++◌, nat_lt, if◌then◌else◌, Some, None, slice_set};
-ghost use Rattle.m3_roots.specs.ThreadWords.{word_at, place_from};
+ghost use Rattle.m3_roots.specs.ThreadWords.{word_at_place, place_from};
 
 /// The place that a row's number stands for in a frame that begins at a word of the stack. None exactly where it
 /// isn't before an end.
@@ -22,7 +22,7 @@ pub fn place_before(end: usize, first: usize, number: u32) -> Option<usize>
 /// The word that a row's number stands for, and 0 past the last.
 #[inline]
 pub fn word_at(r: &[u64; 16], stack: &[u64], first: usize, number: u32) -> u64
-    ensures { result ≡ word_at (r.now ++ stack.now) (place_from first number) }
+    ensures { result ≡ word_at_place (r.now ++ stack.now) (place_from first number) }
 {
     match place_before(stack.len() + 16, first, number) {
         Some(place) if place < 16 => r[place],

@@ -1,10 +1,10 @@
 //! The tidy words, visited.
 ghost use Rattle.std.specs.Prelude.{◌≡◌, ◌<◌, ◌++◌, ◌∷◌, [], true, List, length, slice_set};
-ghost use Rattle.m3_roots.specs.ThreadWords.{word_at};
+ghost use Rattle.m3_roots.specs.ThreadWords.{word_at_place};
 ghost use Rattle.m3_tables.specs.Numbers.{word_in};
 ghost use Rattle.m3_heap.specs.Shapes.{Shape};
 ghost use Rattle.m3_decoded.specs.Ready.{image_of};
-ghost use Rattle.m3_roots.specs.RowMeaning.{HaveRows, tidy_in, tidy_below, newest_arguments, tidy_places};
+ghost use Rattle.m3_roots.specs.RowMeaning.{HaveRows, tidy_of_frame, tidy_below, newest_arguments, tidy_places};
 ghost use Rattle.m3_roots.specs.Visiting.{VisitEnds, KeepsHeap};
 
 use crate::visits::{visit_list, visit_numbers};
@@ -25,7 +25,7 @@ fn visit_frame<S: Store, L: Ledger>(
 ) -> bool
     requires open { (S.heap store.old).is_open ≡ true }
     ensures visited { frame.now.row < word_in (image_of image.now).program.tables
-        → VisitEnds result (S.heap store.old) (tidy_in (image_of image.now).program frame.now) (r.old ++ stack.old) (r.new ++ stack.new) (S.heap store.new) }
+        → VisitEnds result (S.heap store.old) (tidy_of_frame (image_of image.now).program frame.now) (r.old ++ stack.old) (r.new ++ stack.new) (S.heap store.new) }
     ensures heap { KeepsHeap (S.heap store.old) (S.heap store.new) }
     ensures fitting { (shapes : List Shape) → S.fits store.old shapes → S.fits store.new shapes }
 {
@@ -104,7 +104,7 @@ pub fn visit_frames<S: Store, L: Ledger>(
 
 /// The word of a number among the globals, and 0 past the last.
 fn global_at(globals: &[u64], n: usize) -> u64
-    ensures { result ≡ word_at globals.now n }
+    ensures { result ≡ word_at_place globals.now n }
 {
     if n < globals.len() { globals[n] } else { 0 }
 }

@@ -1,6 +1,5 @@
 use crate::predeclared::Predeclared;
 use m3_base::Pos;
-use m3_syntax::Decl;
 
 /// What a name stands for, by its place in the program's list.
 #[derive(Clone, Copy, Debug, PartialEq, Eq, PartialOrd, Ord, Hash)]
@@ -15,11 +14,11 @@ pub struct Entity<'a> {
     /// The place of its name where it is declared.
     pub pos: Pos,
     pub kind: EntityKind,
-    /// The declaration that it stands in, and its place in the row that the declaration's word
-    /// begins: for a formal the procedure's, and the place of its group among the formals. None for a
-    /// name that an import or a statement makes.
-    pub declaration: Option<&'a Decl<'a>>,
-    pub place: u32,
+    /// What declares it, by its place in the program's list. None for a name that an import or a
+    /// statement makes.
+    pub declaration: Option<u32>,
+    /// Whether it is a procedure that is declared with a body.
+    pub has_body: bool,
     /// The procedure around it; none at the outermost scope of a unit.
     pub procedure: Option<EntityId>,
     /// Whether the outermost scope of its unit declares it.

@@ -2,14 +2,16 @@
 //! linking finds out about the units of a program (the report, sections 2.4 and 2.5).
 #![tactic(auto)]
 
+mod declarations;
 mod entities;
 mod linker;
 mod predeclared;
 mod program;
 mod scopes;
 
+pub use declarations::Declaration;
 pub use entities::{Entity, EntityId, EntityKind};
 pub use linker::Linker;
 pub use predeclared::{Predeclared, predeclared_names};
-pub use program::{Binds, Program, Revealed, UnitInfo};
+pub use program::{Binds, Linked, Program, Revealed, UnitInfo};
 pub use scopes::{Scopes, Visible};

@@ -1,10 +1,11 @@
+use crate::declarations::Declaration;
 use crate::entities::{Entity, EntityId, EntityKind};
 use crate::predeclared::{Predeclared, predeclared_names};
 use crate::program::{Binds, Revealed, UnitInfo};
 use crate::scopes::{Scopes, Visible};
 use indexmap::{IndexMap, IndexSet};
-use m3_base::{Least, NoMemory, Pos, Refusal};
-use m3_syntax::{Name, Qualid, Unit};
+use m3_base::{Least, NoMemory, Pos, Refusal, place_number};
+use m3_syntax::{Name, Qualid};
 use std::alloc::Global;
 
 const PHASE: u8 = 4;
@@ -13,8 +14,8 @@ const PHASE: u8 = 4;
 #[derive(Drop)]
 pub struct Linker<'a> {
     /// The units, the given ones first and then the built-in ones.
-    pub units: Vec<Unit<'a>>,
-    pub infos: Vec<UnitInfo>,
+    pub infos: Vec<UnitInfo<'a>>,
+    pub declarations: Vec<Declaration<'a>>,
     pub binds: Binds<'a>,
     pub reveals: Vec<Revealed>,
     pub scopes: Scopes<'a>,
@@ -30,10 +31,10 @@ pub struct Linker<'a> {
 }
 
 impl<'a> Linker<'a> {
-    pub fn new(alloc: Global, units: Vec<Unit<'a>>) -> Linker<'a> {
+    pub fn new(alloc: Global) -> Linker<'a> {
         Linker {
-            units,
             infos: Vec::new(alloc),
+            declarations: Vec::new(alloc),
             binds: Binds::new(alloc),
             reveals: Vec::new(alloc),
             scopes: Scopes::new(alloc),
@@ -68,12 +69,19 @@ impl<'a> Linker<'a> {
             pos: name.pos,
             kind,
             declaration: None,
-            place: 0,
+            has_body: false,
             procedure: self.procedure,
             is_outermost: false,
             body: None,
             revealed: None,
         }
+    }
+
+    /// Keeps a declaration, and gives its place in the list.
+    pub fn keep(&mut self, declaration: Declaration<'a>) -> Result<u32, NoMemory> {
+        let place = place_number(self.declarations.len())?;
+        self.declarations.push(declaration)?;
+        Ok(place)
     }
 
     /// Gives the predeclared names their meaning, in a scope around all others.

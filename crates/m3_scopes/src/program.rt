@@ -1,15 +1,25 @@
+use crate::declarations::Declaration;
 use crate::entities::{Entity, EntityId, EntityKind};
 use indexmap::IndexMap;
 use m3_base::{NoMemory, Pos, place_number};
-use m3_syntax::{Decl, Revelation, Unit};
+use m3_syntax::{Name, Unit};
 use std::alloc::Global;
 
-/// A linked program: the given units and behind them the built-in interfaces, the modules in the order
-/// in which their bodies run, and what its names stand for.
+/// A linked program with its text: the given units and behind them the built-in interfaces, what
+/// declares their entities, and what linking found out.
+#[derive(Drop)]
+pub struct Linked<'a> {
+    pub units: Vec<Unit<'a>>,
+    pub declarations: Vec<Declaration<'a>>,
+    pub program: Program<'a>,
+}
+
+/// What linking found out about a program: its units, the modules in the order in which their
+/// bodies run, and what its names stand for. No tree stands in it, so what takes it is cheap to
+/// prove.
 #[derive(Drop)]
 pub struct Program<'a> {
-    pub units: Vec<Unit<'a>>,
-    pub infos: Vec<UnitInfo>,
+    pub infos: Vec<UnitInfo<'a>>,
     pub order: Vec<u32>,
     pub binds: Binds<'a>,
     pub reveals: Vec<Revealed>,
@@ -17,7 +27,8 @@ pub struct Program<'a> {
 
 /// What is known of a unit beside its text.
 #[derive(Drop)]
-pub struct UnitInfo {
+pub struct UnitInfo<'a> {
+    pub name: Name<'a>,
     /// The number of its file in refusals.
     pub number: u32,
     pub is_interface: bool,
@@ -29,27 +40,15 @@ pub struct UnitInfo {
     pub own: (u32, u32),
 }
 
-/// A revelation of an opaque type: the unit that contains it, the place of the declaration that
-/// contains it among that unit's and its place in that row, and the opaque type.
+/// A revelation of an opaque type: the unit that contains it, its place in the program's list of
+/// declarations, and the opaque type.
 #[derive(Clone, Copy, Debug)]
 pub struct Revealed {
     pub unit: u32,
     pub declaration: u32,
-    pub place: u32,
     pub opaque: EntityId,
     pub is_partial: bool,
     pub pos: Pos,
-}
-
-impl Revealed {
-    /// The revelation as it is written.
-    pub fn written<'a>(&self, units: &[Unit<'a>]) -> Option<&'a Revelation<'a>> {
-        let unit = units.get(self.unit as usize)?;
-        match unit.declarations().get(self.declaration as usize)? {
-            Decl::Reveal { reveals, .. } => reveals.get(self.place as usize),
-            _ => None,
-        }
-    }
 }
 
 /// What the names of a program stand for.

@@ -210,10 +210,7 @@ fn attempt<'a>(declarer: &mut Declarer<'_, 'a>, need: Need) -> Result<bool, NoMe
 /// Keeps what a task noted.
 fn keep_notes<'a>(declarer: &mut Declarer<'_, 'a>) -> Result<(), NoMemory> {
     note_reasons(declarer);
-    keep_all(
-        declarer.doubts.as_slice(),
-        &mut declarer.eval.declared.doubtful,
-    )?;
+    keep_all(declarer.doubts.as_slice(), &mut declarer.doubtful)?;
     keep_all(declarer.assumed.as_slice(), &mut declarer.promises)?;
     keep_all(declarer.new_brands.as_slice(), &mut declarer.brands)?;
     keep_all(declarer.new_values.as_slice(), &mut declarer.values)

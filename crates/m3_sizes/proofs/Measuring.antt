@@ -10,7 +10,7 @@ use Rattle.m3_types.specs.declared.nodes.TypeNode.{TypeNode}
 use Rattle.m3_types.specs.declared.nodes.TypeNode.TheVariants.{Reserved, Integer, Boolean, Character, Enumeration, Subrange, FixedArray, OpenArray, Fields, SetOf, RefTo, Object, Procedure, Opaque, Null, RefAny, Text, Mutex, Root, Constant}
 use Rattle.m3_types.specs.Definitions.{node_at, head_at}
 use Rattle.m3_types.specs.Kinds.{size_of}
-use Rattle.m3_sizes.specs.Sizes.{most_words, field_words, words_of_node, words_to_depth, EachField, EachPart, HasParts, IsSized, known_at, Known, known_words, IsRight, AreSized, having, HasSize, IsLow, IsFull, CanBeTold, IsTold}
+use Rattle.m3_sizes.specs.Sizes.{most_words, field_words, words_of_node, words_to_depth, EachField, EachPart, HasParts, IsSized, known_at, Known, known_words, IsRight, AreSized, having, HasSize, AreWords, IsLow, IsFull, CanBeTold, IsTold}
 
 each_field : (P Q : ℕ → Type 0) → ((j : ℕ) → P j → Q j) → (fs : List Field) → EachField P fs → EachField Q fs
 each_field P Q h [] p = tt
@@ -242,6 +242,16 @@ module _ (nodes : List TypeNode) where
   pub sized_if : (table : List (Option ℕ)) (i : ℕ) (b : Bool) (o : Option ℕ) → o ≡ known_at table i → b ≡ is_some o → AreSized nodes table → IsFull nodes table → (IsTrue b → HasSize nodes i) × (HasSize nodes i → IsTrue b)
   sized_if table i b o e f sound full =
       (λ t. sound_size table i (known_words table i) sound (known_some (known_at table i) (ap is_some (sym e) ∙ sym f ∙ t)), λ h. f ∙ ap is_some e ∙ full_known table i full h)
+
+  -- the words in the table are those of the type, by the depth that the table has room for
+  are_words : (table : List (Option ℕ)) (i w : ℕ) → IsRight nodes table → AreSized nodes table → known_at table i ≡ Some w → AreWords nodes i w
+  are_words table i w right sound k =
+      ∥∥₁_elim (sound i w k) ∥∥₁_prop (λ s. ∣ (having table, (s, right i (having table) w k s)) ∣₁)
+
+  -- what a full table has for a type that has a size
+  pub words_known : (table : List (Option ℕ)) (i : ℕ) (o : Option ℕ) → o ≡ known_at table i → IsRight nodes table → AreSized nodes table → IsFull nodes table → HasSize nodes i → AreWords nodes i (unwrap_or o 0)
+  words_known table i o e right sound full h =
+      are_words table i (unwrap_or o 0) right sound (known_some (known_at table i) (full_known table i full h) ∙ ap (λ k. Some (unwrap_or k 0)) (sym e))
 
   fields_prop : (P : ℕ → Type 0) → ((j : ℕ) → IsProp (P j)) → (fs : List Field) → IsProp (EachField P fs)
   fields_prop P h [] = Unit-prop

@@ -62,6 +62,10 @@ abbrev pub IsSized : List TypeNode → ℕ → ℕ → Type 0
 IsSized nodes zero i = ⊥
 IsSized nodes (suc depth) i = HasParts (IsSized nodes depth) (node_at nodes i) × (words_to_depth nodes (suc depth) i ≤ most_words)
 
+-- The words of a value of the type are w, however deep its parts are nested.
+abbrev pub AreWords : List TypeNode → ℕ → ℕ → Type 0
+AreWords nodes i w = ∥ ((depth : ℕ) × (IsSized nodes depth i × (w ≡ words_to_depth nodes depth i))) ∥₁
+
 -- A value of the type has a size, however deep its parts are nested.
 abbrev pub HasSize : List TypeNode → ℕ → Type 0
 HasSize nodes i = ∥ ((depth : ℕ) × IsSized nodes depth i) ∥₁

@@ -1,5 +1,5 @@
-ghost use Rattle.std.specs.Prelude.{◌≡◌, ◌↔◌, ℕ, length, IfOk, IsTrue};
-ghost use Rattle.m3_sizes.specs.Sizes.{IsRight, AreSized, IsFull, IsShallow, IsSized, HasSize, words_to_depth};
+ghost use Rattle.std.specs.Prelude.{◌≡◌, ◌↔◌, length, IfOk, IsTrue};
+ghost use Rattle.m3_sizes.specs.Sizes.{IsRight, AreSized, IsFull, IsShallow, IsSized, HasSize, AreWords};
 
 use crate::words::{known, table_of_words};
 use m3_base::NoMemory;
@@ -40,7 +40,7 @@ impl<'a> SizedTypes<'a> {
     /// of a set's base and at least a word, and for a record or fixed array the sum of its parts.
     pub fn words_of(&self, t: TypeId) -> u64
         requires { HasSize self.now.graph.nodes.items t.0 }
-        ensures words { (depth : ℕ) → IsSized self.now.graph.nodes.items depth t.0 → result ≡ words_to_depth self.now.graph.nodes.items depth t.0 }
+        ensures words { AreWords self.now.graph.nodes.items t.0 result }
         // a type that doesn't contain itself is nested less deep than there are types
         ensures shallow { IsSized self.now.graph.nodes.items (length self.now.graph.nodes.items) t.0 }
     {

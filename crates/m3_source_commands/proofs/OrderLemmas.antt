@@ -8,14 +8,16 @@ use Rattle.m3_ports.specs.Counts.{Rose}
 use Rattle.m3_ports.specs.Files.{Files, LeavesFront}
 use Rattle.m3_ports.specs.declared.shelves.ShelfFault.{ShelfFault}
 use Rattle.m3_ports.specs.declared.shelves.ShelfFault.TheVariants.{Absent, TooLong, Failed, NoMemory}
-use Rattle.m3_base.specs.Schedules.{IsFirstBadLine, HasTooMany, lines_of}
+use Rattle.m3_base.specs.Schedules.{IsSchedule, IsFirstBadLine, HasTooMany, lines_of}
+use Rattle.m3_base.specs.declared.outcomes.Entry.{Entry}
+use Rattle.m3_image_commands.specs.Reports.{Setting}
 use Rattle.m3_image.specs.Images.{read_of}
 use Rattle.m3_image_commands.specs.declared.answers.Answer.{Answer}
 use Rattle.m3_image_commands.specs.declared.answers.Refusal.{Refusal}
 use Rattle.m3_image_commands.specs.Statuses.{Shelving, Putting, StoresNothing, StoresFront, PutsNothing, RefusesBy, Fetches, IsGiven, LacksMemory, LacksOutput}
 use Rattle.m3_image_commands.proofs.FetchLemmas.{Follows, Rises, joined}
-use Rattle.m3_image_commands.specs.ImageCommands.{ImageAnswer, image_refused, ended, RunsImage, IsNoSchedule}
-use Rattle.m3_source_commands.specs.Orders.{Order, CarriesOut}
+use Rattle.m3_image_commands.specs.ImageCommands.{ImageAnswer, image_refused, ended, RunsImage, IsNoSchedule, by_schedule, on_input}
+use Rattle.m3_source_commands.specs.Orders.{Order, Fulfils}
 use Rattle.m3_source_commands.specs.SourceCommands.{OfFiles, RefusesSources, Stores, BuildAnswer, not_built, stored, Builds, ExecAnswer, not_run, no_schedule, run_ended, ExecsTexts, OfExec, Execs}
 
 pub never_both : {A E : Type 0} (r : Result A E) → IsOk r → IsErr r → ⊥
@@ -96,50 +98,68 @@ module _ (shelf : Shelving) (name : List ℕ) (files : List (List ℕ)) (image :
 
 -- ---- exec
 
-module _ (image switches : List ℕ) (tells : Bool) (out : Putting) where
-  pub execs_refused : (result : Result Answer Refusal) → RefusesSources switches result → PutsNothing out → ExecsTexts image switches tells out result
-  execs_refused (Ok a) (inl one) p = subst (λ x. ExecAnswer image switches tells out x a.line.items) (sym one) (not_run a.line.items p)
+module _ (image switches : List ℕ) (MayRunBy : List Entry → Type 0) (setting : Setting) (tells : Bool) (out : Putting) where
+  pub execs_refused : (result : Result Answer Refusal) → RefusesSources switches result → PutsNothing out → ExecsTexts image switches MayRunBy setting tells out result
+  execs_refused (Ok a) (inl one) p = subst (λ x. ExecAnswer image switches MayRunBy setting tells out x a.line.items) (sym one) (not_run a.line.items p)
   execs_refused (Ok a) (inr nine) p = no_schedule a.status a.line.items (nine.0, nine.1, p)
   execs_refused (Err r) h p = inl (h, p)
 
-  answer_ran : (status : ℕ) (line : List ℕ) → IsOk (read_of image) → ImageAnswer image tells out status line → ExecAnswer image switches tells out status line
-  answer_ran status line ok (image_refused l e p) = absurd (never_both (read_of image) ok e)
-  answer_ran status line ok (ended i s l e r) = run_ended i s l e r
+  module _ (schedule : List Entry) (may : MayRunBy schedule) where
+    answer_ran : (status : ℕ) (line : List ℕ) → IsOk (read_of image) → ImageAnswer image (by_schedule setting schedule) tells out status line → ExecAnswer image switches MayRunBy setting tells out status line
+    answer_ran status line ok (image_refused l e p) = absurd (never_both (read_of image) ok e)
+    answer_ran status line ok (ended i s l e r) = run_ended i schedule s l e may r
 
-  runs_answer : (result : Result Answer Refusal) → IsOk (read_of image) → RunsImage image tells out result → ExecsTexts image switches tells out result
-  runs_answer (Ok a) ok h = answer_ran a.status a.line.items ok h
-  runs_answer (Err r) ok h = h
+    runs_answer : (result : Result Answer Refusal) → IsOk (read_of image) → RunsImage image (by_schedule setting schedule) tells out result → ExecsTexts image switches MayRunBy setting tells out result
+    runs_answer (Ok a) ok h = answer_ran a.status a.line.items ok h
+    runs_answer (Err r) ok h = h
 
-  pub execs_ran : (bytes : List ℕ) (told : Bool) (result : Result Answer Refusal) → bytes ≡ image → told ≡ tells → IsOk (read_of image) → RunsImage bytes told out result → ExecsTexts image switches tells out result
-  execs_ran bytes told result b t ok h =
-      runs_answer result ok (subst (λ x. RunsImage image x out result) t (subst (λ (x : List ℕ). RunsImage x told out result) b h))
+    pub execs_ran : (bytes : List ℕ) (told : Bool) (done : Setting) (result : Result Answer Refusal) → bytes ≡ image → told ≡ tells → done ≡ by_schedule setting schedule → IsOk (read_of image) → RunsImage bytes done told out result
+        → ExecsTexts image switches MayRunBy setting tells out result
+    execs_ran bytes told done result b t d ok h =
+        runs_answer result ok
+        (subst (λ (x : Setting). RunsImage image x tells out result) d (subst (λ x. RunsImage image done x out result) t (subst (λ (x : List ℕ). RunsImage x done told out result) b h)))
+
+-- the settings of two runs by the same schedule and on the same input
+pub same_run : (limits : Setting) (schedule schedule' : List Entry) (input input' : List ℕ) → schedule ≡ schedule' → input ≡ input' → by_schedule (on_input limits input) schedule ≡ by_schedule (on_input limits input') schedule'
+same_run limits schedule schedule' input input' e f =
+    subst (λ (x : List ℕ). by_schedule (on_input limits input) schedule ≡ by_schedule (on_input limits x) schedule') f (ap (λ (x : List Entry). by_schedule (on_input limits input) x) e)
+
+-- limits of a run that doesn't come
+pub no_limits : Setting
+no_limits = record { points = 0; heap = 0; stack = 0; threads = 0; schedule = []; input = [] }
 
 -- the same bytes before and after
 given_now : (a b : Option Files) (name : Option (List ℕ)) (text : List ℕ) → a ≡ b → IsGiven a name text → IsGiven b name text
 given_now a b name text e h = subst (λ (o : Option Files). IsGiven o name text) e h
 
-module _ (shelf : Shelving) (out : Putting) (files : List (List ℕ)) (switches input : Option (List ℕ)) (image : List ℕ) where
-  pub execs_fetched : (result : Result Answer Refusal) (held : Option Files) (text : List ℕ) → held ≡ shelf.held.0 → StoresNothing shelf → IsGiven held switches text → ExecsTexts image text (is_some switches) out result → Execs shelf out files switches input image result
-  execs_fetched (Ok a) held text e s g h = record { held = s; answer = (text, given_now held shelf.held.0 switches text e g, h); refusal = tt }
-  execs_fetched (Err r) held text e s g h = record { held = s; answer = tt; refusal = inr h }
+module _ (shelf : Shelving) (out : Putting) (files : List (List ℕ)) (switches input : Option (List ℕ)) (limits : Setting) (image : List ℕ) where
+  pub execs_fetched : (result : Result Answer Refusal) (held : Option Files) (text bytes : List ℕ) → held ≡ shelf.held.0 → StoresNothing shelf → IsGiven held switches text → IsGiven held input bytes
+      → ExecsTexts image text (IsSchedule text) (on_input limits bytes) (is_some switches) out result → Execs shelf out files switches input limits image result
+  execs_fetched (Ok a) held text bytes e s g k h = record { held = s; answer = (text, bytes, given_now held shelf.held.0 switches text e g, given_now held shelf.held.0 input bytes e k, h); refusal = tt }
+  execs_fetched (Err r) held text bytes e s g k h = record { held = s; answer = tt; refusal = inr h }
 
-  pub execs_told : (result : Result Answer Refusal) (held : Option Files) (text : List ℕ) (told : Bool) → told ≡ is_some switches → held ≡ shelf.held.0 → StoresNothing shelf → IsGiven held switches text → ExecsTexts image text told out result → Execs shelf out files switches input image result
-  execs_told result held text told t e s g h = execs_fetched result held text e s g (subst (λ (x : Bool). ExecsTexts image text x out result) t h)
+  pub execs_told : (result : Result Answer Refusal) (held : Option Files) (text bytes : List ℕ) (told : Bool) → told ≡ is_some switches → held ≡ shelf.held.0 → StoresNothing shelf → IsGiven held switches text → IsGiven held input bytes
+      → ExecsTexts image text (IsSchedule text) (on_input limits bytes) told out result → Execs shelf out files switches input limits image result
+  execs_told result held text bytes told t e s g k h =
+      execs_fetched result held text bytes e s g k (subst (λ (x : Bool). ExecsTexts image text (IsSchedule text) (on_input limits bytes) x out result) t h)
 
-  pub execs_unfetched : {A : Type 0} (r : Refusal) → PutsNothing out → Fetches {A = A} shelf (OfExec shelf.held.0 files switches input) (Err r) → Execs shelf out files switches input image (Err r)
+  pub execs_unfetched : {A : Type 0} (r : Refusal) → PutsNothing out → Fetches {A = A} shelf (OfExec shelf.held.0 files switches input) (Err r) → Execs shelf out files switches input limits image (Err r)
   execs_unfetched r p f = record { held = f.held; answer = tt; refusal = inl (f.unfetched, p) }
 
--- without switches
-pub execs_plain : (image : List ℕ) (out : Putting) (result : Result Answer Refusal) (text : List ℕ) (told : Bool) → text ≡ [] → told ≡ false → ExecsTexts image text told out result → ExecsTexts image [] false out result
-execs_plain image out result text told e t h =
-    subst (λ (x : Bool). ExecsTexts image [] x out result) t (subst (λ (x : List ℕ). ExecsTexts image x told out result) e h)
+-- without switches and input
+pub execs_plain : (image : List ℕ) (out : Putting) (result : Result Answer Refusal) (text bytes : List ℕ) (told : Bool) (limits : Setting) → text ≡ [] → bytes ≡ [] → told ≡ false
+    → ExecsTexts image text (IsSchedule text) (on_input limits bytes) told out result → ExecsTexts image [] (IsSchedule []) (on_input limits []) false out result
+execs_plain image out result text bytes told limits e b t h =
+    subst (λ (x : Bool). ExecsTexts image [] (IsSchedule []) (on_input limits []) x out result) t
+    (subst (λ (x : List ℕ). ExecsTexts image x (IsSchedule x) (on_input limits []) told out result) e
+    (subst (λ (x : List ℕ). ExecsTexts image text (IsSchedule text) (on_input limits x) told out result) b h))
 
 -- the files as they were handed on
 pub builds_of : (shelf : Shelving) (name : List ℕ) (files given : List (List ℕ)) (image : List ℕ) (result : Result Answer Refusal) → given ≡ files → Builds shelf name given image result → Builds shelf name files image result
 builds_of shelf name files given image result e h = subst (λ (f : List (List ℕ)). Builds shelf name f image result) e h
 
-pub execs_of : (shelf : Shelving) (out : Putting) (files given : List (List ℕ)) (switches input : Option (List ℕ)) (image : List ℕ) (result : Result Answer Refusal) → given ≡ files → Execs shelf out given switches input image result → Execs shelf out files switches input image result
-execs_of shelf out files given switches input image result e h = subst (λ (f : List (List ℕ)). Execs shelf out f switches input image result) e h
+pub execs_of : (shelf : Shelving) (out : Putting) (files given : List (List ℕ)) (switches input : Option (List ℕ)) (limits : Setting) (image : List ℕ) (result : Result Answer Refusal) → given ≡ files → Execs shelf out given switches input limits image result → Execs shelf out files switches input limits image result
+execs_of shelf out files given switches input limits image result e h = subst (λ (f : List (List ℕ)). Execs shelf out f switches input limits image result) e h
 
-pub carried : (order done : Order) (shelf : Shelving) (out : Putting) (image : List ℕ) (result : Result Answer Refusal) → order ≡ done → CarriesOut done shelf out image result → CarriesOut order shelf out image result
-carried order done shelf out image result e h = subst (λ (o : Order). CarriesOut o shelf out image result) (sym e) h
+pub carried : (order done : Order) (shelf : Shelving) (out : Putting) (image : List ℕ) (result : Result Answer Refusal) → order ≡ done → Fulfils done shelf out image result → Fulfils order shelf out image result
+carried order done shelf out image result e h = subst (λ (o : Order). Fulfils o shelf out image result) (sym e) h

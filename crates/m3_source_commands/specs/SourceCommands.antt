@@ -7,8 +7,10 @@ use Rattle.m3_sections.specs.Parts.{Image}
 use Rattle.m3_image_commands.specs.declared.answers.Answer.{Answer}
 use Rattle.m3_image_commands.specs.declared.answers.Refusal.{Refusal}
 use Rattle.m3_image_commands.specs.Statuses.{Shelving, Putting, StoresNothing, StoresUnder, StoresFront, PutsNothing, IsGiven, OfOptions, Unfetched, LacksMemory, LacksOutput, Cuts, Refuses}
-use Rattle.m3_image_commands.specs.Reports.{Ended}
-use Rattle.m3_image_commands.specs.ImageCommands.{IsNoSchedule, RefusesSwitches}
+use Rattle.m3_base.specs.declared.outcomes.Entry.{Entry}
+use Rattle.m3_base.specs.Schedules.{IsSchedule}
+use Rattle.m3_image_commands.specs.Reports.{Setting, Ended}
+use Rattle.m3_image_commands.specs.ImageCommands.{IsNoSchedule, RefusesSwitches, by_schedule, on_input}
 
 -- ---- the FILEs
 
@@ -67,21 +69,29 @@ Builds shelf name files image result =
 
 -- ---- exec and bench
 
--- the sources break a rule; the switches are no schedule; or the run of the sources' image ended
-pub data ExecAnswer (image switches : List ℕ) (tells : Bool) (out : Putting) : ℕ → List ℕ → Type 0 where
-  not_run : (line : List ℕ) → PutsNothing out → ExecAnswer image switches tells out 1 line
-  no_schedule : (status : ℕ) (line : List ℕ) → RefusesSwitches switches out status → ExecAnswer image switches tells out status line
-  run_ended : (i : Image) (status : ℕ) (line : List ℕ) → read_of image ≡ Ok i → Ended i tells status line → ExecAnswer image switches tells out status line
+-- any schedule
+abbrev pub IsAny : List Entry → Type 0
+IsAny schedule = Unit {0}
+
+-- the sources break a rule; the switches are no schedule; or the run of the sources' image by a schedule ended
+pub data ExecAnswer (image switches : List ℕ) (MayRunBy : List Entry → Type 0) (setting : Setting) (tells : Bool) (out : Putting) : ℕ → List ℕ → Type 0 where
+  not_run : (line : List ℕ) → PutsNothing out → ExecAnswer image switches MayRunBy setting tells out 1 line
+  no_schedule : (status : ℕ) (line : List ℕ) → RefusesSwitches switches out status → ExecAnswer image switches MayRunBy setting tells out status line
+  run_ended : (i : Image) (schedule : List Entry) (status : ℕ) (line : List ℕ) → read_of image ≡ Ok i → MayRunBy schedule
+      → Ended i (by_schedule setting schedule) tells out status line → ExecAnswer image switches MayRunBy setting tells out status line
 
 -- what comes of sources and switches that are there
-abbrev pub ExecsTexts : List ℕ → List ℕ → Bool → Putting → Result Answer Refusal → Type 0
-ExecsTexts image switches tells out result = MatchResult result (λ a. ExecAnswer image switches tells out a.status a.line.items) (Cuts out)
+abbrev pub ExecsTexts : List ℕ → List ℕ → (List Entry → Type 0) → Setting → Bool → Putting → Result Answer Refusal → Type 0
+ExecsTexts image switches MayRunBy setting tells out result =
+    MatchResult result (λ a. ExecAnswer image switches MayRunBy setting tells out a.status a.line.items) (Cuts out)
 
 -- the files that `exec` reads
 abbrev pub OfExec : Option Files → List (List ℕ) → Option (List ℕ) → Option (List ℕ) → List ℕ → ℕ → Type 0
 OfExec held files switches input n c = OfFiles held files n c ⊎ OfOptions switches input n c
 
-pub record Execs (shelf : Shelving) (out : Putting) (files : List (List ℕ)) (switches input : Option (List ℕ)) (image : List ℕ) (result : Result Answer Refusal) : Type 0 where
+-- `exec`: the switches and the input are those that are named, and the line tells collections where switches are named
+pub record Execs (shelf : Shelving) (out : Putting) (files : List (List ℕ)) (switches input : Option (List ℕ)) (limits : Setting) (image : List ℕ) (result : Result Answer Refusal) : Type 0 where
   pub held : StoresNothing shelf
-  pub answer : IfOk result (λ a. (text : List ℕ) × IsGiven shelf.held.0 switches text × ExecAnswer image text (is_some switches) out a.status a.line.items)
+  pub answer : IfOk result (λ a. (text : List ℕ) × (bytes : List ℕ) × IsGiven shelf.held.0 switches text × IsGiven shelf.held.0 input bytes
+      × ExecAnswer image text (IsSchedule text) (on_input limits bytes) (is_some switches) out a.status a.line.items)
   pub refusal : IfErr result (Refuses shelf (OfExec shelf.held.0 files switches input) out)

@@ -5,8 +5,11 @@ ghost use Rattle.m3_image.specs.Images.{read_of};
 ghost use Rattle.m3_image_commands.specs.declared.answers.Answer.{Answer as AnswerValue};
 ghost use Rattle.m3_image_commands.specs.declared.answers.Refusal.{Refusal as RefusalValue};
 ghost use Rattle.m3_image_commands.specs.Statuses.{LacksMemory, LacksOutput, Tells};
-ghost use Rattle.m3_source_commands.specs.SourceCommands.{Builds, Execs, ExecsTexts, RefusesSources, Stores};
-ghost use Rattle.m3_source_commands.specs.Orders.{CarriesOut, Commands, order_of};
+ghost use Rattle.m3_base.specs.Schedules.{IsSchedule};
+ghost use Rattle.m3_image_commands.specs.Reports.{Setting};
+ghost use Rattle.m3_image_commands.specs.ImageCommands.{on_input};
+ghost use Rattle.m3_source_commands.specs.SourceCommands.{Builds, Execs, ExecsTexts, IsAny, RefusesSources, Stores};
+ghost use Rattle.m3_source_commands.specs.Orders.{Fulfils, Commands, order_of, setting_of};
 
 use crate::compiling::compile;
 use crate::sources::{Sources, fetch_sources, views_of, views_of_bytes};
@@ -59,6 +62,7 @@ fn compile_into(
     image: &mut Vec<u8>,
 ) -> Result<Vec<Entry>, Result<Answer, Refusal<'static>>>
     ensures ok { IfOk result (λ entries. IsOk (read_of image.new.items)) }
+    ensures schedule { IfOk result (λ entries. IsSchedule switches.now entries.items) }
     ensures err { IfErr result (RefusesSources switches.now) }
 {
     let Ok(sources) = sources else {
@@ -111,7 +115,7 @@ fn exec_files<'a, F: Shelf, O: Sink>(
     }) (record {
       taken = (O.taken out.old, O.taken out.new);
       faults = (O.faults out.old, O.faults out.new);
-    }) (map (λ n. n.now) files.entry.now) (option_map (λ n. n.now) options.entry.switches) (option_map (λ n. n.now) options.entry.input) image.new.items result }
+    }) (map (λ n. n.now) files.entry.now) (option_map (λ n. n.now) options.entry.switches) (option_map (λ n. n.now) options.entry.input) (setting_of options.entry.limits) image.new.items result }
 {
     let sources = match fetch_sources(alloc, shelf, files) {
         Ok(sources) => sources,
@@ -134,10 +138,11 @@ fn exec_sources<'a, O: Sink>(
     out: &mut O,
     image: &mut Vec<u8>,
 ) -> Result<Answer, Refusal<'static>>
-    ensures { ExecsTexts image.new.items given.now.switches.items (is_some options.entry.switches) (record {
-      taken = (O.taken out.old, O.taken out.new);
-      faults = (O.faults out.old, O.faults out.new);
-    }) result }
+    ensures { ExecsTexts image.new.items given.now.switches.items (IsSchedule given.now.switches.items)
+        (on_input (setting_of options.entry.limits) given.now.input.items) (is_some options.entry.switches) (record {
+          taken = (O.taken out.old, O.taken out.new);
+          faults = (O.faults out.old, O.faults out.new);
+        }) result }
 {
     let views = views_of(alloc, &sources.names, &sources.texts);
     match compile_into(alloc, views, &given.switches, image) {
@@ -167,7 +172,8 @@ fn no_options() -> RunOptions<'static>
 
 /// The files of a run where none is named.
 fn no_files(alloc: Global) -> RunFiles
-    ensures { result.switches.items ≡ [] }
+    ensures switches { result.switches.items ≡ [] }
+    ensures input { result.input.items ≡ [] }
 {
     RunFiles {
         switches: Vec::new(alloc),
@@ -183,7 +189,7 @@ fn exec_one<O: Sink>(
     out: &mut O,
     image: &mut Vec<u8>,
 ) -> Result<Answer, Refusal<'static>>
-    ensures { ExecsTexts image.new.items [] false (record {
+    ensures { (limits : Setting) × ExecsTexts image.new.items [] (IsSchedule []) (on_input limits []) false (record {
       taken = (O.taken out.old, O.taken out.new);
       faults = (O.faults out.old, O.faults out.new);
     }) result }
@@ -206,7 +212,7 @@ pub fn exec_text<O: Sink, E: Sink>(
     err: &mut E,
     image: &mut Vec<u8>,
 ) -> u8
-    ensures { (answer : Result AnswerValue RefusalValue) × ExecsTexts image.new.items [] false (record {
+    ensures { (answer : Result AnswerValue RefusalValue) × (limits : Setting) × ExecsTexts image.new.items [] (IsSchedule []) (on_input limits []) false (record {
       taken = (O.taken out.old, O.taken out.new);
       faults = (O.faults out.old, O.faults out.new);
     }) answer
@@ -226,7 +232,7 @@ fn bench<O: Sink>(
     out: &mut O,
     image: &mut Vec<u8>,
 ) -> Result<Answer, Refusal<'static>>
-    ensures { ExecsTexts image.new.items [] false (record {
+    ensures { (limits : Setting) × ExecsTexts image.new.items [] IsAny (on_input limits []) false (record {
       taken = (O.taken out.old, O.taken out.new);
       faults = (O.faults out.old, O.faults out.new);
     }) result }
@@ -257,7 +263,7 @@ fn carry_out<'a, F: Shelf, O: Sink>(
     image: &mut Vec<u8>,
 ) -> Result<Answer, Refusal<'a>>
     requires { image.old.items ≡ [] }
-    ensures { CarriesOut (order_of request.entry.now) (record {
+    ensures { Fulfils (order_of request.entry.now) (record {
       held = (F.held shelf.old, F.held shelf.new);
       faults = (F.faults shelf.old, F.faults shelf.new);
       store_faults = (F.store_faults shelf.old, F.store_faults shelf.new);

@@ -1,5 +1,6 @@
 //! From sources to the bytes of an image.
 ghost use Rattle.std.specs.Prelude.{◌≡◌, ◌<◌, ℕ, List, true, length, All, IfOk, IfErr, IsOk};
+ghost use Rattle.m3_base.specs.Schedules.{IsSchedule};
 ghost use Rattle.m3_image.specs.Images.{read_of};
 ghost use Rattle.m3_source_commands.specs.SourceCommands.{RefusesSources};
 
@@ -88,7 +89,8 @@ fn image_of<'a>(alloc: Global, arena: &'a Bump, core: Core<'a>) -> Result<Vec<u8
 
 /// The schedule that the lines of a switch file say.
 fn schedule_in(alloc: Global, switches: &[u8]) -> Step<'static, Vec<Entry>>
-    ensures { IfErr result (RefusesSources switches.now) }
+    ensures ok { IfOk result (λ entries. IsSchedule switches.now entries.items) }
+    ensures err { IfErr result (RefusesSources switches.now) }
 {
     schedule_of(alloc, switches)
 }
@@ -101,6 +103,7 @@ pub fn compile(
     switches: &[u8],
 ) -> Step<'static, (Vec<u8>, Vec<Entry>)>
     ensures ok { IfOk result (λ built. IsOk (read_of built.0.items)) }
+    ensures schedule { IfOk result (λ built. IsSchedule switches.now built.1.items) }
     ensures err { IfErr result (RefusesSources switches.now) }
 {
     let owner = Bump::new(alloc);

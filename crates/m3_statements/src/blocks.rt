@@ -1,14 +1,22 @@
-ghost use Rattle.std.specs.Prelude.{◌≡◌, ◌+◌, IfSome};
 ghost use Rattle.m3_cursor.specs.Readers.{Follows};
 
-use crate::declarations::{begins_declaration, declaration_list};
+use crate::declarations::declaration_list;
 use crate::statements::statements;
 use m3_cursor::Reader;
 use m3_syntax::{Block, TokenKind, Word};
 
 /// Whether a keyword begins a block.
 pub fn begins_block(word: Word) -> bool {
-    matches!(word, Word::Begin) || begins_declaration(word)
+    matches!(
+        word,
+        Word::Begin
+            | Word::Const
+            | Word::Type
+            | Word::Exception
+            | Word::Var
+            | Word::Procedure
+            | Word::Reveal
+    )
 }
 
 /// The block that begins here (the report, section 2.3.13 "Block statement"). `room` is that of
@@ -18,7 +26,14 @@ pub fn block<'a>(reader: &mut Reader<'_, 'a>, room: u32) -> Block<'a>
     ensures { Follows reader.old reader.new }
 {
     let pos = reader.pos();
-    let Some(room) = inside_block(reader, room) else {
+    let inside = match reader.kind() {
+        Some(TokenKind::Keyword(word)) if begins_block(word) => reader.inside(room),
+        _ => {
+            reader.unexpected();
+            None
+        }
+    };
+    let Some(room) = inside else {
         return Block {
             pos,
             declarations: reader.no_items(),
@@ -35,19 +50,5 @@ pub fn block<'a>(reader: &mut Reader<'_, 'a>, room: u32) -> Block<'a>
         declarations,
         body,
         end,
-    }
-}
-
-/// The room inside a block that the token here opens.
-fn inside_block(reader: &mut Reader<'_, '_>, room: u32) -> Option<u32>
-    ensures follows { Follows reader.old reader.new }
-    ensures less { IfSome result (λ inside. inside + 1 ≡ room) }
-{
-    match reader.kind() {
-        Some(TokenKind::Keyword(word)) if begins_block(word) => reader.inside(room),
-        _ => {
-            reader.unexpected();
-            None
-        }
     }
 }

@@ -9,14 +9,6 @@ use m3_syntax::{
     ConstDecl, Decl, ExceptionDecl, ProcedureBody, Revelation, Sign, TypeDecl, VarDecl, Word,
 };
 
-/// Whether a keyword begins a declaration.
-pub fn begins_declaration(word: Word) -> bool {
-    matches!(
-        word,
-        Word::Const | Word::Type | Word::Exception | Word::Var | Word::Procedure | Word::Reveal
-    )
-}
-
 /// The declarations that are here. `room` is that inside the block or unit to which they belong.
 #[cycle(statements)]
 pub fn declaration_list<'a>(reader: &mut Reader<'_, 'a>, room: u32) -> &'a [Decl<'a>]
@@ -187,7 +179,7 @@ fn procedure<'a>(reader: &mut Reader<'_, 'a>, room: u32, pos: Pos) -> Decl<'a>
     let signature = signature(reader, room);
     let body = if reader.skip_sign(Sign::Equal) {
         let block = block(reader, room);
-        let closing = reader.take_name();
+        let closing = reader.take_closing(&name);
         Some(ProcedureBody { block, closing })
     } else {
         None

@@ -12,8 +12,8 @@ pub struct Call<'a> {
     pub actuals: &'a [Actual<'a>],
 }
 
-/// The call with which an expression ends, as `a.f(x)` and `a + f(x)` do: the callee is what stands
-/// before the last parenthesis. None where it ends with no call.
+/// The call with which an expression ends, as `a.f(x)` and `a + f(x)` do: the callee is what
+/// stands before the last parenthesis. None where it ends with no call.
 pub fn call_of<'a>(reader: &mut Reader<'_, 'a>, expr: &Expr<'a>) -> Option<Call<'a>>
     ensures { Follows reader.old reader.new }
 {

@@ -4,13 +4,6 @@ use m3_cursor::{Reader, begins_expression, qualid};
 use m3_phrases::expression;
 use m3_syntax::{Sign, Stmt, Word};
 
-pub fn exit_statement<'a>(reader: &mut Reader<'_, 'a>) -> Stmt<'a>
-    ensures { Follows reader.old reader.new }
-{
-    let pos = reader.take_word(Word::Exit);
-    Stmt::Exit { pos }
-}
-
 pub fn eval_statement<'a>(reader: &mut Reader<'_, 'a>, room: u32) -> Stmt<'a>
     ensures { Follows reader.old reader.new }
 {

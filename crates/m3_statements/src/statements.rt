@@ -4,7 +4,7 @@ use crate::blocks::{begins_block, block};
 use crate::branches::{case_statement, if_statement, typecase_statement};
 use crate::handlers::try_statement;
 use crate::heads::call_of;
-use crate::jumps::{eval_statement, exit_statement, raise_statement, return_statement};
+use crate::jumps::{eval_statement, raise_statement, return_statement};
 use crate::loops::{
     for_statement, lock_statement, loop_statement, repeat_statement, while_statement,
     with_statement,
@@ -33,31 +33,28 @@ pub fn statements<'a>(reader: &mut Reader<'_, 'a>, room: u32) -> &'a [Stmt<'a>]
 /// Whether a statement begins here.
 fn begins_statement(reader: &Reader<'_, '_>) -> bool {
     match reader.kind() {
-        Some(TokenKind::Keyword(word)) if begins_by_word(word) || begins_block(word) => true,
+        Some(
+            TokenKind::Keyword(
+                Word::Case
+                | Word::Exit
+                | Word::Eval
+                | Word::For
+                | Word::If
+                | Word::Lock
+                | Word::Loop
+                | Word::Raise
+                | Word::Repeat
+                | Word::Return
+                | Word::Try
+                | Word::Typecase
+                | Word::While
+                | Word::With,
+            ),
+        ) => true,
+        Some(TokenKind::Keyword(word)) if begins_block(word) => true,
         Some(kind) => begins_expression(kind),
         None => false,
     }
-}
-
-/// Whether a keyword begins a statement that is no block and begins with no expression.
-fn begins_by_word(word: Word) -> bool {
-    matches!(
-        word,
-        Word::Case
-            | Word::Exit
-            | Word::Eval
-            | Word::For
-            | Word::If
-            | Word::Lock
-            | Word::Loop
-            | Word::Raise
-            | Word::Repeat
-            | Word::Return
-            | Word::Try
-            | Word::Typecase
-            | Word::While
-            | Word::With
-    )
 }
 
 /// The statement that begins here, given the room of what surrounds it.
@@ -73,7 +70,9 @@ fn statement<'a>(reader: &mut Reader<'_, 'a>, room: u32) -> Stmt<'a>
         Some(TokenKind::Keyword(word)) => match word {
             Word::Case => case_statement(reader, room),
             Word::Eval => eval_statement(reader, room),
-            Word::Exit => exit_statement(reader),
+            Word::Exit => Stmt::Exit {
+                pos: reader.take_word(word),
+            },
             Word::For => for_statement(reader, room),
             Word::If => if_statement(reader, room),
             Word::Lock => lock_statement(reader, room),
@@ -125,11 +124,14 @@ fn assignment_or_call<'a>(reader: &mut Reader<'_, 'a>, room: u32) -> Stmt<'a>
     let pos = reader.pos();
     let head = statement_head(reader, room);
     if reader.skip_sign(Sign::Assign) {
-        let target = reader.expr(head);
         let value = expression(reader, room);
-        return Stmt::Assign { pos, target, value };
+        return Stmt::Assign {
+            pos,
+            target: head,
+            value,
+        };
     }
-    let Some(call) = call_of(reader, &head) else {
+    let Some(call) = call_of(reader, head) else {
         reader.unexpected();
         return missing_statement(reader, pos);
     };

@@ -1,14 +1,12 @@
-use crate::bodies::{Body, NewVariable};
-use crate::labels::{all_ranges, ranges_at};
-use crate::loops::condition;
 use crate::sequences::statements;
 use bumpalo::collections::into_bump_slice;
-use m3_base::{NoMemory, Pos};
-use m3_core::{Arm, CaseBranch, CoreStmt, Role, TypeBranch, VarKind};
+use m3_base::NoMemory;
+use m3_bodies::Body;
+use m3_branches::{all_ranges, branch_types, branch_variable, condition, ranges_at};
+use m3_core::{Arm, CaseBranch, CoreStmt, TypeBranch};
 use m3_exprs::expression;
-use m3_operands::{Checker, Valued};
-use m3_syntax::{Name, Stmt, TypeExp};
-use m3_types::TypeId;
+use m3_operands::Checker;
+use m3_syntax::Stmt;
 
 /// IF with its ELSIFs.
 #[cycle(statements)]
@@ -135,64 +133,4 @@ pub fn type_choice<'a>(
         })),
         None => Ok(None),
     }
-}
-
-/// The types of a branch that were not refused.
-fn branch_types<'a>(
-    checker: &mut Checker<'_, 'a>,
-    kinds: &[TypeExp<'a>],
-    value: Option<Valued<'a>>,
-) -> Result<&'a [TypeId], NoMemory> {
-    let mut types = Vec::new(checker.arena);
-    for kind in kinds {
-        if let Some(found) = checker.type_of(kind) {
-            judge_type(checker, kind.pos(), found, value)?;
-            types.push(found)?;
-        }
-    }
-    Ok(into_bump_slice(types))
-}
-
-fn judge_type<'a>(
-    checker: &mut Checker<'_, 'a>,
-    pos: Pos,
-    kind: TypeId,
-    value: Option<Valued<'a>>,
-) -> Result<(), NoMemory> {
-    let Some(value) = value else {
-        return Ok(());
-    };
-    if !checker.is_reference(value.kind) || !checker.is_subtype(kind, value.kind)? {
-        checker.note(pos, 81);
-    }
-    Ok(())
-}
-
-/// The variable of a branch: of the branch's type where that is the only one, else of the value's.
-fn branch_variable<'a>(
-    checker: &mut Checker<'_, 'a>,
-    body: &mut Body<'a>,
-    name: Option<Name<'a>>,
-    types: (&[TypeId], usize),
-    value: Option<Valued<'a>>,
-) -> Result<Option<u32>, NoMemory> {
-    let kind = match (types.0, types.1, value) {
-        ([only], 1, _) => Some(*only),
-        (_, 1, _) => None,
-        (_, _, Some(value)) => Some(value.kind),
-        _ => None,
-    };
-    let (Some(name), Some(kind)) = (name, kind) else {
-        return Ok(None);
-    };
-    let place = body.add(
-        checker,
-        NewVariable {
-            name,
-            role: Role::TypeCase,
-            kind: VarKind::Variable(kind),
-            is_read_only: false,
-        },
-    )?;
-    Ok(Some(place))
 }

@@ -1,20 +1,14 @@
-//! Checked statements and procedures: from the tree of a body to its checked form, or the rules that it
-//! breaks (the report, sections 2.3 and 2.4).
+//! Checked statements and procedures: from the tree of a body to its checked form, or the rules
+//! that it breaks (the report, sections 2.3 and 2.4).
 #![tactic(auto)]
 
-mod assignments;
-mod bodies;
 mod branches;
 mod exceptions;
-mod labels;
 mod locks;
 mod loops;
 mod procedures;
 mod sequences;
-mod variables;
 mod withs;
 
-pub use assignments::{initial_value, initial_values};
-pub use bodies::Body;
 pub use procedures::check_procedure;
 pub use sequences::statements;

@@ -1,14 +1,14 @@
-use crate::assignments::{assign, call_statement, eval, give_back};
-use crate::bodies::Body;
 use crate::branches::{alternatives, choice, type_choice};
-use crate::exceptions::{attempt, raise};
+use crate::exceptions::attempt;
 use crate::locks::locked;
 use crate::loops::{for_loop, plain_loop};
 use crate::procedures::block;
 use crate::withs::bound;
 use bumpalo::collections::into_bump_slice;
 use m3_base::NoMemory;
+use m3_bodies::Body;
 use m3_core::CoreStmt;
+use m3_exceptions::simple;
 use m3_operands::Checker;
 use m3_syntax::Stmt;
 
@@ -53,36 +53,5 @@ fn statement<'a>(
             plain_loop(checker, body, statement)
         }
         Stmt::TryExcept { .. } | Stmt::TryFinally { .. } => attempt(checker, body, statement),
-    }
-}
-
-/// A statement without statements in it.
-fn simple<'a>(
-    checker: &mut Checker<'_, 'a>,
-    body: &Body<'a>,
-    statement: &Stmt<'a>,
-) -> Result<Option<CoreStmt<'a>>, NoMemory> {
-    match statement {
-        Stmt::Assign { pos, target, value } => assign(checker, *pos, target, value),
-        Stmt::Call {
-            pos,
-            callee,
-            parenthesis,
-            actuals,
-        } => call_statement(checker, *pos, callee, *parenthesis, actuals),
-        Stmt::Eval { pos, value } => eval(checker, *pos, value),
-        Stmt::Return { pos, value } => give_back(checker, body.result, *pos, *value),
-        Stmt::Raise {
-            pos,
-            exception,
-            argument,
-        } => raise(checker, *pos, exception, *argument),
-        Stmt::Exit { pos } => {
-            if body.loops == 0 {
-                checker.note(*pos, 71);
-            }
-            Ok(Some(CoreStmt::Exit { pos: *pos }))
-        }
-        _ => Ok(None),
     }
 }

@@ -1,72 +1,10 @@
-use crate::bodies::{Body, NewVariable};
 use crate::sequences::statements;
-use bumpalo::collections::into_bump_slice;
 use m3_base::NoMemory;
-use m3_core::{Bound, CoreStmt, Role, VarKind, WithBinding};
-use m3_exprs::operand;
-use m3_operands::{Checker, State, Thing};
-use m3_syntax::{Binding, Expr, Name, Stmt};
-
-/// What a name is bound to, and how it stands for it.
-#[derive(Clone, Copy)]
-pub struct Target<'a> {
-    pub bound: Bound<'a>,
-    pub kind: VarKind,
-    pub is_read_only: bool,
-}
-
-/// What a name is bound to: the place of a designator, else a value.
-pub fn target_of<'a>(
-    checker: &mut Checker<'_, 'a>,
-    value: &Expr<'a>,
-) -> Result<Option<Target<'a>>, NoMemory> {
-    checker.steps.clear();
-    let thing = operand(checker, value)?;
-    if let Thing::Chain(draft) = thing {
-        if let State::Place {
-            is_writable,
-            is_designator: true,
-        } = draft.state
-        {
-            return Ok(Some(Target {
-                bound: Bound::Place(checker.finish(&draft, Some(draft.kind))?),
-                kind: VarKind::Alias(draft.kind),
-                is_read_only: !is_writable,
-            }));
-        }
-    }
-    match checker.value_of(value.pos(), &thing)? {
-        Some(value) => Ok(Some(Target {
-            bound: Bound::Value(value.core()),
-            kind: VarKind::Variable(value.kind),
-            is_read_only: true,
-        })),
-        None => Ok(None),
-    }
-}
-
-/// Binds a name to what it stands for.
-pub fn bind<'a>(
-    checker: &mut Checker<'_, 'a>,
-    body: &mut Body<'a>,
-    name: Name<'a>,
-    role: Role,
-    target: &Target<'a>,
-) -> Result<WithBinding<'a>, NoMemory> {
-    let variable = body.add(
-        checker,
-        NewVariable {
-            name,
-            role,
-            kind: target.kind,
-            is_read_only: target.is_read_only,
-        },
-    )?;
-    Ok(WithBinding {
-        variable,
-        bound: target.bound,
-    })
-}
+use m3_bodies::Body;
+use m3_bound_names::bind_all;
+use m3_core::CoreStmt;
+use m3_operands::Checker;
+use m3_syntax::Stmt;
 
 /// WITH: each name stands for a designator, or for a new variable that can't be written.
 #[cycle(statements)]
@@ -90,20 +28,4 @@ pub fn bound<'a>(
         bindings,
         body: row,
     }))
-}
-
-/// Binds the names of a WITH in order, each seeing those before it.
-fn bind_all<'a>(
-    checker: &mut Checker<'_, 'a>,
-    body: &mut Body<'a>,
-    bindings: &[Binding<'a>],
-) -> Result<&'a [WithBinding<'a>], NoMemory> {
-    let mut bound = Vec::new(checker.arena);
-    for binding in bindings {
-        if let Some(target) = target_of(checker, binding.value)? {
-            let made = bind(checker, body, binding.name, Role::With, &target)?;
-            bound.push(made)?;
-        }
-    }
-    Ok(into_bump_slice(bound))
 }

@@ -13,7 +13,7 @@ use Rattle.m3_isa.specs.declared.instructions.Op.{Op}
 use Rattle.m3_isa.specs.declared.instructions.Op.TheVariants.{Call, Callr, Callm, Ret, Meth, Subt, New, Newo, Point, Fault, Unc, Endp, Endt, Cat, Tchr, Tsub, Fork, Join, Acq, Rel, Wait, Sig, Bca, Self_, Put, Putn, Putc, Alert, Talert, Await, Ajoin, Getc, Eof, Move, Li, Lih, Con, Glb, Slot, Add, Sub, Mul, Addi, Addo, Subo, Mulo, Divf, Modf, Divu, Modu, And, Or, Xor, Shf, Rot, Seq, Slt, Sltu, Jmp, Lds, Ld, Sts, St, Copy, Fill, Eqw, Tget, Teq, Bz, Bnz, Blt, Bltu, Beq}
 use Rattle.m3_isa.specs.declared.instructions.Instr.{Instr}
 use Rattle.m3_isa.specs.declared.registers.Regs.{Regs}
-use Rattle.m3_isa.specs.declared.answers.Step.TheVariants.{Went, Trapped as Trapped_at}
+use Rattle.m3_isa.specs.declared.answers.Step.TheVariants.{Went, Trapped as Trapped_at, Other as Otherwise}
 use Rattle.m3_heap.specs.Heap.{Heap, KeepsCounts}
 use Rattle.m3_heap.specs.Cells.{AddsCell, new_cell}
 use Rattle.m3_threads.specs.declared.status.Thread.{Thread}
@@ -25,14 +25,14 @@ use Rattle.m3_memory.specs.Kept.{KeepsStacks, KeepsMemory}
 use Rattle.m3_strides.specs.declared.near.Stack.{Stack}
 use Rattle.m3_strides.specs.declared.near.Place.{Place}
 use Rattle.m3_strides.specs.State.{State, memory_of, can_set, regs_set, with_regs, executed, Becomes}
-use Rattle.m3_strides.specs.Act.{Act, Goes as Goes_with, Writes, using}
+use Rattle.m3_strides.specs.Act.{Act, Proceeds as Goes_with, Writes, using}
 use Rattle.m3_strides.specs.Progress.{Progress, Goes, Ends}
 use Rattle.m3_strides.specs.Calls.{stack_of, come_to, entering, framed, calls, callee_by, callee_of, returning, returns, method_at, tells_method, kind_at, TellsType}
-use Rattle.m3_strides.specs.Making.{Allocates, GivesCell, fixed_words, makes, at_once}
+use Rattle.m3_strides.specs.Making.{Allocates, GivesCell, fixed_words, makes_fixed, at_once}
 use Rattle.m3_strides.specs.Steps.{Plainly, Acts, Acted, Does}
 use Rattle.m3_strides.specs.State.{seen}
 use Rattle.m3_strides.specs.Leading.{Goes_on}
-use Rattle.m3_strides.proofs.PlainSteps.{twice, found-again, others-threads, goes-on, traps-at}
+use Rattle.m3_strides.proofs.PlainSteps.{twice, found-again, others-threads, goes-on, traps-at, not-plain}
 
 -- what holds of an operation holds of an instruction that has it
 pub acts_by : (p : Program) (input : List ℕ) (t : Thread) (i : Instr) (s : State) (bytes : List ℕ) (progress : Progress) (o q : Op) → o ≡ q
@@ -314,7 +314,7 @@ goes_made p stack i old new all g heap heap' words start is fixed fits adds coun
       let regs : new ≡ answered t'.regs i.a start = same ∙ ap (λ (x : Thread). answered x.regs i.a start) one in
       ap (λ ts. Goes (with_threads (executed base) all g heap' ts)) (ap (λ (x : Regs). updated (regs_set x) base.running all.threads) regs ∙ sym (twice old (answered t'.regs i.a start) base.running all.threads)) in
       acts_by p input (regs_set old t) i s [] (Goes v) i.op New is
-      (refl, makes words (Ok start) u (Goes v) fixed (at_once start u allocates) gives);
+      (refl, makes_fixed words (Ok start) u (Goes v) fixed (at_once start u allocates) gives);
 }
 
 -- ---- plain instructions
@@ -330,6 +330,14 @@ goes_plainly p stack i old new all new_all g g' c' heap heap' plain keeps done =
       acts_plainly p input (regs_set old t) i s (Goes (seen (executed base) new new_all g' heap')) i.op plain
       (goes-on p base t i old new all new_all g g' p.constants c' heap heap' (effect i old (memory_of p s) (can_set s)) refl running keeps done);
 }
+
+-- what was answered with Other isn't plain
+pub not_plain_by : (i : Instr) (old new : Regs) (m m' : Memory) (can : ℕ → Bool) → CarriesOut (effect i old m can) Otherwise old m new m' → is_plain i.op ≡ false
+not_plain_by i old new m m' can done = by (is_plain i.op) refl
+  where
+    by : (b : Bool) → is_plain i.op ≡ b → is_plain i.op ≡ false
+    by false e = e
+    by true e = absurd (has_effect i.op i.a i.b i.c i.imm old m can e (not-plain (effect i old m can) old new m m' done).0)
 
 pub plain_is_no_point : (o : Op) → is_plain o ≡ true → is_point o ≡ false
 plain_is_no_point Call e = absurd (true≢false (sym e))

@@ -23,7 +23,7 @@ use Rattle.m3_strides.specs.Calls.{stack_of}
 use Rattle.m3_strides.specs.Points.{Chooses, left as uncollected, passed, runs_on, first_entry, later_entries}
 use Rattle.m3_strides.specs.Steps.{Does}
 use Rattle.m3_strides.specs.State.{seen}
-use Rattle.m3_strides.specs.Runs.{Place, In_turn, At_point, Over, Settles, goes_on, comes_to_point, ended, Leads, moves, in_turn, at_point, then_at, turn_limit, stands}
+use Rattle.m3_strides.specs.Runs.{Place, In_turn, At_point, Over, Settles, goes_on, comes_to_point, run_ends, Leads, moves, in_turn, at_point, then_at, turn_limit, stands}
 use Rattle.m3_strides.specs.Leading.{config, Track, LeadsTo, Went, Enters, Goes_on, Standing, further}
 use Rattle.m3_strides.proofs.PlainSteps.{found-again, found_still}
 
@@ -226,7 +226,7 @@ pub stood_end : (p : Program) (k : Track) (stack : Stack) (limit left points : â
 stood_end p k stack limit left points i regs all g heap v outcome st next plain some does =
     let enters = stands_before p k stack limit left points i regs all g heap st next plain some in
     leads_silently p k (seen k.base regs all g heap) (regs_set regs k.thread) i (limit - left + 1) (Ends v outcome) enters
-    (found-again regs k.base.running all.threads k.thread st.running) next does (Over v outcome) (ended v outcome)
+    (found-again regs k.base.running all.threads k.thread st.running) next does (Over v outcome) (run_ends v outcome)
 
 -- ---- the same by other names of the same numbers
 

@@ -3,7 +3,10 @@ use Rattle.std.specs.Prelude.{ℕ, ◌≡◌, ◌==◌, Bool, true, false, List,
 use Rattle.std.proofs.Common.{refl, sym, ap, subst, ◌∙◌, cond}
 use Rattle.m3_base.specs.declared.outcomes.Outcome.TheVariants.{Trap}
 use Rattle.m3_isa.specs.Memory.{Memory}
-use Rattle.m3_isa.specs.Effects.{Effect, Goes as Goes_to, Traps, NotPlain, CarriesOut, KeepsOnTrap}
+use Rattle.m3_isa.specs.Effects.{Effect, Goes as Goes_to, Traps, NotPlain, effect, CarriesOut, KeepsOnTrap}
+use Rattle.m3_isa.specs.Instructions.{is_plain}
+use Rattle.m3_isa.proofs.Plain.{not_plain}
+use Rattle.m3_isa.specs.declared.answers.Step.{Step}
 use Rattle.m3_isa.specs.declared.answers.Step.TheVariants.{Went, Trapped as Trapped_at, Other as Otherwise}
 use Rattle.m3_isa.specs.declared.instructions.Instr.{Instr}
 use Rattle.m3_isa.specs.declared.registers.Regs.{Regs}
@@ -115,6 +118,14 @@ pub not-plain : (e : Effect) (old new : Regs) (m m' : Memory) → CarriesOut e O
 not-plain (Goes_to regs memory) old new m m' done = cc
 not-plain (Traps n) old new m m' done = cc
 not-plain NotPlain old new m m' done = (refl, done.1, done.2)
+
+-- what wasn't answered with Other is plain
+pub was_plain : (i : Instr) (old new : Regs) (m m' : Memory) (can : ℕ → Bool) (answer : Step) → (answer ≡ Otherwise → ⊥) → CarriesOut (effect i old m can) answer old m new m' → is_plain i.op ≡ true
+was_plain i old new m m' can answer ne done = by (is_plain i.op) refl
+  where
+    by : (b : Bool) → is_plain i.op ≡ b → is_plain i.op ≡ true
+    by true e = e
+    by false e = absurd (ne (subst (λ (x : Effect). CarriesOut x answer old m new m') (not_plain i.op e i.a i.b i.c i.imm old m can) done).0)
 
 -- the running thread, in a memory that keeps the threads
 pub found_still : (all now : Everyone) (n : ℕ) (t : Thread) → KeepsStacks all now → thread_named all n ≡ Some t → thread_named now n ≡ Some t

@@ -8,7 +8,7 @@ use Rattle.m3_isa.specs.declared.registers.Regs.{Regs}
 -- the thread goes on with these registers; with them and this memory; having put these bytes; or having taken a
 -- byte of the input; or the run ends
 pub data Act : Type 0 where
-  Goes : Regs → Act
+  Proceeds : Regs → Act
   Writes : Regs → Memory → Act
   Puts : List ℕ → Regs → Act
   Takes : Regs → Act
@@ -19,8 +19,8 @@ abbrev pub bytes_of : Act → List ℕ
 bytes_of (Puts bytes regs) = bytes
 bytes_of _ = []
 
-abbrev pub traps : ℕ → Act
-traps n = Stops (Trap n)
+abbrev pub stops_with_trap : ℕ → Act
+stops_with_trap n = Stops (Trap n)
 
 -- what was found is used; where it wasn't, the run ends
 abbrev pub using : {A : Type 0} → Result A Outcome → (A → Act) → Act

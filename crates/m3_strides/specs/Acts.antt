@@ -13,7 +13,7 @@ use Rattle.m3_isa.specs.declared.registers.Regs.{Regs}
 use Rattle.m3_isa.specs.declared.instructions.Instr.{Instr}
 use Rattle.m3_sections.specs.Parts.{Program}
 use Rattle.m3_strides.specs.declared.near.Stack.{Stack}
-use Rattle.m3_strides.specs.Act.{Act, Goes, Puts, Takes, Stops, traps, loading}
+use Rattle.m3_strides.specs.Act.{Act, Proceeds, Puts, Takes, Stops, stops_with_trap, loading}
 use Rattle.m3_strides.specs.Texts.{text_bytes}
 
 -- ---- ends
@@ -24,8 +24,8 @@ fault_kinds = Overflow ∷ DivZero ∷ Range ∷ Index ∷ Nil ∷ Narrow ∷ Sh
 
 -- FAULT, whose kind and place every image has
 abbrev pub faults : Option FaultKind → Option (ℕ × ℕ) → Act
-faults None place = traps 2
-faults (Some kind) None = traps 2
+faults None place = stops_with_trap 2
+faults (Some kind) None = stops_with_trap 2
 faults (Some kind) (Some place) = Stops (Fault kind place.0 place.1)
 
 abbrev pub faults_at : Program → Instr → Act
@@ -33,12 +33,12 @@ faults_at p i = faults (slice_get fault_kinds i.a) (slice_get p.places (cast_uns
 
 -- UNC: an exception that nobody handled, or trap 5 where there is none of that number
 abbrev pub uncaught : Option (List ℕ) → ℕ → Act
-uncaught None n = traps 5
+uncaught None n = stops_with_trap 5
 uncaught (Some name) n = Stops (Uncaught n)
 
 abbrev pub is_uncaught : Program → Instr → Regs → Act
 is_uncaught p i regs =
-    if nat_lt (reg regs i.a) (2 ^ 32) then uncaught (slice_get p.exceptions (reg regs i.a)) (reg regs i.a) else traps 5
+    if nat_lt (reg regs i.a) (2 ^ 32) then uncaught (slice_get p.exceptions (reg regs i.a)) (reg regs i.a) else stops_with_trap 5
 
 -- ---- input and output
 
@@ -57,7 +57,7 @@ has_text memory text from count =
 -- PUT: all words of the text are loaded before its first byte is put
 abbrev pub puts_bytes : Memory → ℕ → ℕ → Regs → Act
 puts_bytes memory text count regs =
-    if has_text memory text 0 count then Puts (text_bytes memory text 0 count) (next regs) else traps 2
+    if has_text memory text 0 count then Puts (text_bytes memory text 0 count) (next regs) else stops_with_trap 2
 
 abbrev pub puts_text : Instr → Regs → Memory → Act
 puts_text i regs memory =
@@ -66,11 +66,11 @@ puts_text i regs memory =
 -- GETC: the next byte of the input, or a jump where none is left; EOF
 abbrev pub gets : List ℕ → ℕ → Instr → Regs → Act
 gets input taken i regs =
-    if nat_le (length input) taken then Goes (jumped regs i.imm) else Takes (answered regs i.a (slice_index_or input taken 0))
+    if nat_le (length input) taken then Proceeds (jumped regs i.imm) else Takes (answered regs i.a (slice_index_or input taken 0))
 
 abbrev pub tells_end : List ℕ → ℕ → Instr → Regs → Act
-tells_end input taken i regs = Goes (answered regs i.a (flag (nat_le (length input) taken)))
+tells_end input taken i regs = Proceeds (answered regs i.a (flag (nat_le (length input) taken)))
 
 -- SELF: word 2 of the thread's stack
 abbrev pub tells_self : Stack → Instr → Regs → Memory → Act
-tells_self stack i regs memory = loading (memory (add_words stack.base 2)) (λ cell. Goes (answered regs i.a cell))
+tells_self stack i regs memory = loading (memory (add_words stack.base 2)) (λ cell. Proceeds (answered regs i.a cell))

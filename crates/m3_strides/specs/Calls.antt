@@ -19,7 +19,7 @@ use Rattle.m3_sections.specs.Ranges.{containing}
 use Rattle.m3_decoded.specs.Ancestors.{IsSubtype}
 use Rattle.m3_strides.specs.declared.near.Stack.{Stack}
 use Rattle.m3_strides.specs.declared.near.Place.{Place}
-use Rattle.m3_strides.specs.Act.{Act, Goes, Writes, using, finding, or_trap}
+use Rattle.m3_strides.specs.Act.{Act, Proceeds, Writes, using, finding, or_trap}
 
 -- where a thread's stack is
 abbrev pub stack_of : Everyone → Thread → Stack
@@ -80,7 +80,7 @@ returning code at memory =
 
 -- RET
 abbrev pub returns : ℕ → Regs → Memory → Act
-returns code regs memory = using (returning code (place_of regs) memory) (λ to. Goes (come_to to regs))
+returns code regs memory = using (returning code (place_of regs) memory) (λ to. Proceeds (come_to to regs))
 
 -- ---- types
 
@@ -102,7 +102,7 @@ method_at types memory cell n = finding (kind_at types memory cell) (λ kind. or
 -- METH
 abbrev pub tells_method : List CellType → Instr → Regs → Memory → Act
 tells_method types i regs memory =
-    using (method_at types memory (reg regs i.b) (cast_unsigned w32 i.imm)) (λ method. Goes (answered regs i.a method))
+    using (method_at types memory (reg regs i.b) (cast_unsigned w32 i.imm)) (λ method. Proceeds (answered regs i.a method))
 
 -- whether the type of a cell, where it has one, is that of a number or has it among its parents
 abbrev pub TellsType : List CellType → Result ℕ Outcome → ℕ → Result Bool Outcome → Type 0
@@ -113,7 +113,7 @@ TellsType types kind n (Err outcome) = kind ≡ Err outcome
 abbrev pub Tests_type : List CellType → Instr → Regs → Memory → Act → Type 0
 Tests_type types i regs memory act =
     (told : Result Bool Outcome) × TellsType types (kind_at types memory (reg regs i.b)) (cast_unsigned w32 i.imm) told
-    × (act ≡ using told (λ is. Goes (answered regs i.a (flag is))))
+    × (act ≡ using told (λ is. Proceeds (answered regs i.a (flag is))))
 
 -- CALLM: the cell is the first argument
 abbrev pub method_from : Option ProcPart → List CellType → ℕ → Place → Memory → Result ℕ Outcome

@@ -1,17 +1,20 @@
 -- What a collection makes of a state.
 use Rattle.std.specs.Prelude.{◌≡◌}
-use Rattle.m3_roots.specs.Collected.{Parts, Collected}
+use Rattle.m3_roots.specs.Collected.{Parts, Collected, StopsCollection}
 use Rattle.m3_sections.specs.Parts.{Program}
 use Rattle.m3_strides.specs.State.{State, raised}
 
 abbrev pub parts_of : State → Parts
 parts_of s = record { all = s.all; globals = s.globals; heap = s.heap }
 
--- a collection that met trap 9: nothing but words, cells and threads is other than before, and nothing is said of them
-pub record Spoils (old new : State) : Type 0 where
+-- a collection that met trap 9, since it has to stop: nothing but words, cells and threads is other than before, and
+-- nothing is said of them
+pub record Spoils (p : Program) (old new : State) : Type 0 where
+  pub stops : StopsCollection p (parts_of old)
   pub rest : new ≡ record old { all = new.all; globals = new.globals; heap = new.heap }
 
--- a collection that ended well, and was counted
+-- a collection that doesn't have to stop: it ended well, and was counted
 pub record Collects (p : Program) (old new : State) : Type 0 where
+  pub whole : StopsCollection p (parts_of old) → ⊥
   pub collected : Collected p (parts_of old) (parts_of new)
   pub rest : new ≡ record old { all = new.all; globals = new.globals; heap = new.heap; collections = raised 64 old.collections }

@@ -32,11 +32,11 @@ abbrev pub Allocates : ℕ → ℕ → State → Option ℕ → State → Type 0
 Allocates kind words s None u = Refuses words s u
 Allocates kind words s (Some start) u = (words ≤ s.heap.free) × Adds (new_cell start kind words) s u
 
--- after one collection a cell was made; or there was no room even then; or the collection met trap 9
+-- after one collection a cell was made; or there was no room even then; or the collection has to stop
 pub data Makes_late (p : Program) (kind words : ℕ) (s : State) : Result ℕ Outcome → State → Type 0 where
-  made : (t u : State) (start : ℕ) → Collects p s t → Allocates kind words t (Some start) u → Makes_late p kind words s (Ok start) u
-  full : (t u : State) → Collects p s t → Refuses words t u → Makes_late p kind words s (Err HeapFull) u
-  stuck : (u : State) → Spoils s u → Makes_late p kind words s (Err (Trap 9)) u
+  made_late : (t u : State) (start : ℕ) → Collects p s t → Allocates kind words t (Some start) u → Makes_late p kind words s (Ok start) u
+  full_late : (t u : State) → Collects p s t → Refuses words t u → Makes_late p kind words s (Err HeapFull) u
+  stuck_late : (u : State) → Spoils p s u → Makes_late p kind words s (Err (Trap 9)) u
 
 -- a cell was made at once; or its request was refused, and what follows is after one collection
 pub data Makes (p : Program) (kind words : ℕ) (s : State) : Result ℕ Outcome → State → Type 0 where
@@ -61,4 +61,4 @@ GivesCell i (Err outcome) u progress = progress ≡ Ends u outcome
 
 pub data Makes_fixed (p : Program) (i : Instr) (kind : ℕ) (s : State) (words : Result ℕ Outcome) : Progress → Type 0 where
   not_fixed : (outcome : Outcome) → words ≡ Err outcome → Makes_fixed p i kind s words (Ends s outcome)
-  makes : (n : ℕ) (made : Result ℕ Outcome) (u : State) (progress : Progress) → words ≡ Ok n → Makes p kind n s made u → GivesCell i made u progress → Makes_fixed p i kind s words progress
+  makes_fixed : (n : ℕ) (made : Result ℕ Outcome) (u : State) (progress : Progress) → words ≡ Ok n → Makes p kind n s made u → GivesCell i made u progress → Makes_fixed p i kind s words progress

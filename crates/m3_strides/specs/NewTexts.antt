@@ -17,7 +17,7 @@ use Rattle.m3_memory.specs.Addresses.{is_from}
 use Rattle.m3_strides.specs.State.{State, Becomes, memory_of, running_thread, with_regs, with_all}
 use Rattle.m3_strides.specs.Act.{finding, or_trap}
 use Rattle.m3_strides.specs.Acts.{has_text}
-use Rattle.m3_strides.specs.Progress.{Progress, Goes, Ends, traps}
+use Rattle.m3_strides.specs.Progress.{Progress, Goes, Ends, ends_with_trap}
 use Rattle.m3_strides.specs.Texts.{text_words, text_bytes, text_rest}
 use Rattle.m3_strides.specs.Making.{Makes}
 
@@ -35,7 +35,7 @@ pub record Fills (p : Program) (a : ℕ) (start : ℕ) (words : List ℕ) (made 
 -- all of them are there they are put into it
 
 abbrev pub FillsText : Program → ℕ → ℕ → Option (List ℕ) → State → Thread → Progress → Type 0
-FillsText p a start None made t progress = progress ≡ traps 2 made
+FillsText p a start None made t progress = progress ≡ ends_with_trap 2 made
 FillsText p a start (Some bytes) made t progress = Fills p a start (text_rest bytes) made t progress
 
 -- what becomes of the state in which a text was made, or wasn't
@@ -118,7 +118,7 @@ GivesOpen p a sizes (Err outcome) u progress = progress ≡ Ends u outcome
 pub data Makes_open (p : Program) (t : Thread) (i : Instr) (s : State) (told : Result CellType Outcome) : Progress → Type 0 where
   not_open : (outcome : Outcome) → told ≡ Err outcome → Makes_open p t i s told (Ends s outcome)
   no_sizes : (form : CellType) (outcome : Outcome) → told ≡ Ok form → Fails_at_size (memory_of p s) (reg t.regs i.b) form.dims outcome → Makes_open p t i s told (Ends s outcome)
-  makes : (form : CellType) (sizes : List ℕ) (made : Result ℕ Outcome) (u : State) (progress : Progress) → told ≡ Ok form → Sizes (memory_of p s) (reg t.regs i.b) form.dims sizes
+  makes_open : (form : CellType) (sizes : List ℕ) (made : Result ℕ Outcome) (u : State) (progress : Progress) → told ≡ Ok form → Sizes (memory_of p s) (reg t.regs i.b) form.dims sizes
       → Makes p (cast_unsigned w32 i.imm) (open_words form sizes) s made u → GivesOpen p i.a sizes made u progress → Makes_open p t i s told progress
 
 -- ---- FORK
@@ -145,5 +145,5 @@ GivesThread p i (Err outcome) u progress = progress ≡ Ends u outcome
 
 pub data Forks_thread (p : Program) (i : Instr) (s : State) : Progress → Type 0 where
   too_many : length s.all.threads ≡ s.all.allowed → Forks_thread p i s (Ends s ThreadsFull)
-  makes : (made : Result ℕ Outcome) (u : State) (progress : Progress) → length s.all.threads ≢ s.all.allowed → Makes p 1 4 s made u → GivesThread p i made u progress
+  makes_thread : (made : Result ℕ Outcome) (u : State) (progress : Progress) → length s.all.threads ≢ s.all.allowed → Makes p 1 4 s made u → GivesThread p i made u progress
       → Forks_thread p i s progress

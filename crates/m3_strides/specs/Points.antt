@@ -21,7 +21,7 @@ later_entries (entry ∷ entries) = entries
 abbrev pub passed : State → State
 passed s = record s { points = raised 64 s.points }
 
--- the heap is collected where the entry asks for it; that may meet trap 9
+-- the heap is collected where the entry asks for it, or that meets trap 9
 pub data Collected_if (p : Program) (s : State) : Bool → Option State → Type 0 where
   left : Collected_if p s false (Some s)
   made : (u : State) → Collects p s u → Collected_if p s true (Some u)
@@ -41,12 +41,12 @@ pub record Chooses (p : Program) (entry : Entry) (s turn : State) : Type 0 where
   pub turns : turn ≡ runs_on ready chosen
 
 -- or the run stops here: no thread may go, before the points are counted or once the heap was collected; or the
--- collection meets trap 9
-pub data Stops (p : Program) (entry : Entry) (s : State) : State → Outcome → Type 0 where
-  nobody : NoneGoes s.all (outside p s) → Stops p entry s s Deadlock
-  trapped : (u : State) → (NoneGoes s.all (outside p s) → ⊥) → Collected_if p (passed s) entry.collect None → Spoils (passed s) u → Stops p entry s u (Trap 9)
+-- collection has to stop, in trap 9
+pub data StopsAtPoint (p : Program) (entry : Entry) (s : State) : State → Outcome → Type 0 where
+  nobody : NoneGoes s.all (outside p s) → StopsAtPoint p entry s s Deadlock
+  trapped : (u : State) → (NoneGoes s.all (outside p s) → ⊥) → Collected_if p (passed s) entry.collect None → Spoils p (passed s) u → StopsAtPoint p entry s u (Trap 9)
   nobody_left : (ready : State) → (NoneGoes s.all (outside p s) → ⊥) → Collected_if p (passed s) entry.collect (Some ready)
-      → NoneGoes ready.all (outside p ready) → Stops p entry s ready Deadlock
+      → NoneGoes ready.all (outside p ready) → StopsAtPoint p entry s ready Deadlock
 
 -- what the machine says where no points are left
 pub data Says_spent (p : Program) (s : State) : Outcome → Type 0 where

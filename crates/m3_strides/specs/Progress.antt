@@ -16,8 +16,8 @@ pub data Progress : Type 0 where
   Rests : State → Progress
   Ends : State → Outcome → Progress
 
-abbrev pub traps : ℕ → State → Progress
-traps n s = Ends s (Trap n)
+abbrev pub ends_with_trap : ℕ → State → Progress
+ends_with_trap n s = Ends s (Trap n)
 
 -- the answer of an instruction that trapped
 abbrev pub trapped : ℕ → Answer
@@ -36,7 +36,7 @@ GoesOver p s memory _ = ⊥
 
 -- what an act of the running thread makes of a state
 abbrev pub Follows : Program → Act → State → Progress → Type 0
-Follows p (act.Goes regs) s progress = progress ≡ Goes (with_regs s regs)
+Follows p (act.Proceeds regs) s progress = progress ≡ Goes (with_regs s regs)
 Follows p (act.Writes regs memory) s progress = GoesOver p (with_regs s regs) memory progress
 Follows p (act.Puts bytes regs) s progress = progress ≡ Goes (with_regs s regs)
 Follows p (act.Takes regs) s progress = progress ≡ Goes (with_regs (record s { taken = s.taken + 1 }) regs)

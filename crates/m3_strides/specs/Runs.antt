@@ -12,7 +12,7 @@ use Rattle.m3_strides.specs.State.{State, start, with_all, running_thread, execu
 use Rattle.m3_strides.specs.Progress.{Progress, Goes, Rests, Ends}
 use Rattle.m3_strides.specs.NewTexts.{standing_at}
 use Rattle.m3_strides.specs.Steps.{Does}
-use Rattle.m3_strides.specs.Points.{Chooses, Stops, Says_spent, first_entry, later_entries}
+use Rattle.m3_strides.specs.Points.{Chooses, StopsAtPoint, Says_spent, first_entry, later_entries}
 
 -- where a run is: in a turn that has executed so many instructions, at a machine point, or over
 pub data Place : Type 0 where
@@ -49,7 +49,7 @@ pub data Settles (p : Program) (k : ℕ) : Progress → Place → Type 0 where
   lasts_too_long : (u : State) (t : Thread) (i : Instr) → running_thread u ≡ Some t → slice_get p.code t.regs.pc ≡ Some i → is_point i.op ≡ false
       → turn_limit p u ≤ k → Settles p k (Goes u) (Over u (Trap 8))
   rests : (u : State) → Settles p k (Rests u) (At_point u)
-  ended : (u : State) (outcome : Outcome) → Settles p k (Ends u outcome) (Over u outcome)
+  run_ends : (u : State) (outcome : Outcome) → Settles p k (Ends u outcome) (Over u outcome)
 
 -- the running thread carries out the instruction that it stands at, as number k of its turn, and puts these bytes
 pub record Carries_out (p : Program) (input : List ℕ) (k : ℕ) (s : State) (bytes : List ℕ) (place : Place) : Type 0 where
@@ -70,7 +70,7 @@ pub data Moves (p : Program) (input : List ℕ) (allowed : ℕ) : Config → Con
       → Moves p input allowed c (then_at c place bytes)
   at_point : (s turn : State) (c : Config) (bytes : List ℕ) (place : Place) → c.place ≡ At_point s → s.points < allowed → Chooses p (first_entry c.entries) s turn
       → Carries_out p input 1 turn bytes place → Moves p input allowed c (then_at (record c { entries = later_entries c.entries }) place bytes)
-  stops : (s u : State) (c : Config) (outcome : Outcome) → c.place ≡ At_point s → s.points < allowed → Stops p (first_entry c.entries) s u outcome
+  stops : (s u : State) (c : Config) (outcome : Outcome) → c.place ≡ At_point s → s.points < allowed → StopsAtPoint p (first_entry c.entries) s u outcome
       → Moves p input allowed c (then_at c (Over u outcome) [])
   spent : (s : State) (c : Config) (outcome : Outcome) → c.place ≡ At_point s → s.points ≡ allowed → Says_spent p s outcome
       → Moves p input allowed c (then_at c (Over s outcome) [])

@@ -6,7 +6,7 @@ ghost use Rattle.m3_threads.specs.declared.status.Status.TheVariants.{Ready};
 ghost use Rattle.m3_threads.specs.Going.{status_at};
 ghost use Rattle.m3_decoded.specs.Ready.{image_of};
 ghost use Rattle.m3_strides.specs.Leading.{Track, Goes_in, Stands_in, Halts_in, KeepsWhole, further, halted, Counts};
-ghost use Rattle.m3_strides.specs.declared.halts.Halt.TheVariants.{Left, Other};
+ghost use Rattle.m3_strides.specs.declared.halts.Halt.TheVariants.{Used, Left, Other};
 
 use crate::halts::Halt;
 use crate::near::{Place, Stack, before, called_method, register};
@@ -72,49 +72,6 @@ impl Fuel {
     {
         self.points -= 1;
         self.floor = self.left - self.limit;
-    }
-}
-
-/// Whether an instruction concerns the registers and the memory alone.
-#[inline(always)]
-fn is_plain(op: Op) -> bool
-    ensures { result ≡ plain op }
-{
-    match op {
-        Op::Call
-        | Op::Callr
-        | Op::Callm
-        | Op::Ret
-        | Op::Meth
-        | Op::Subt
-        | Op::New
-        | Op::Newo
-        | Op::Point
-        | Op::Fault
-        | Op::Unc
-        | Op::Endp
-        | Op::Endt
-        | Op::Cat
-        | Op::Tchr
-        | Op::Tsub
-        | Op::Fork
-        | Op::Join
-        | Op::Acq
-        | Op::Rel
-        | Op::Wait
-        | Op::Sig
-        | Op::Bca
-        | Op::Self_
-        | Op::Put
-        | Op::Putn
-        | Op::Putc
-        | Op::Alert
-        | Op::Talert
-        | Op::Await
-        | Op::Ajoin
-        | Op::Getc
-        | Op::Eof => false,
-        _ => true,
     }
 }
 
@@ -204,36 +161,6 @@ fn pass_near<S: Store>(
     }
 }
 
-/// A plain instruction.
-#[inline(always)]
-fn go_plainly<S: Store>(
-    image: &Decoded<'_>,
-    i: &Instr,
-    r: &mut [u64; 16],
-    at: &mut Place,
-    memory: &mut Memory<S>,
-    stack: Stack,
-    fuel: &mut Fuel,
-) -> Option<Halt>
-    requires instruction { IsInstruction i.now }
-    requires operation { plain i.now.op ≡ true }
-    requires some { fuel.old.floor < fuel.old.left }
-    ensures counts { Counts fuel.old fuel.new }
-    ensures halts { IfSome result (λ halt. (halt ≡ Other → ⊥) × (halt ≡ Left → ⊥)) }
-    ensures keeps { KeepsWhole memory.old memory.new }
-    ensures strides { (k : Track) → slice_get (image_of image.now).program.code at.old.pc ≡ Some i.now
-        → Stands_in (image_of image.now).program k stack fuel.old.limit (fuel.old.left - fuel.old.floor) fuel.old.points r.old at.old memory.old
-        → Halts_in (image_of image.now).program (further k (fuel.old.points - fuel.new.points) (fuel.old.left - fuel.new.left)) stack
-        fuel.new.limit (fuel.new.left - fuel.new.floor) fuel.new.points r.new at.new memory.new (halted result) }
-{
-    fuel.left -= 1;
-    match carry_out(i, r, &mut at.pc, at.fp, memory) {
-        Step::Went => None,
-        Step::Trapped(n) => Some(Halt::Trapped(n)),
-        Step::Other => Some(Halt::Trapped(1)),
-    }
-}
-
 /// A return or a test of a type, where it is found.
 #[inline(always)]
 fn go_by<S: Store>(
@@ -299,6 +226,35 @@ fn go_past<S: Store>(
     }
 }
 
+/// An instruction that isn't plain, where nothing has to be chosen or done before or after it.
+#[inline(always)]
+fn go_otherwise<S: Store>(
+    image: &Decoded<'_>,
+    i: &Instr,
+    r: &mut [u64; 16],
+    at: &mut Place,
+    memory: &mut Memory<S>,
+    stack: Stack,
+    fuel: &mut Fuel,
+) -> Option<Halt>
+    requires instruction { IsInstruction i.now }
+    requires inside { at.old.pc < length (image_of image.now).program.code }
+    requires some { fuel.old.floor < fuel.old.left }
+    ensures counts { IfNone result (Counts fuel.old fuel.new) }
+    ensures halts { IfSome result (λ halt. (fuel.new ≡ fuel.old) × (at.new ≡ at.old) × (halt ≡ Other)) }
+    ensures keeps { KeepsWhole memory.old memory.new }
+    ensures strides { (k : Track) → slice_get (image_of image.now).program.code at.old.pc ≡ Some i.now
+        → Stands_in (image_of image.now).program k stack fuel.old.limit (fuel.old.left - fuel.old.floor) fuel.old.points r.old at.old memory.old
+        → Halts_in (image_of image.now).program (further k (fuel.old.points - fuel.new.points) (fuel.old.left - fuel.new.left)) stack
+        fuel.new.limit (fuel.new.left - fuel.new.floor) fuel.new.points r.new at.new memory.new (halted result) }
+{
+    if i.op.is_point() {
+        go_past(image, i, r, at, memory, stack, fuel)
+    } else {
+        go_by(image, i, r, at, memory, stack, fuel)
+    }
+}
+
 /// Carries out one instruction. Or it says why it didn't, or that it trapped.
 #[inline(always)]
 fn go_on<S: Store>(
@@ -314,20 +270,23 @@ fn go_on<S: Store>(
     requires inside { at.old.pc < length (image_of image.now).program.code }
     requires some { fuel.old.floor < fuel.old.left }
     ensures counts { IfNone result (Counts fuel.old fuel.new) }
-    ensures halts { IfSome result (λ halt. (fuel.new.left ≤ fuel.old.left) × (fuel.new.points ≤ fuel.old.points) × (fuel.new.points ≡ fuel.old.points → fuel.new.floor ≡ fuel.old.floor) × (halt ≡ Other → (plain i.now.op ≡ false) × (at.new ≡ at.old)) × (halt ≡ Left → ⊥)) }
+    ensures halts { IfSome result (λ halt. (fuel.new.left ≤ fuel.old.left) × (fuel.new.points ≤ fuel.old.points) × (fuel.new.points ≡ fuel.old.points → fuel.new.floor ≡ fuel.old.floor) × (halt ≡ Other → (plain i.now.op ≡ false) × (at.new ≡ at.old)) × (halt ≡ Left → ⊥) × (halt ≡ Used → ⊥)) }
     ensures keeps { KeepsWhole memory.old memory.new }
     ensures strides { (k : Track) → slice_get (image_of image.now).program.code at.old.pc ≡ Some i.now
         → Stands_in (image_of image.now).program k stack fuel.old.limit (fuel.old.left - fuel.old.floor) fuel.old.points r.old at.old memory.old
         → Halts_in (image_of image.now).program (further k (fuel.old.points - fuel.new.points) (fuel.old.left - fuel.new.left)) stack
         fuel.new.limit (fuel.new.left - fuel.new.floor) fuel.new.points r.new at.new memory.new (halted result) }
 {
-    if is_plain(i.op) {
-        return go_plainly(image, i, r, at, memory, stack, fuel);
-    }
-    if i.op.is_point() {
-        go_past(image, i, r, at, memory, stack, fuel)
-    } else {
-        go_by(image, i, r, at, memory, stack, fuel)
+    match carry_out(i, r, &mut at.pc, at.fp, memory) {
+        Step::Went => {
+            fuel.left -= 1;
+            None
+        }
+        Step::Trapped(n) => {
+            fuel.left -= 1;
+            Some(Halt::Trapped(n))
+        }
+        Step::Other => go_otherwise(image, i, r, at, memory, stack, fuel),
     }
 }
 
@@ -343,6 +302,7 @@ fn go<S: Store>(
 ) -> Halt
     ensures counts { (fuel.new.left ≤ fuel.old.left) × (fuel.new.points ≤ fuel.old.points) × (fuel.new.points ≡ fuel.old.points → fuel.new.floor ≡ fuel.old.floor) }
     ensures keeps { KeepsWhole memory.old memory.new }
+    ensures ends { result ≡ Used → ⊥ }
     ensures past { result ≡ Left → length (image_of image.now).program.code ≤ at.new.pc }
     ensures other { result ≡ Other → fuel.new.floor < fuel.new.left → (i : Instruction) → slice_get (image_of image.now).program.code at.new.pc ≡ Some i → plain i.op ≡ false }
     ensures strides { (k : Track) → Stands_in (image_of image.now).program k stack fuel.old.limit (fuel.old.left - fuel.old.floor) fuel.old.points r.old at.old memory.old
@@ -378,6 +338,7 @@ pub fn stride<S: Store>(
     ensures left { pace.new.points ≡ pace.old.points → pace.new.left ≤ pace.old.left }
     ensures few { result.1 ≤ 4611686018427387904 }
     ensures keeps { KeepsWhole memory.old memory.new }
+    ensures ends { result.0 ≡ Used → ⊥ }
     ensures past { result.0 ≡ Left → length (image_of image.now).program.code ≤ at.new.pc }
     ensures other { result.0 ≡ Other → 1 ≤ pace.new.left → (i : Instruction) → slice_get (image_of image.now).program.code at.new.pc ≡ Some i → plain i.op ≡ false }
     ensures strides { (k : Track) → Stands_in (image_of image.now).program k stack pace.old.limit pace.old.left pace.old.points r.old at.old memory.old

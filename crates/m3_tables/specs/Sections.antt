@@ -180,12 +180,12 @@ directory_fault section =
 abbrev pub end_fault : List ℕ → Option ℕ
 end_fault section = if start_of section (word_in section) == length (body_of section) then None else Some (word_in section)
 
-abbrev pub or_else : Option ℕ → Option ℕ → Option ℕ
-or_else first second = option_map_or (λ n. Some n) first second
+abbrev pub first_fault : Option ℕ → Option ℕ → Option ℕ
+first_fault first second = option_map_or (λ n. Some n) first second
 
 -- the directory first, then the rows in order, then bytes after them
 unfoldable pub fault_of : List ℕ → Option ℕ
-fault_of section = or_else (directory_fault section) (or_else (first_bad section (word_in section)) (end_fault section))
+fault_of section = first_fault (directory_fault section) (first_fault (first_bad section (word_in section)) (end_fault section))
 
 -- ---- tests of all places of a row
 

@@ -8,7 +8,7 @@ use Rattle.m3_tables.specs.declared.row.Row.{Row}
 use Rattle.m3_tables.specs.Numbers.{word_in, has}
 use Rattle.m3_tables.specs.Places.{number_of}
 use Rattle.m3_tables.specs.Rows.{Entry}
-use Rattle.m3_tables.specs.Sections.{is_tidy, tidy_list, contents_in, first_bad, end_fault, or_else}
+use Rattle.m3_tables.specs.Sections.{is_tidy, tidy_list, contents_in, first_bad, end_fault, first_fault}
 
 -- the bytes of the section
 abbrev pub section_of : TableView → List ℕ
@@ -28,7 +28,7 @@ number_of_row r = r.number
 pub record IsFront (section : List ℕ) (front : TableFront) : Type 0 where
   pub bytes : section_of front.rows ≡ section
   pub rows : row_count front.rows ≡ unwrap_or (first_bad section (word_in section)) (word_in section)
-  pub fault : front.fault ≡ or_else (first_bad section (word_in section)) (end_fault section)
+  pub fault : front.fault ≡ first_fault (first_bad section (word_in section)) (end_fault section)
 
 -- whether a place is one that a test of numbers takes; a place without a number is none
 abbrev pub is_place_in : (ℕ → Bool) → Location → Bool

@@ -26,7 +26,7 @@ pub struct TableFront<'a> {
 
 impl<'a> TableView<'a> {
     ghost use Rattle.std.specs.Prelude.{◌≢◌, ◌↔◌, None, Some, IfSome, IfNone, MatchResult, unwrap_or};
-    ghost use Rattle.m3_tables.specs.Sections.{directory_fault, first_bad, end_fault, or_else, fault_of, instruction_in, listed_in};
+    ghost use Rattle.m3_tables.specs.Sections.{directory_fault, first_bad, end_fault, first_fault, fault_of, instruction_in, listed_in};
     ghost use Rattle.m3_tables.specs.Tables.{section_of, row_count, section_of_row, number_of_row, IsFront};
 
     /// The rows before the first bad one. The error is what is wrong with the directory: the count of rows,

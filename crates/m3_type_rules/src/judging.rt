@@ -1,8 +1,8 @@
 use m3_base::{NoMemory, Pos, place_number};
-use m3_declarer::{Declarer, init_of};
-use m3_gather::TypeAt;
-use m3_scopes::{EntityId, EntityKind};
-use m3_syntax::{Decl, Init, ObjectPart, Signature, TypeExp};
+use m3_declarer::Declarer;
+use m3_gathered::TypeAt;
+use m3_scopes::{Declaration, EntityId, EntityKind};
+use m3_syntax::{Init, ObjectPart, Signature, TypeExp};
 use m3_types::{TypeId, TypeNode};
 
 /// Which types a place forbids beside empty ordinal types.
@@ -219,13 +219,13 @@ fn judge_entity<'a>(declarer: &mut Declarer<'_, 'a>, id: EntityId) {
     ) else {
         return;
     };
-    match (entity.kind, entity.declaration) {
+    match (entity.kind, declarer.declaration(&entity)) {
         (EntityKind::Variable, _) => {
-            if let Some(init) = init_of(&entity) {
+            if let Some(init) = declarer.init_of(&entity) {
                 judge_held(declarer, entity.unit, place_of(init), kind, Open::Forbidden);
             }
         }
-        (EntityKind::Procedure, Some(Decl::Procedure { signature, .. })) => {
+        (EntityKind::Procedure, Some(Declaration::Procedure { signature, .. })) => {
             judge_signature(declarer, entity.unit, kind, signature);
         }
         _ => {}

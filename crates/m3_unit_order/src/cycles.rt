@@ -1,6 +1,6 @@
 use m3_base::{NoMemory, place_number};
 use m3_scopes::Linker;
-use m3_syntax::{Import, Name};
+use m3_syntax::{Import, Name, Unit};
 use std::alloc::Global;
 
 /// Which units lead to which, along any number of steps once it is closed.
@@ -66,10 +66,14 @@ fn join(row: &mut [bool], onward: &[bool]) {
 }
 
 /// Refuses the first import that lies on a cycle of given interfaces (rule 22).
-pub fn judge_imports(linker: &mut Linker<'_>, alloc: Global) -> Result<(), NoMemory> {
+pub fn judge_imports<'a>(
+    linker: &mut Linker<'a>,
+    alloc: Global,
+    units: &[Unit<'a>],
+) -> Result<(), NoMemory> {
     let reach = import_reach(linker, alloc)?;
-    for place in 0..linker.units.len() {
-        judge_unit(linker, &reach, place)?;
+    for (place, unit) in units.iter().enumerate() {
+        judge_unit(linker, &reach, unit, place)?;
     }
     Ok(())
 }
@@ -83,7 +87,7 @@ fn is_given_interface(linker: &Linker<'_>, unit: u32) -> bool {
 
 /// What imports of given interfaces lead to.
 fn import_reach(linker: &Linker<'_>, alloc: Global) -> Result<Reachability, NoMemory> {
-    let mut reach = Reachability::new(alloc, linker.units.len())?;
+    let mut reach = Reachability::new(alloc, linker.infos.len())?;
     for (place, info) in linker.infos.iter().enumerate() {
         if let Ok(from) = u32::try_from(place) {
             if is_given_interface(linker, from) {
@@ -97,10 +101,12 @@ fn import_reach(linker: &Linker<'_>, alloc: Global) -> Result<Reachability, NoMe
     Ok(reach)
 }
 
-fn judge_unit(linker: &mut Linker<'_>, reach: &Reachability, place: usize) -> Result<(), NoMemory> {
-    let Some(unit) = linker.units.get(place).copied() else {
-        return Ok(());
-    };
+fn judge_unit<'a>(
+    linker: &mut Linker<'a>,
+    reach: &Reachability,
+    unit: &Unit<'a>,
+    place: usize,
+) -> Result<(), NoMemory> {
     linker.unit = place_number(place)?;
     if !is_given_interface(linker, linker.unit) {
         return Ok(());

@@ -7,7 +7,7 @@ use std::alloc::Global;
 /// that has not run and whose awaited modules have run, and last the module that exports Main.
 pub fn body_order(
     alloc: Global,
-    infos: &[UnitInfo],
+    infos: &[UnitInfo<'_>],
     main: Option<u32>,
 ) -> Result<Vec<u32>, NoMemory> {
     let depends = dependences(alloc, infos)?;
@@ -27,7 +27,7 @@ pub fn body_order(
 }
 
 /// The modules but the one that exports Main, in command order.
-fn modules(alloc: Global, infos: &[UnitInfo], main: Option<u32>) -> Result<Vec<u32>, NoMemory> {
+fn modules(alloc: Global, infos: &[UnitInfo<'_>], main: Option<u32>) -> Result<Vec<u32>, NoMemory> {
     let mut modules = Vec::new(alloc);
     for (place, info) in infos.iter().enumerate() {
         let unit = place_number(place)?;
@@ -47,7 +47,7 @@ fn next_module(depends: &Reachability, left: &[u32]) -> Option<usize> {
 
 /// Which modules depend on which: a module on each that exports an interface which it uses, and on
 /// what these depend on.
-fn dependences(alloc: Global, infos: &[UnitInfo]) -> Result<Reachability, NoMemory> {
+fn dependences(alloc: Global, infos: &[UnitInfo<'_>]) -> Result<Reachability, NoMemory> {
     let uses = uses(alloc, infos)?;
     let mut depends = Reachability::new(alloc, infos.len())?;
     for (place, info) in infos.iter().enumerate() {
@@ -64,7 +64,7 @@ fn dependences(alloc: Global, infos: &[UnitInfo]) -> Result<Reachability, NoMemo
 fn add_users(
     depends: &mut Reachability,
     uses: &Reachability,
-    infos: &[UnitInfo],
+    infos: &[UnitInfo<'_>],
     exported: u32,
     exporter: u32,
 ) -> Result<(), NoMemory> {
@@ -78,7 +78,7 @@ fn add_users(
 }
 
 /// Which interfaces each unit uses: those that it imports or exports, and what these import.
-fn uses(alloc: Global, infos: &[UnitInfo]) -> Result<Reachability, NoMemory> {
+fn uses(alloc: Global, infos: &[UnitInfo<'_>]) -> Result<Reachability, NoMemory> {
     let mut uses = Reachability::new(alloc, infos.len())?;
     for (place, info) in infos.iter().enumerate() {
         let unit = place_number(place)?;

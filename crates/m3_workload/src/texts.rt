@@ -1,3 +1,6 @@
+ghost use Rattle.std.specs.Prelude.{◌≡◌, IfOk};
+ghost use Rattle.m3_workload.specs.Schedules.{schedule_of};
+
 use crate::schedules::schedule;
 use m3_base::{Bytes, Entry, NoMemory};
 use std::alloc::Global;
@@ -37,7 +40,9 @@ U15.F(U16.F(U17.F(U18.F(U19.F(total))))))))))))))))))))); IO.PutChar('\\n')
 END Main.";
 
 impl Workload {
-    fn add(&mut self, alloc: Global, name: &str, text: &str) -> Result<(), NoMemory> {
+    fn add(&mut self, alloc: Global, name: &str, text: &str) -> Result<(), NoMemory>
+        ensures schedule { self.new.schedule.items ≡ self.old.schedule.items }
+    {
         self.names.push(Bytes::of(alloc, name.as_bytes())?)?;
         self.texts.push(Bytes::of(alloc, text.as_bytes())?)?;
         Ok(())
@@ -45,7 +50,9 @@ impl Workload {
 
     /// Adds the interface and the module of a unit, whose procedure adds its number to what it is
     /// given.
-    fn add_unit(&mut self, alloc: Global, unit: u32) -> Result<(), NoMemory> {
+    fn add_unit(&mut self, alloc: Global, unit: u32) -> Result<(), NoMemory>
+        ensures schedule { self.new.schedule.items ≡ self.old.schedule.items }
+    {
         let name = format!(in alloc; "U{unit}.i3")?;
         let text = format!(in alloc;
             "INTERFACE U{unit}; PROCEDURE F(x: INTEGER): INTEGER; END U{unit}."
@@ -62,7 +69,9 @@ impl Workload {
 
 /// The workload of a number: only its last three digits change the program, and all of it the
 /// schedule.
-pub fn make(alloc: Global, number: u64) -> Result<Workload, NoMemory> {
+pub fn make(alloc: Global, number: u64) -> Result<Workload, NoMemory>
+    ensures schedule { IfOk result (λ workload. workload.schedule.items ≡ schedule_of number) }
+{
     let mut workload = Workload {
         names: Vec::new(alloc),
         texts: Vec::new(alloc),

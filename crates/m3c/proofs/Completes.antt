@@ -107,7 +107,7 @@ not_plain call files name text puts f h g p (inr n) =
 
 is_other : (call : Call) (status : ℕ) → AnswersOther call status → IsOther call.file call.shelf.held.0
 is_other call status (of_words s none commands) = inl none
-is_other call status (of_text name s result named text carried told) = inr text
+is_other call status (of_text name limits s result named text carried told) = inr text
 
 pub other_promised : (call : Call) (status : ℕ) → AnswersOther call status → Promises call status
 other_promised call status answers = record {

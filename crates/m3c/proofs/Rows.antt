@@ -13,7 +13,7 @@ use Rattle.m3_build.specs.Terms.{Term, Value, Gives, Overflows, value_of, ended_
 use Rattle.m3_build.specs.Machine.{State, Ends, run, start}
 use Rattle.m3c.specs.declared.machine.Ended.{Ended}
 use Rattle.m3_image_commands.specs.Statuses.{Putting, CountRose, Took}
-use Rattle.m3c.specs.Command.{Call, IsSilent, Says, IsRead, report, Ran, Refuses, NotPlain, Answers}
+use Rattle.m3c.specs.Command.{Call, IsSilent, Says, IsRead, report, Ran, Refuses, NotPlainText, Answers}
 use Rattle.m3c.specs.Compiled.{Compiles}
 use Rattle.m3c.proofs.Loops.{same_end}
 
@@ -100,7 +100,7 @@ row_fault call row = record {
 }
 
 -- a text that was read and isn't in the plain form
-pub not_plain_text : (held : Option Files) (name text before after bytes : List ℕ) → after ≡ before ++ bytes → before ≡ [] → text ≡ after → length bytes ≤ 1048576 → IfSome held (λ files. get files name ≡ Some bytes) → ((puts : List Term) → IsPlain text puts → ⊥) → NotPlain (Some name) held
+pub not_plain_text : (held : Option Files) (name text before after bytes : List ℕ) → after ≡ before ++ bytes → before ≡ [] → text ≡ after → length bytes ≤ 1048576 → IfSome held (λ files. get files name ≡ Some bytes) → ((puts : List Term) → IsPlain text puts → ⊥) → NotPlainText (Some name) held
 not_plain_text held name text before after bytes e empty same short told other =
     let t : bytes ≡ text = sym (same ∙ e ∙ ap (λ b. b ++ bytes) empty) in
     record {

@@ -17,7 +17,8 @@ use Rattle.m3_image_commands.specs.declared.answers.Answer.{Answer}
 use Rattle.m3_image_commands.specs.declared.answers.Refusal.{Refusal}
 use Rattle.m3_image_commands.specs.Statuses.{Shelving, Putting, Tells}
 pub use Rattle.m3_image_commands.specs.Statuses.{CountRose, Took}
-use Rattle.m3_source_commands.specs.Orders.{exec, CarriesOut, Commands}
+use Rattle.m3_image_commands.specs.Reports.{Setting}
+use Rattle.m3_source_commands.specs.Orders.{exec, Fulfils, Commands}
 
 -- ---- the words
 
@@ -102,7 +103,7 @@ pub record Refuses (call : Call) (cause : List ℕ) (Holds : List ℕ → Type 0
   pub says : Says call (cause ++ codes " " ++ name)
 
 -- the words name a file that was read, and its text isn't in the plain form
-pub record NotPlain (file : Option (List ℕ)) (held : Option Files) : Type 0 where
+pub record NotPlainText (file : Option (List ℕ)) (held : Option Files) : Type 0 where
   pub name : List ℕ
   pub text : List ℕ
   pub named : file ≡ Some name
@@ -112,7 +113,7 @@ pub record NotPlain (file : Option (List ℕ)) (held : Option Files) : Type 0 wh
 
 -- the words are another command than exec FILE with a text in the plain form
 abbrev pub IsOther : Option (List ℕ) → Option Files → Type 0
-IsOther file held = (file ≡ None) ⊎ NotPlain file held
+IsOther file held = (file ≡ None) ⊎ NotPlainText file held
 
 -- each status of a text in the plain form, or of a file that can't be fetched, and when it comes
 pub record Answers (call : Call) (status : ℕ) : Type 0 where
@@ -141,8 +142,8 @@ IsComplete call status =
 -- any other command than exec FILE; or exec FILE with a text that isn't in the plain form
 pub data AnswersOther (call : Call) : ℕ → Type 0 where
   of_words : (status : ℕ) → call.file ≡ None → Commands call.shelf call.out call.err call.image status → AnswersOther call status
-  of_text : (name : List ℕ) (status : ℕ) (result : Result Answer Refusal) → call.file ≡ Some name → NotPlain call.file call.shelf.held.0
-      → CarriesOut (exec (name ∷ []) None None) call.shelf call.out call.image result → Tells call.err result status → AnswersOther call status
+  of_text : (name : List ℕ) (limits : Setting) (status : ℕ) (result : Result Answer Refusal) → call.file ≡ Some name → NotPlainText call.file call.shelf.held.0
+      → Fulfils (exec (name ∷ []) None None limits) call.shelf call.out call.image result → Tells call.err result status → AnswersOther call status
 
 -- the table, and completeness
 pub record Promises (call : Call) (status : ℕ) : Type 0 where

@@ -9,7 +9,7 @@ ghost use Rattle.m3_build.specs.Terms.{Term};
 ghost use Rattle.m3_build.specs.PlainForm.{IsPlain};
 ghost use Rattle.m3_image_commands.specs.Statuses.{Took};
 ghost use Rattle.m3_source_commands.specs.Orders.{Commands};
-ghost use Rattle.m3c.specs.Command.{file_of, is_name, Answers, IsOther, NotPlain, Promises};
+ghost use Rattle.m3c.specs.Command.{file_of, is_name, Answers, IsOther, NotPlainText, Promises};
 ghost use Rattle.m3c.specs.Compiled.{Compiles, refusal, refusal_status};
 
 use crate::machine::run;
@@ -202,7 +202,7 @@ fn execute<F: Shelf, O: Sink>(
       out = record { taken = (O.taken out.old, O.taken out.new); faults = (O.faults out.old, O.faults out.new) };
       err = record { taken = (Some [], Some line.new.items); faults = (0, 0) };
       image = [];
-    }) status) (λ text. NotPlain (Some name.now) (F.held shelf.old)) }
+    }) status) (λ text. NotPlainText (Some name.now) (F.held shelf.old)) }
     ensures held { F.held shelf.new ≡ F.held shelf.old }
     ensures silent { IfErr result (λ text. (O.taken out.new ≡ O.taken out.old) × (O.faults out.new ≡ O.faults out.old)) }
 {

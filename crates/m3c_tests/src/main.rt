@@ -5,6 +5,7 @@
 mod answers;
 mod dumps;
 mod examples;
+mod heaps;
 mod shapes;
 mod steps;
 mod tables;

@@ -1,20 +1,36 @@
 use crate::answers::{Answer, FailingPuts, NO_FAILURE, answer_of, no_memory, text_of};
+use crate::heaps::suffices;
 use m3_ports::{MemShelf, Shelf};
 use std::alloc::{AllocError, Global};
 use std::io;
 
 /// What a step has to answer.
 #[derive(Clone, Copy)]
-struct Wanted<'a> {
-    status: &'a str,
+pub struct Wanted<'a> {
+    pub status: &'a str,
     /// What is put on out; None for anything.
-    out: Option<&'a str>,
+    pub out: Option<&'a str>,
     /// How what is put on err begins; all of it where it ends in a line feed.
-    err: &'a str,
+    pub err: &'a str,
     /// How what is put on err ends.
-    end: &'a str,
+    pub end: &'a str,
     /// A file that is held afterwards, and its bytes.
-    held: Option<(&'a str, &'a str)>,
+    pub held: Option<(&'a str, &'a str)>,
+}
+
+impl<'a> Wanted<'a> {
+    /// The same, but for the count of instructions and what stands behind it, which change with collections.
+    pub fn before_instructions(self) -> Wanted<'a> {
+        let (front, _) = self
+            .err
+            .split_once(" instructions")
+            .unwrap_or((self.err, ""));
+        Wanted {
+            err: front,
+            end: "",
+            ..self
+        }
+    }
 }
 
 /// A step: the words of its command, which calls of the ports fail, and what it has to answer.
@@ -25,6 +41,8 @@ struct Step<'a> {
     /// The number of the call of the shelf that fails, the files of the case counted; 0 for none.
     failing_call: u64,
     wanted: Wanted<'a>,
+    /// The words of the least heap with which the command answers so.
+    least_heap: Option<&'a str>,
     /// A line that says nothing.
     strange: Option<&'a str>,
 }
@@ -42,6 +60,7 @@ impl<'a> Step<'a> {
                 end: "",
                 held: None,
             },
+            least_heap: None,
             strange: None,
         }
     }
@@ -58,6 +77,7 @@ impl<'a> Step<'a> {
             "err" => self.wanted.err = value,
             "end" => self.wanted.end = value,
             "holds" => self.wanted.held = Some(value.split_once(" ").unwrap_or((value, ""))),
+            "least-heap" => self.least_heap = Some(value),
             "shelf-fails" => self.failing_call = number(value),
             "out-fails" => self.failing.out = number(value),
             "err-fails" => self.failing.err = number(value),
@@ -114,10 +134,15 @@ pub fn try_step(
     if !is_right {
         show(rt, step.words, &answer)?;
     }
-    Ok(is_right)
+    let is_least = match step.least_heap {
+        Some(least) => suffices(rt, step.words, step.wanted, shelf, least)?,
+        None => true,
+    };
+    Ok(is_right && is_least)
 }
 
-fn is_as_wanted(alloc: Global, answer: &Answer, wanted: Wanted) -> io::Result<bool> {
+/// Whether an answer is the one that is wanted.
+pub fn is_as_wanted(alloc: Global, answer: &Answer, wanted: Wanted) -> io::Result<bool> {
     let status = format!(in alloc; "{}", answer.status)?;
     let out = match wanted.out {
         Some(out) => answer.out.bytes() == unescaped(alloc, out)?.as_slice(),
@@ -143,7 +168,8 @@ fn holds(alloc: Global, shelf: &mut MemShelf, held: Option<(&str, &str)>) -> io:
     Ok(is_there && bytes.as_slice() == unescaped(alloc, text)?.as_slice())
 }
 
-fn show(rt: &(impl Print + AllocGlobal), words: &str, answer: &Answer) -> io::Result<()> {
+/// Shows what a command answered.
+pub fn show(rt: &(impl Print + AllocGlobal), words: &str, answer: &Answer) -> io::Result<()> {
     let status = answer.status;
     let out = text_of(rt.alloc(), answer.out.bytes())?;
     let err = text_of(rt.alloc(), answer.err.bytes())?;

@@ -1,5 +1,9 @@
-use Rattle.std.proofs.Common.{◌≤◌, length, ◌+◌, ◌*◌}
+use Rattle.std.proofs.Common.{◌≡◌, None, length, ◌+◌, ◌*◌}
+use Rattle.m3_grammar.specs.Expressions.{IsNots, IsSigns}
+use Rattle.m3_cursor.specs.Readers.{Follows, Reads}
+use Rattle.m3_phrases.specs.Spelled.{ReadsOperations, ReadsSelectors}
 use Rattle.m3_phrases.proofs.Looseness.{looseness}
+use Rattle.m3_phrases.proofs.Begun.{IndexesBegun, ActualsBegun}
 use Rattle.m3_phrases.proofs.+expressions.Given as goal
 
 abbrev pub decreases-expressions::expression : goal.decreases-expressions::expression
@@ -110,9 +114,6 @@ decreases-types::reference l = 64 * l.room + 2
 abbrev pub decreases-types::reference_or_object : goal.decreases-types::reference_or_object
 decreases-types::reference_or_object l = 64 * l.room + 12
 
-abbrev pub decreases-types::set : goal.decreases-types::set
-decreases-types::set l = 64 * l.room + 2
-
 abbrev pub decreases-types::subrange : goal.decreases-types::subrange
 decreases-types::subrange l = 64 * l.room + 2
 
@@ -123,79 +124,79 @@ abbrev pub decreases-types::untraced : goal.decreases-types::untraced
 decreases-types::untraced l = 64 * l.room + 12
 
 abbrev pub invariant-operands::actuals-actuals : goal.invariant-operands::actuals-actuals
-invariant-operands::actuals-actuals l = length l.reader.rest.now ≤ length l.initial.reader.rest.now
+invariant-operands::actuals-actuals l = record { follows : Follows l.initial.reader l.reader; reads : l.reader.stop ≡ None → ActualsBegun l.initial.reader.rest.now l.reader.rest.now l.actuals.items }
 
 abbrev pub decreases-operands::actuals-actuals : goal.decreases-operands::actuals-actuals
 decreases-operands::actuals-actuals l = length l.reader.rest.now
 
 abbrev pub invariant-types::array-indexes : goal.invariant-types::array-indexes
-invariant-types::array-indexes l = length l.reader.rest.now ≤ length l.initial.reader.rest.now
+invariant-types::array-indexes l = Follows l.initial.reader l.reader
 
 abbrev pub decreases-types::array-indexes : goal.decreases-types::array-indexes
 decreases-types::array-indexes l = length l.reader.rest.now
 
 abbrev pub invariant-operands::elements-elements : goal.invariant-operands::elements-elements
-invariant-operands::elements-elements l = length l.reader.rest.now ≤ length l.initial.reader.rest.now
+invariant-operands::elements-elements l = Follows l.initial.reader l.reader
 
 abbrev pub decreases-operands::elements-elements : goal.decreases-operands::elements-elements
 decreases-operands::elements-elements l = length l.reader.rest.now
 
 abbrev pub invariant-members::fields-fields : goal.invariant-members::fields-fields
-invariant-members::fields-fields l = length l.reader.rest.now ≤ length l.initial.reader.rest.now
+invariant-members::fields-fields l = Follows l.initial.reader l.reader
 
 abbrev pub decreases-members::fields-fields : goal.decreases-members::fields-fields
 decreases-members::fields-fields l = length l.reader.rest.now
 
 abbrev pub invariant-members::formals-formals : goal.invariant-members::formals-formals
-invariant-members::formals-formals l = length l.reader.rest.now ≤ length l.initial.reader.rest.now
+invariant-members::formals-formals l = Follows l.initial.reader l.reader
 
 abbrev pub decreases-members::formals-formals : goal.decreases-members::formals-formals
 decreases-members::formals-formals l = length l.reader.rest.now
 
 abbrev pub invariant-operands::indexes-indexes : goal.invariant-operands::indexes-indexes
-invariant-operands::indexes-indexes l = length l.reader.rest.now ≤ length l.initial.reader.rest.now
+invariant-operands::indexes-indexes l = record { follows : Follows l.initial.reader l.reader; reads : l.reader.stop ≡ None → IndexesBegun l.initial.reader.rest.now l.reader.rest.now l.indexes.items }
 
 abbrev pub decreases-operands::indexes-indexes : goal.decreases-operands::indexes-indexes
 decreases-operands::indexes-indexes l = length l.reader.rest.now
 
 abbrev pub invariant-members::methods-methods : goal.invariant-members::methods-methods
-invariant-members::methods-methods l = length l.reader.rest.now ≤ length l.initial.reader.rest.now
+invariant-members::methods-methods l = Follows l.initial.reader l.reader
 
 abbrev pub decreases-members::methods-methods : goal.decreases-members::methods-methods
 decreases-members::methods-methods l = length l.reader.rest.now
 
 abbrev pub invariant-expressions::negation-words : goal.invariant-expressions::negation-words
-invariant-expressions::negation-words l = length l.reader.rest.now ≤ length l.initial.reader.rest.now
+invariant-expressions::negation-words l = record { follows : Follows l.initial.reader l.reader; reads : Reads l.initial.reader l.reader (λ before after. IsNots before after l.words.items) }
 
 abbrev pub decreases-expressions::negation-words : goal.decreases-expressions::negation-words
 decreases-expressions::negation-words l = length l.reader.rest.now
 
 abbrev pub invariant-types::object_parts-parts : goal.invariant-types::object_parts-parts
-invariant-types::object_parts-parts l = length l.reader.rest.now ≤ length l.initial.reader.rest.now
+invariant-types::object_parts-parts l = Follows l.initial.reader l.reader
 
 abbrev pub decreases-types::object_parts-parts : goal.decreases-types::object_parts-parts
 decreases-types::object_parts-parts l = length l.reader.rest.now
 
 abbrev pub invariant-expressions::operations-operations : goal.invariant-expressions::operations-operations
-invariant-expressions::operations-operations l = length l.reader.rest.now ≤ length l.initial.reader.rest.now
+invariant-expressions::operations-operations l = record { follows : Follows l.initial.reader l.reader; reads : ReadsOperations l.level l.initial.reader l.reader l.rest.items }
 
 abbrev pub decreases-expressions::operations-operations : goal.decreases-expressions::operations-operations
 decreases-expressions::operations-operations l = length l.reader.rest.now
 
 abbrev pub invariant-members::overrides-overrides : goal.invariant-members::overrides-overrides
-invariant-members::overrides-overrides l = length l.reader.rest.now ≤ length l.initial.reader.rest.now
+invariant-members::overrides-overrides l = Follows l.initial.reader l.reader
 
 abbrev pub decreases-members::overrides-overrides : goal.decreases-members::overrides-overrides
 decreases-members::overrides-overrides l = length l.reader.rest.now
 
 abbrev pub invariant-operands::selected-selectors : goal.invariant-operands::selected-selectors
-invariant-operands::selected-selectors l = length l.reader.rest.now ≤ length l.initial.reader.rest.now
+invariant-operands::selected-selectors l = record { follows : Follows l.initial.reader l.reader; reads : ReadsSelectors l.initial.reader l.reader l.selectors.items }
 
 abbrev pub decreases-operands::selected-selectors : goal.decreases-operands::selected-selectors
 decreases-operands::selected-selectors l = length l.reader.rest.now
 
 abbrev pub invariant-expressions::signed-signs : goal.invariant-expressions::signed-signs
-invariant-expressions::signed-signs l = length l.reader.rest.now ≤ length l.initial.reader.rest.now
+invariant-expressions::signed-signs l = record { follows : Follows l.initial.reader l.reader; reads : Reads l.initial.reader l.reader (λ before after. IsSigns before after l.signs.items) }
 
 abbrev pub decreases-expressions::signed-signs : goal.decreases-expressions::signed-signs
 decreases-expressions::signed-signs l = length l.reader.rest.now

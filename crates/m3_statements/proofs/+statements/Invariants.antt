@@ -1,4 +1,5 @@
-use Rattle.std.proofs.Common.{◌≤◌, length, ◌+◌, ◌*◌}
+use Rattle.std.proofs.Common.{length, ◌+◌, ◌*◌}
+use Rattle.m3_cursor.specs.Readers.{Follows}
 use Rattle.m3_statements.proofs.+statements.Given as goal
 
 abbrev pub decreases-blocks::block : goal.decreases-blocks::block
@@ -62,37 +63,37 @@ abbrev pub decreases-statements::statements : goal.decreases-statements::stateme
 decreases-statements::statements l = 16 * l.room + 1
 
 abbrev pub invariant-statements::statements-statements : goal.invariant-statements::statements-statements
-invariant-statements::statements-statements l = length l.reader.rest.now ≤ length l.initial.reader.rest.now
+invariant-statements::statements-statements l = Follows l.initial.reader l.reader
 
 abbrev pub decreases-statements::statements-statements : goal.decreases-statements::statements-statements
 decreases-statements::statements-statements l = length l.reader.rest.now
 
 abbrev pub invariant-branches::if_statement-arms : goal.invariant-branches::if_statement-arms
-invariant-branches::if_statement-arms l = length l.reader.rest.now ≤ length l.initial.reader.rest.now
+invariant-branches::if_statement-arms l = Follows l.initial.reader l.reader
 
 abbrev pub decreases-branches::if_statement-arms : goal.decreases-branches::if_statement-arms
 decreases-branches::if_statement-arms l = length l.reader.rest.now
 
 abbrev pub invariant-branches::case_statement-branches : goal.invariant-branches::case_statement-branches
-invariant-branches::case_statement-branches l = length l.reader.rest.now ≤ length l.initial.reader.rest.now
+invariant-branches::case_statement-branches l = Follows l.initial.reader l.reader
 
 abbrev pub decreases-branches::case_statement-branches : goal.decreases-branches::case_statement-branches
 decreases-branches::case_statement-branches l = length l.reader.rest.now
 
 abbrev pub invariant-branches::typecase_statement-branches : goal.invariant-branches::typecase_statement-branches
-invariant-branches::typecase_statement-branches l = length l.reader.rest.now ≤ length l.initial.reader.rest.now
+invariant-branches::typecase_statement-branches l = Follows l.initial.reader l.reader
 
 abbrev pub decreases-branches::typecase_statement-branches : goal.decreases-branches::typecase_statement-branches
 decreases-branches::typecase_statement-branches l = length l.reader.rest.now
 
 abbrev pub invariant-handlers::handlers-handlers : goal.invariant-handlers::handlers-handlers
-invariant-handlers::handlers-handlers l = length l.reader.rest.now ≤ length l.initial.reader.rest.now
+invariant-handlers::handlers-handlers l = Follows l.initial.reader l.reader
 
 abbrev pub decreases-handlers::handlers-handlers : goal.decreases-handlers::handlers-handlers
 decreases-handlers::handlers-handlers l = length l.reader.rest.now
 
 abbrev pub invariant-declarations::declaration_list-declarations : goal.invariant-declarations::declaration_list-declarations
-invariant-declarations::declaration_list-declarations l = length l.reader.rest.now ≤ length l.initial.reader.rest.now
+invariant-declarations::declaration_list-declarations l = Follows l.initial.reader l.reader
 
 abbrev pub decreases-declarations::declaration_list-declarations : goal.decreases-declarations::declaration_list-declarations
 decreases-declarations::declaration_list-declarations l = length l.reader.rest.now

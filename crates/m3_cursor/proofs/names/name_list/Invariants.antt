@@ -1,8 +1,9 @@
-use Rattle.std.proofs.Common.{◌≤◌, length}
+use Rattle.std.proofs.Common.{length}
+use Rattle.m3_cursor.specs.Readers.{Follows}
 use Rattle.m3_cursor.proofs.names.name_list.Given as goal
 
 abbrev pub invariant-names : goal.invariant-names
-invariant-names l = length l.reader.rest.now ≤ length l.initial.reader.rest.now
+invariant-names l = Follows l.initial.reader l.reader
 
 abbrev pub decreases-names : goal.decreases-names
 decreases-names l = length l.reader.rest.now

@@ -5,5 +5,5 @@ use Rattle.m3_image_commands.proofs.running.run_image.Goals as goal
 pub returns : goal.returns
 returns g c =
     let files = c.in-Ok.ensures in
-    runs_fetched _ _ c.args.name.now _ _ _ c.run_fetched.result c.deref-2.result.now c.deref-3.result.now c.in-Ok.files.switches.items c.is_some.result
-    c.deref-2.ensures.value c.deref-3.ensures.value (c.is_some.ensures ∙ is_some_named _ c.args.options.switches) files.fetches.held files.image files.switches c.run_fetched.ensures
+    runs_fetched _ _ c.args.name.now _ _ _ _ c.run_fetched.result c.deref-2.result.now c.deref-3.result.now c.in-Ok.files.switches.items c.deref.result.now c.in-Ok.files.input.items c.is_some.result
+    c.deref-2.ensures.value c.deref-3.ensures.value c.deref.ensures.value (c.is_some.ensures ∙ is_some_named _ c.args.options.switches) files.fetches.held files.image files.switches files.input c.run_fetched.ensures

@@ -2,7 +2,7 @@ use Rattle.std.proofs.Common.{◌≡◌, ℕ, ◌+◌, ◌++◌, List, All, map,
 use Rattle.m3_types.specs.declared.nodes.TypeId.{TypeId}
 use Rattle.m3_types.specs.Definitions.{node_at}
 use Rattle.m3_layout.specs.Pointers.{RisesWithin}
-use Rattle.m3_layout.specs.Cells.{CanStand, line_words, line_pointers}
+use Rattle.m3_layout.specs.Depths.{CanStand, line_words, line_pointers}
 use Rattle.m3_layout.specs.Walking.{AreRuns}
 use Rattle.m3_layout.proofs.InOrder.{line_rises}
 use Rattle.m3_layout.proofs.cells.object_shape.Goals as goal

@@ -1,6 +1,6 @@
 use Rattle.std.proofs.Common.{◌≡◌, ◌+◌, drop}
 use Rattle.m3_sizes.specs.Sizes.{HasSize, EachField, field_words}
-use Rattle.m3_layout.specs.Pointers.{value_words}
+use Rattle.m3_layout.specs.Depths.{value_words}
 use Rattle.m3_layout.proofs.lines.field_words.Given as goal
 
 abbrev pub invariant-loop-field : goal.invariant-loop-field

@@ -1,6 +1,6 @@
 use Rattle.std.proofs.Common.{◌≡◌, suc, ◌+◌, ◌-◌, length, arith, sym, subst, ◌∙◌, Some, None}
 use Rattle.m3_types.specs.Definitions.{node_at}
-use Rattle.m3_layout.specs.Cells.{OfParent, IsObject, own_words}
+use Rattle.m3_layout.specs.Depths.{OfParent, EndsWithin, own_words}
 use Rattle.m3_layout.proofs.Lineage.{object_up, object_down, no_room, words_above, if_none}
 use Rattle.m3_layout.proofs.lines.object_words.Goals as goal
 
@@ -35,7 +35,7 @@ returns-in-None-clause-some c =
     let limit' = length nodes - (c.loop-type._type + 1) in
     let el : limit ≡ suc limit' = omega arith in
     let above = words_above nodes reveals limit limit' c.loop-type.top.0 c.loop-type.words c.in_ok-own_words.field-0 c.in_ok-words.words None el c.in-None.ensures c.in_ok-own_words.ensures.some.1 c.in_ok-words.ensures.1 in
-    (c.loop-type.invariant.part (object_down nodes reveals limit limit' c.loop-type.top.0 el c.in_ok-own_words.ensures.some.0 (subst (OfParent (IsObject nodes reveals limit')) c.in-None.ensures tt)), omega (arith, above, c.loop-type.invariant.sum), omega (arith, c.in_ok-words.ensures.0, c.in_ok-words.ensures.1))
+    (c.loop-type.invariant.part (object_down nodes reveals limit limit' c.loop-type.top.0 el c.in_ok-own_words.ensures.some.0 (subst (OfParent (EndsWithin nodes reveals limit')) c.in-None.ensures tt)), omega (arith, above, c.loop-type.invariant.sum), omega (arith, c.in_ok-words.ensures.0, c.in_ok-words.ensures.1))
 
 pub loop-type-preserved : goal.loop-type-preserved
 loop-type-preserved c =
@@ -45,7 +45,7 @@ loop-type-preserved c =
     let limit' = length nodes - (c.loop-type._type + 1) in
     let el : limit ≡ suc limit' = omega arith in
     record {
-      whole = λ o. subst (OfParent (IsObject nodes reveals limit')) (sym c.in-Some.ensures) (object_up nodes reveals limit limit' c.loop-type.top.0 el (c.loop-type.invariant.whole o)).1;
-      part = λ o. c.loop-type.invariant.part (object_down nodes reveals limit limit' c.loop-type.top.0 el c.in_ok-own_words.ensures.some.0 (subst (OfParent (IsObject nodes reveals limit')) c.in-Some.ensures o));
+      whole = λ o. subst (OfParent (EndsWithin nodes reveals limit')) (sym c.in-Some.ensures) (object_up nodes reveals limit limit' c.loop-type.top.0 el (c.loop-type.invariant.whole o)).1;
+      part = λ o. c.loop-type.invariant.part (object_down nodes reveals limit limit' c.loop-type.top.0 el c.in_ok-own_words.ensures.some.0 (subst (OfParent (EndsWithin nodes reveals limit')) c.in-Some.ensures o));
       sum = words_above nodes reveals limit limit' c.loop-type.top.0 c.loop-type.words c.in_ok-own_words.field-0 c.in_ok-words.words (Some c.in-Some.parent.0) el c.in-Some.ensures c.in_ok-own_words.ensures.some.1 c.in_ok-words.ensures.1 ∙ c.loop-type.invariant.sum;
     }

@@ -1,5 +1,5 @@
 use Rattle.std.proofs.Common.{◌≡◌, suc, ◌+◌, ◌-◌, arith, sym, ◌∙◌}
-use Rattle.m3_layout.specs.Cells.{most_dims}
+use Rattle.m3_layout.specs.Depths.{most_dims}
 use Rattle.m3_layout.proofs.Opening.{one_below}
 use Rattle.m3_layout.proofs.open.open_element.Goals as goal
 

@@ -1,5 +1,5 @@
 use Rattle.std.proofs.Common.{◌≡◌, ◌+◌, ◌-◌}
-use Rattle.m3_layout.specs.Cells.{most_dims, element_below, dims_below}
+use Rattle.m3_layout.specs.Depths.{most_dims, element_below, dims_below}
 use Rattle.m3_layout.proofs.open.open_element.Given as goal
 
 abbrev pub invariant-loop-dim : goal.invariant-loop-dim

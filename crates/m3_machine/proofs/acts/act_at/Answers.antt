@@ -74,5 +74,5 @@ returns-in_default-clause-does g c = λ t may stands few.
       [],
       put_none (g.O.Sink.taken c.args.out.now),
       subst (λ (z : State). Acts p m.input.now t i z [] after i.op) (counted s c.saturating_add-parts.result c.saturating_add-parts.ensures few)
-          (c.act_silently.ensures t (record { running = may.running; awake = may.awake; acts = may.acts; few = may.few; short = may.short; room = may.room }) stands silent),
+          (c.act_silently.ensures.does t (record { running = may.running; awake = may.awake; acts = may.acts; few = may.few; spare = may.spare; going = record { unstuck = may.going.unstuck; depth = may.going.depth } }) stands silent),
     )

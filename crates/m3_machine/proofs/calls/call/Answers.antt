@@ -23,6 +23,7 @@ invariant_of-parts g c =
       words = kept.0.outside.count ∙ m.words;
       loaded = kept.0.outside.same_constants ∙ m.loaded;
       roomy = m.roomy;
+      sized = m.sized;
       fitting = λ e. ∥∥₁_elim (m.fitting e) ∥∥₁_prop (λ f. ∣ kept.1 _ f ∣₁);
     }
 

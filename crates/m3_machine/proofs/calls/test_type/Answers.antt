@@ -4,7 +4,7 @@ use Rattle.std.proofs.Common.{refl, ap, subst, ◌∙◌, rules}
 use Rattle.m3_base.specs.declared.outcomes.Outcome.{Outcome}
 use Rattle.m3_isa.specs.Arithmetic.{flag}
 use Rattle.m3_isa.specs.Effects.{reg, answered}
-use Rattle.m3_strides.specs.Act.{Goes, Stops}
+use Rattle.m3_strides.specs.Act.{Proceeds, Stops}
 use Rattle.m3_strides.specs.Progress.{Goes as Goes_on}
 use Rattle.m3_strides.specs.State.{memory_of, with_regs}
 use Rattle.m3_strides.specs.Calls.{TellsType, kind_at}
@@ -20,7 +20,7 @@ returns-in-Ok-clause-tests g c = λ t running.
     let n-is : c.cast_unsigned.result ≡ cast_unsigned w32 c.args.i.imm = search rules in
     let told-so = subst (λ (n : ℕ). TellsType types (kind_at types memory (reg t.regs c.args.i.b)) n told) n-is
     (subst (λ (cell : ℕ). TellsType types (kind_at types memory cell) c.cast_unsigned.result told) (c.word-cell.ensures t running) c.in-Ok.ensures) in (
-      Goes (answered t.regs c.args.i.a (flag c.in-Ok.is_of)),
+      Proceeds (answered t.regs c.args.i.a (flag c.in-Ok.is_of)),
       (told, told-so, refl),
       c.give.ensures.goes t running ∙ ap (λ (word : ℕ). Goes_on (with_regs (state_of m) (answered t.regs c.args.i.a word))) c.truth.ensures,
     )

@@ -31,8 +31,5 @@ returns-in-Await-clause-acts g c = λ t running. by_op _ _ c.in-Await.is _ _ _ _
 pub returns-in-Ajoin-clause-acts : goal.returns-in-Ajoin-clause-acts
 returns-in-Ajoin-clause-acts g c = λ t running. by_op _ _ c.in-Ajoin.is _ _ _ _ _ _ _ _ (c.alert_join.ensures.after t running)
 
-pub returns-in-Endt-clause-acts : goal.returns-in-Endt-clause-acts
-returns-in-Endt-clause-acts g c = λ t running. by_op _ _ c.in-Endt.is _ _ _ _ _ _ _ _ (c.end.ensures.after t running)
-
 pub returns-in_default-clause-acts : goal.returns-in_default-clause-acts
-returns-in_default-clause-acts g c = λ t running. no_thread_op _ c.in_default.not-Join c.in_default.not-Acq c.in_default.not-Rel c.in_default.not-Wait c.in_default.not-Sig c.in_default.not-Bca c.in_default.not-Alert c.in_default.not-Talert c.in_default.not-Await c.in_default.not-Ajoin c.in_default.not-Endt _ _ _ _ _ _ _ _
+returns-in_default-clause-acts g c = λ t running. no_thread_op _ c.in_default.not-Join c.in_default.not-Acq c.in_default.not-Rel c.in_default.not-Wait c.in_default.not-Sig c.in_default.not-Bca c.in_default.not-Alert c.in_default.not-Talert c.in_default.not-Await c.in_default.not-Ajoin c.requires.operation _ _ _ _ _ _ _ _

@@ -13,6 +13,7 @@ invariant_of-parts g c =
       words = c.act_of.ensures.keeps.count ∙ m.words;
       loaded = c.act_of.ensures.keeps.same_constants ∙ m.loaded;
       roomy = m.roomy;
+      sized = m.sized;
       fitting = λ e. ∥∥₁_elim (m.fitting e) ∥∥₁_prop (λ f. ∣ c.act_of.ensures.fitting _ f ∣₁);
     }
 

@@ -6,11 +6,11 @@ use Rattle.m3_machine.proofs.threading.end_thread.Goals as goal
 
 pub returns-clause-ends : goal.returns-clause-ends
 returns-clause-ends g c = λ few t running awake.
-    let left = state_of c.act_with_threads.new.parts in
+    let left = state_of c.end_with_threads.new.parts in
     record {
-      done = c.act_with_threads.result;
+      done = c.end_with_threads.result;
       left = left;
-      acts = c.act_with_threads.ensures.acts few t running awake;
-      others = c.act_with_threads.ensures.others;
+      acts = c.end_with_threads.ensures.acts few t running awake;
+      others = c.end_with_threads.ensures.others;
       became = ap (λ (a : Answer). became a left) c.told_end.ensures;
     }

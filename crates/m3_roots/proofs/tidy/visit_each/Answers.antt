@@ -3,7 +3,7 @@ use Rattle.std.proofs.lemmas.List.{drop_more}
 use Rattle.m3_tables.specs.Numbers.{word_in}
 use Rattle.m3_decoded.specs.Ready.{image_of}
 use Rattle.m3_frames.specs.declared.frame.Frame.{Frame}
-use Rattle.m3_roots.specs.RowMeaning.{tidy_in, tidy_below}
+use Rattle.m3_roots.specs.RowMeaning.{tidy_of_frame, tidy_below}
 use Rattle.m3_roots.specs.Visiting.{VisitsPart}
 use Rattle.m3_roots.proofs.StepLemmas.{no_frame, each_at}
 use Rattle.m3_roots.proofs.VisitLemmas.{keeps_twice, part_more, part_stops}
@@ -21,7 +21,7 @@ returns-then-not-visit_frame-clause-visited g c = λ rows.
     let now = c.loop-frame.r ++ c.loop-frame.stack in
     let part = subst (λ (fs : List Frame). VisitsPart first.cells (tidy_below p frames) words first.moves (tidy_below p fs) now mid.moves) (drop_more frames i no_frame c.loop-frame-test.true) (c.loop-frame.invariant.part rows) in
     let row = each_at (λ (h : Frame). h.row < word_in p.tables) frames i no_frame c.loop-frame-test.true rows in
-    part_stops first mid (tidy_below p frames) words (tidy_in p f) (tidy_below p (drop (i + 1) frames)) now c.loop-frame.invariant.heap part (c.if-not-visit_frame.ensures.visited row))
+    part_stops first mid (tidy_below p frames) words (tidy_of_frame p f) (tidy_below p (drop (i + 1) frames)) now c.loop-frame.invariant.heap part (c.if-not-visit_frame.ensures.visited row))
 
 pub loop-frame-preserved : goal.loop-frame-preserved
 loop-frame-preserved g c =
@@ -41,5 +41,5 @@ loop-frame-preserved g c =
           let now = c.loop-frame.r ++ c.loop-frame.stack in
           let part = subst (λ (fs : List Frame). VisitsPart first.cells (tidy_below p frames) words first.moves (tidy_below p fs) now mid.moves) (drop_more frames i no_frame c.loop-frame-test.true) (c.loop-frame.invariant.part rows) in
           let row = each_at (λ (h : Frame). h.row < word_in p.tables) frames i no_frame c.loop-frame-test.true rows in
-          part_more first mid new (tidy_below p frames) words (tidy_in p f) (tidy_below p (drop (i + 1) frames)) now (c.visit_frame.new.r ++ c.visit_frame.new.stack) c.loop-frame.invariant.heap part c.if-not-visit_frame.ensures.heap (c.if-not-visit_frame.ensures.visited row));
+          part_more first mid new (tidy_below p frames) words (tidy_of_frame p f) (tidy_below p (drop (i + 1) frames)) now (c.visit_frame.new.r ++ c.visit_frame.new.stack) c.loop-frame.invariant.heap part c.if-not-visit_frame.ensures.heap (c.if-not-visit_frame.ensures.visited row));
     }

@@ -22,7 +22,7 @@ returns-in-Run g c = carried _ _ _ _ _ _ (ap order_of c.in-Run.is) c.run_image.e
 pub returns-in-Exec : goal.returns-in-Exec
 returns-in-Exec g c =
     carried _ _ _ _ _ _ (ap order_of c.in-Exec.is)
-    (execs_of _ _ _ _ _ _ _ c.exec_files.result (ap (λ files. map (λ n. n.now) files) c.deref-in-Exec.ensures.value) c.exec_files.ensures)
+    (execs_of _ _ _ _ _ _ _ _ c.exec_files.result (ap (λ files. map (λ n. n.now) files) c.deref-in-Exec.ensures.value) c.exec_files.ensures)
 
 pub returns-in-Dump : goal.returns-in-Dump
 returns-in-Dump g c = carried _ _ _ _ _ _ (ap order_of c.in-Dump.is) c.dump_image.ensures

@@ -1,8 +1,9 @@
-use Rattle.std.proofs.Common.{◌≤◌, length}
+use Rattle.std.proofs.Common.{length}
+use Rattle.m3_cursor.specs.Readers.{Follows}
 use Rattle.m3_statements.proofs.branches.labels.Given as goal
 
 abbrev pub invariant-labels : goal.invariant-labels
-invariant-labels l = length l.reader.rest.now ≤ length l.initial.reader.rest.now
+invariant-labels l = Follows l.initial.reader l.reader
 
 abbrev pub decreases-labels : goal.decreases-labels
 decreases-labels l = length l.reader.rest.now

@@ -1,8 +1,9 @@
-use Rattle.std.proofs.Common.{◌≤◌, length}
+use Rattle.std.proofs.Common.{length}
+use Rattle.m3_cursor.specs.Readers.{Follows}
 use Rattle.m3_statements.proofs.declarations.reveals.Given as goal
 
 abbrev pub invariant-reveals : goal.invariant-reveals
-invariant-reveals l = length l.reader.rest.now ≤ length l.initial.reader.rest.now
+invariant-reveals l = Follows l.initial.reader l.reader
 
 abbrev pub decreases-reveals : goal.decreases-reveals
 decreases-reveals l = length l.reader.rest.now

@@ -1,8 +1,9 @@
-use Rattle.std.proofs.Common.{◌≤◌, length}
+use Rattle.std.proofs.Common.{length}
+use Rattle.m3_cursor.specs.Readers.{Follows}
 use Rattle.m3_statements.proofs.declarations.types.Given as goal
 
 abbrev pub invariant-types : goal.invariant-types
-invariant-types l = length l.reader.rest.now ≤ length l.initial.reader.rest.now
+invariant-types l = Follows l.initial.reader l.reader
 
 abbrev pub decreases-types : goal.decreases-types
 decreases-types l = length l.reader.rest.now

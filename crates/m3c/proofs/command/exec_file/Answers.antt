@@ -12,4 +12,4 @@ returns-in-Ok-execute-clause-promises g c =
 pub returns-clause-promises : goal.returns-clause-promises
 returns-clause-promises g c =
     let text = c.exec_text.ensures in
-    text_promised _ c.args.name.now _ _ _ text.0 refl c.in-Err.ensures.answers c.in-Err.ensures.held c.in-Err.ensures.silent.0 c.in-Err.ensures.silent.1 text.1 text.2
+    text_promised _ c.args.name.now text.1 _ _ _ text.0 refl c.in-Err.ensures.answers c.in-Err.ensures.held c.in-Err.ensures.silent.0 c.in-Err.ensures.silent.1 text.2 text.3

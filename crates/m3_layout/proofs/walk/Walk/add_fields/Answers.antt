@@ -1,7 +1,9 @@
-use Rattle.std.proofs.Common.{◌≡◌, ◌+◌, ◌++◌, [], None, length, get_or, drop, ap, ◌∙◌, arith}
+use Rattle.std.proofs.Common.{◌≡◌, ◌+◌, ◌++◌, [], None, get_or, drop, ap, ◌∙◌, arith}
 use Rattle.m3_types.specs.declared.nodes.Field.{Field}
 use Rattle.m3_types.proofs.Lists.{get_or_any}
-use Rattle.m3_layout.specs.Pointers.{value_words, value_pointers, field_pointers}
+use Rattle.m3_layout.specs.Pointers.{field_pointers}
+use Rattle.m3_layout.specs.Depths.{value_words, value_pointers}
+use Rattle.m3_layout.proofs.Depths.{words_told}
 use Rattle.m3_layout.proofs.Lineage.{field_step, offsets_on}
 use Rattle.m3_layout.proofs.walk.Walk.add_fields.Goals as goal
 
@@ -29,7 +31,7 @@ loop-field-preserved c =
     let f = (get_or c.args.fields.now c.loop-field.field-index no_field) in
     let rest = drop (c.loop-field.field-index + 1) c.args.fields.now in
     let s = field_step nodes c.args.fields.now c.loop-field.field-index next f c.loop-field-test.true (get_or_any c.args.fields.now c.loop-field.field-index _ _ c.loop-field-test.true) in
-    let words : c.words_of-next.result ≡ value_words nodes f.kind.0 = c.words_of-next.ensures.words (length nodes) c.words_of-next.ensures.shallow in
+    let words : c.words_of-next.result ≡ value_words nodes f.kind.0 = words_told nodes f.kind.0 c.words_of-next.result c.words_of-next.ensures.words c.words_of-next.ensures.shallow in
     record {
       known = c.in_ok-add_value.ensures.known;
       idle = c.in_ok-add_value.ensures.idle;

@@ -1,6 +1,7 @@
 use Rattle.std.proofs.Common.{◌≡◌, ◌+◌, ◌++◌, [], drop}
 use Rattle.m3_sizes.specs.Sizes.{HasSize, EachField, field_words}
-use Rattle.m3_layout.specs.Pointers.{value_words, value_pointers, field_pointers}
+use Rattle.m3_layout.specs.Pointers.{field_pointers}
+use Rattle.m3_layout.specs.Depths.{value_words, value_pointers}
 use Rattle.m3_layout.specs.Walking.{AreRuns}
 use Rattle.m3_layout.proofs.walk.Walk.add_fields.Given as goal
 

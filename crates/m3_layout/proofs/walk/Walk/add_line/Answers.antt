@@ -2,7 +2,7 @@ use Rattle.std.proofs.Common.{◌+◌, ◌++◌, ◌<◌, length, get_or, drop, 
 use Rattle.std.proofs.lemmas.List.{get_or-map, length-map}
 use Rattle.m3_types.specs.declared.nodes.TypeId.{TypeId}
 use Rattle.m3_types.specs.Definitions.{node_at}
-use Rattle.m3_layout.specs.Cells.{own_words, own_pointers, line_pointers}
+use Rattle.m3_layout.specs.Depths.{own_words, own_pointers, line_pointers}
 use Rattle.m3_layout.proofs.Lineage.{LineStep, line_step, offsets_on}
 use Rattle.m3_layout.proofs.walk.Walk.add_line.Goals as goal
 

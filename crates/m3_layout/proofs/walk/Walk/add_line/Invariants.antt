@@ -1,5 +1,5 @@
 use Rattle.std.proofs.Common.{◌≡◌, ◌+◌, ◌++◌, [], drop, map}
-use Rattle.m3_layout.specs.Cells.{line_words, line_pointers}
+use Rattle.m3_layout.specs.Depths.{line_words, line_pointers}
 use Rattle.m3_layout.specs.Walking.{AreRuns}
 use Rattle.m3_layout.proofs.walk.Walk.add_line.Given as goal
 

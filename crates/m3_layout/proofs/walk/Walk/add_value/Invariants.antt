@@ -1,6 +1,6 @@
 use Rattle.std.proofs.Common.{◌≡◌, ◌++◌}
 use Rattle.m3_layout.specs.Walking.{pending, total_effort, IsWalk}
-use Rattle.m3_layout.specs.Pointers.{value_pointers}
+use Rattle.m3_layout.specs.Depths.{value_pointers}
 use Rattle.m3_layout.proofs.walk.Walk.add_value.Given as goal
 
 abbrev pub invariant-loop-task : goal.invariant-loop-task

@@ -1,6 +1,8 @@
 use Rattle.std.proofs.Common.{◌≡◌, ℕ, suc, ◌+◌, ◌*◌, ◌-◌, ◌<◌, ◌^◌, [], ◌∷◌, ◌++◌, length, ap, ◌∙◌, sym, refl, arith, subst}
 use Rattle.m3_layout.specs.declared.walk.Task.TheVariants.{OneValue, ElementsLeft}
-use Rattle.m3_layout.specs.Pointers.{value_words, value_pointers, element_pointers}
+use Rattle.m3_layout.specs.Pointers.{element_pointers}
+use Rattle.m3_layout.specs.Depths.{value_words, value_pointers}
+use Rattle.m3_layout.proofs.Depths.{words_told}
 use Rattle.m3_layout.proofs.Walks.{last_ready}
 use Rattle.m3_layout.proofs.Telling.{closed_go, nothing_left, copies_go, run_inside, more_elements_go}
 use Rattle.m3_layout.proofs.walk.Walk.tell_elements.Goals as goal
@@ -32,19 +34,19 @@ copy_run-requires-clause-within c = (c.requires.known c.args.element.0 c.in-Some
 pub copy_run-requires-clause-inside : goal.copy_run-requires-clause-inside
 copy_run-requires-clause-inside c =
     let nodes = c.args.types.now.graph.nodes.items in
-    run_inside nodes c.args.self.now.offsets.items c.args.element.0 c.words_of-words.result c.in-Some.run'.now c.words_of-words.ensures.shallow (c.words_of-words.ensures.words (length nodes) c.words_of-words.ensures.shallow) (c.requires.known c.args.element.0 c.in-Some.run'.now (sym c.in-Some.ensures.value)).right
+    run_inside nodes c.args.self.now.offsets.items c.args.element.0 c.words_of-words.result c.in-Some.run'.now c.words_of-words.ensures.shallow (words_told nodes c.args.element.0 c.words_of-words.result c.words_of-words.ensures.words c.words_of-words.ensures.shallow) (c.requires.known c.args.element.0 c.in-Some.run'.now (sym c.in-Some.ensures.value)).right
 
 pub copy_run-requires-clause-fits : goal.copy_run-requires-clause-fits
 copy_run-requires-clause-fits c =
     let nodes = c.args.types.now.graph.nodes.items in
     let room = (last_ready nodes c.args.self.now.offsets.items c.args.self.now.tasks.items (ElementsLeft c.args.whole c.args.element c.args.left c.args.at) c.args.self.now.runs c.requires).1 in
-    subst (λ n. c.args.at + c.args.left * n < 2 ^ 64) (sym (c.words_of-words.ensures.words (length nodes) c.words_of-words.ensures.shallow)) room
+    subst (λ n. c.args.at + c.args.left * n < 2 ^ 64) (sym (words_told nodes c.args.element.0 c.words_of-words.result c.words_of-words.ensures.words c.words_of-words.ensures.shallow)) room
 
 pub returns-in-Some : goal.returns-in-Some
 returns-in-Some c =
     let nodes = c.args.types.now.graph.nodes.items in
     let some : c.args.left ≡ suc (c.args.left - 1) = omega arith in
-    let g = copies_go nodes c.args.self.now.offsets.items c.copy_run.new.offsets.items c.args.self.now.tasks.items _ c.args.self.now.runs c.args.whole c.args.element c.args.left (c.args.left - 1) c.args.at c.words_of-words.result c.in-Some.run'.now some (c.words_of-words.ensures.words (length nodes) c.words_of-words.ensures.shallow) (c.requires.known c.args.element.0 c.in-Some.run'.now (sym c.in-Some.ensures.value)).right c.requires c.in_ok-copy_run.ensures c.in_ok-push.ensures.items in
+    let g = copies_go nodes c.args.self.now.offsets.items c.copy_run.new.offsets.items c.args.self.now.tasks.items _ c.args.self.now.runs c.args.whole c.args.element c.args.left (c.args.left - 1) c.args.at c.words_of-words.result c.in-Some.run'.now some (words_told nodes c.args.element.0 c.words_of-words.result c.words_of-words.ensures.words c.words_of-words.ensures.shallow) (c.requires.known c.args.element.0 c.in-Some.run'.now (sym c.in-Some.ensures.value)).right c.requires c.in_ok-copy_run.ensures c.in_ok-push.ensures.items in
     record { walk = g.walk; same = g.same; less = g.less }
 
 pub overflow_add-at : goal.overflow_add-at
@@ -54,7 +56,7 @@ overflow_add-at c =
     let some : c.args.left ≡ suc (c.args.left - 1) = omega arith in
     let room : c.args.at + c.args.left * V < 2 ^ 64 = (last_ready nodes c.args.self.now.offsets.items c.args.self.now.tasks.items (ElementsLeft c.args.whole c.args.element c.args.left c.args.at) c.args.self.now.runs c.requires).1 in
     let all : c.args.left * V ≡ suc (c.args.left - 1) * V = ap (λ n. n * V) some in
-    let words : c.words_of-words.result ≡ V = c.words_of-words.ensures.words (length nodes) c.words_of-words.ensures.shallow in
+    let words : c.words_of-words.result ≡ V = words_told nodes c.args.element.0 c.words_of-words.result c.words_of-words.ensures.words c.words_of-words.ensures.shallow in
     let fits : c.args.at + c.words_of-words.result < 2 ^ 64 = one_fits c.args.at c.args.left (c.args.left - 1) V c.words_of-words.result room all words in
     omega (arith, fits)
   where
@@ -65,5 +67,5 @@ pub returns : goal.returns
 returns c =
     let nodes = c.args.types.now.graph.nodes.items in
     let some : c.args.left ≡ suc (c.args.left - 1) = omega arith in
-    let g = more_elements_go nodes c.args.self.now.offsets.items c.args.self.now.tasks.items _ c.args.self.now.runs c.args.whole c.args.element c.args.left (c.args.left - 1) c.args.at c.words_of-words.result some (c.words_of-words.ensures.words (length nodes) c.words_of-words.ensures.shallow) c.words_of-words.ensures.shallow c.requires (c.in_ok-push-3.ensures.items ∙ ap (λ xs. xs ++ OneValue c.args.element c.args.at ∷ []) c.in_ok-push-2.ensures.items) in
+    let g = more_elements_go nodes c.args.self.now.offsets.items c.args.self.now.tasks.items _ c.args.self.now.runs c.args.whole c.args.element c.args.left (c.args.left - 1) c.args.at c.words_of-words.result some (words_told nodes c.args.element.0 c.words_of-words.result c.words_of-words.ensures.words c.words_of-words.ensures.shallow) c.words_of-words.ensures.shallow c.requires (c.in_ok-push-3.ensures.items ∙ ap (λ xs. xs ++ OneValue c.args.element c.args.at ∷ []) c.in_ok-push-2.ensures.items) in
     record { walk = g.walk; same = g.same; less = g.less }

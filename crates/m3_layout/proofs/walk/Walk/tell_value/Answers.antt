@@ -2,8 +2,9 @@ use Rattle.std.proofs.Common.{◌≡◌, ℕ, ◌+◌, ◌<◌, ◌^◌, List, [
 use Rattle.std.proofs.lemmas.List.{append-nil}
 use Rattle.m3_layout.specs.declared.walk.Whole.{Whole}
 use Rattle.m3_layout.specs.declared.walk.Task.TheVariants.{OneValue}
-use Rattle.m3_layout.specs.Pointers.{value_words}
+use Rattle.m3_layout.specs.Depths.{value_words}
 use Rattle.m3_layout.specs.Walking.{AreRuns}
+use Rattle.m3_layout.proofs.Depths.{words_told}
 use Rattle.m3_layout.proofs.Walks.{last_ready, runs_more}
 use Rattle.m3_layout.proofs.Telling.{copy_goes, run_inside, record_goes, array_goes, reference_told, plain_told, leaf_open, leaf_goes}
 use Rattle.m3_layout.proofs.walk.Walk.tell_value.Goals as goal
@@ -22,13 +23,13 @@ copy_run-requires-clause-within c = (c.requires.known c.args.t.0 c.in-Some.run'.
 pub copy_run-requires-clause-inside : goal.copy_run-requires-clause-inside
 copy_run-requires-clause-inside c =
     let nodes = c.args.types.now.graph.nodes.items in
-    run_inside nodes c.args.self.now.offsets.items c.args.t.0 c.words_of.result c.in-Some.run'.now c.words_of.ensures.shallow (c.words_of.ensures.words (length nodes) c.words_of.ensures.shallow) (c.requires.known c.args.t.0 c.in-Some.run'.now (sym c.in-Some.ensures.value)).right
+    run_inside nodes c.args.self.now.offsets.items c.args.t.0 c.words_of.result c.in-Some.run'.now c.words_of.ensures.shallow (words_told nodes c.args.t.0 c.words_of.result c.words_of.ensures.words c.words_of.ensures.shallow) (c.requires.known c.args.t.0 c.in-Some.run'.now (sym c.in-Some.ensures.value)).right
 
 pub copy_run-requires-clause-fits : goal.copy_run-requires-clause-fits
 copy_run-requires-clause-fits c =
     let nodes = c.args.types.now.graph.nodes.items in
     let room : c.args.at + value_words nodes c.args.t.0 < 2 ^ 64 = (last_ready nodes c.args.self.now.offsets.items c.args.self.now.tasks.items (OneValue c.args.t c.args.at) c.args.self.now.runs c.requires).1 in
-    let words : c.words_of.result ≡ value_words nodes c.args.t.0 = c.words_of.ensures.words (length nodes) c.words_of.ensures.shallow in
+    let words : c.words_of.result ≡ value_words nodes c.args.t.0 = words_told nodes c.args.t.0 c.words_of.result c.words_of.ensures.words c.words_of.ensures.shallow in
     omega arith
 
 pub returns-in-Some : goal.returns-in-Some

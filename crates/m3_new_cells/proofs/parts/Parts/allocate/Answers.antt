@@ -11,6 +11,7 @@ invariant_of-self g c =
       words = c.allocate.ensures.words ∙ m.words;
       loaded = c.allocate.ensures.constants ∙ m.loaded;
       roomy = m.roomy;
+      sized = m.sized;
       fitting = λ e. ∥∥₁_elim (m.fitting e) ∥∥₁_prop (λ f. ∣ c.allocate.ensures.fitting _ f ∣₁);
     }
 

@@ -18,26 +18,26 @@ pub join_into-requires-clause-new : goal.join_into-requires-clause-new
 join_into-requires-clause-new g c = subst (λ (w : ℕ). HasNew 0 w c.in-Ok.start (state_of c.make_cell.new.self)) c.words_for-words.ensures.words c.in-Ok.ensures.new
 
 pub returns-in-Ok-clause-makes : goal.returns-in-Ok-clause-makes
-returns-in-Ok-clause-makes g c =
+returns-in-Ok-clause-makes g c = λ going.
     let m = c.args.self.now in
     let u = state_of c.make_cell.new.self in
     let i = c.args.i in
     record {
       made = Ok c.in-Ok.start;
       left = u;
-      makes = subst (λ (w : ℕ). Makes (program_of m) 0 w (state_of m) (Ok c.in-Ok.start) u) c.words_for-words.ensures.words c.in-Ok.ensures.made;
+      makes = subst (λ (w : ℕ). Makes (program_of m) 0 w (state_of m) (Ok c.in-Ok.start) u) c.words_for-words.ensures.words (c.in-Ok.ensures.made going);
       gives = subst (λ (p : Program). GivesText p i.a (λ memory u. both (part_of memory (reg u.regs i.b) 0 c.args.left) (part_of memory (reg u.regs i.c) 0 c.args.right)) (Ok c.in-Ok.start) u
           (became c.join_into.result (state_of c.join_into.new.self)))
           (ap (λ (r : Rest). r.program) c.make_cell.ensures.rest) c.join_into.ensures.fills;
     }
 
 pub returns-in-Err-clause-makes : goal.returns-in-Err-clause-makes
-returns-in-Err-clause-makes g c =
+returns-in-Err-clause-makes g c = λ going.
     let m = c.args.self.now in
     let u = state_of c.make_cell.new.self in
     record {
       made = Err c.in-Err.outcome;
       left = u;
-      makes = subst (λ (w : ℕ). Makes (program_of m) 0 w (state_of m) (Err c.in-Err.outcome) u) c.words_for-words.ensures.words c.in-Err.ensures.made;
+      makes = subst (λ (w : ℕ). Makes (program_of m) 0 w (state_of m) (Err c.in-Err.outcome) u) c.words_for-words.ensures.words (c.in-Err.ensures.made going);
       gives = refl;
     }

@@ -9,15 +9,15 @@ use Rattle.m3_new_cells.specs.Seen.{state_of, program_of}
 use Rattle.m3_new_cells.proofs.parts.Parts.join_texts.Goals as goal
 
 pub returns-in-Ok-clause-cats : goal.returns-in-Ok-clause-cats
-returns-in-Ok-clause-cats g c = λ t running.
+returns-in-Ok-clause-cats g c = λ going t running.
     let m = c.args.self.now in
     let memory = memory_of (program_of m) (state_of m) in
     let told = c.in-Ok.ensures ∙ ap (λ (x : ℕ). lengths_at memory x c.word-right_text.result) (c.word-left_text.ensures t running)
     ∙ ap (λ (y : ℕ). lengths_at memory (reg t.regs c.args.i.b) y) (c.word-right_text.ensures t running) in
-    subst (λ (r : Result (ℕ × ℕ) Outcome). Cats (program_of m) c.args.i (state_of m) r (became c.join_lengths.result (state_of c.join_lengths.new.self))) told c.join_lengths.ensures.makes
+    subst (λ (r : Result (ℕ × ℕ) Outcome). Cats (program_of m) c.args.i (state_of m) r (became c.join_lengths.result (state_of c.join_lengths.new.self))) told (c.join_lengths.ensures.makes going)
 
 pub returns-in-Err-clause-cats : goal.returns-in-Err-clause-cats
-returns-in-Err-clause-cats g c = λ t running.
+returns-in-Err-clause-cats g c = λ going t running.
     let m = c.args.self.now in
     let memory = memory_of (program_of m) (state_of m) in
     let told = c.in-Err.ensures ∙ ap (λ (x : ℕ). lengths_at memory x c.word-right_text.result) (c.word-left_text.ensures t running)

@@ -7,20 +7,23 @@ use Rattle.m3_sections.specs.PartViews.{type_of}
 use Rattle.m3_strides.specs.Progress.{became}
 use Rattle.m3_strides.specs.NewTexts.{Makes_open, open_type, not_open}
 use Rattle.m3_new_cells.specs.Seen.{state_of, program_of}
+use Rattle.m3_new_cells.proofs.OpenSizes.{there_is}
 use Rattle.m3_new_cells.proofs.parts.Parts.make_open.Goals as goal
 
 pub returns-in-Err-clause-makes : goal.returns-in-Err-clause-makes
-returns-in-Err-clause-makes g c = λ fits t running.
+returns-in-Err-clause-makes g c = λ going t running.
     let m = c.args.self.now in
     let p = program_of m in
     let kind : c.cast_unsigned-kind.result ≡ cast_unsigned w32 c.args.i.imm = search rules in
     not_open c.in-Err.outcome (sym (ap (λ (k : ℕ). open_type (slice_get p.types k)) kind) ∙ c.in-Err.ensures)
 
 pub returns-in-Ok-clause-makes : goal.returns-in-Ok-clause-makes
-returns-in-Ok-clause-makes g c = λ fits t running.
+returns-in-Ok-clause-makes g c = λ going t running.
     let m = c.args.self.now in
     let p = program_of m in
     let kind : c.cast_unsigned-kind.result ≡ cast_unsigned w32 c.args.i.imm = search rules in
     let told = sym (ap (λ (k : ℕ). open_type (slice_get p.types k)) kind) ∙ c.in-Ok.ensures in
+    let form = type_of c.in-Ok.shape in
+    let room = m.sized c.cast_unsigned-kind.result form (there_is (slice_get p.types c.cast_unsigned-kind.result) form c.in-Ok.ensures) in
     subst (λ (r : Result CellType Outcome). Makes_open p t c.args.i (state_of m) r (became c.make_by_sizes.result (state_of c.make_by_sizes.new.self))) (sym told)
-    (c.make_by_sizes.ensures.makes (fits (type_of c.in-Ok.shape) told) t running)
+    (c.make_by_sizes.ensures.makes going room t running)

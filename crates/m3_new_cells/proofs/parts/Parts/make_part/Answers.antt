@@ -12,7 +12,7 @@ use Rattle.m3_new_cells.specs.Seen.{state_of, program_of}
 use Rattle.m3_new_cells.proofs.parts.Parts.make_part.Goals as goal
 
 pub returns-in-Ok-clause-subs : goal.returns-in-Ok-clause-subs
-returns-in-Ok-clause-subs g c = λ t running.
+returns-in-Ok-clause-subs g c = λ going t running.
     let m = c.args.self.now in
     let p = program_of m in
     let s = state_of m in
@@ -25,10 +25,10 @@ returns-in-Ok-clause-subs g c = λ t running.
     let cuts = λ (from most : ℕ). Makes_text p i.a s (sub_count bytes from most) (λ memory u. part_of memory (reg u.regs i.b) from (sub_count bytes from most)) progress in
     subst (λ (r : Result ℕ Outcome). Subs p t i s r progress) told
     (subst (λ (from : ℕ). cuts from (reg t.regs (cast_unsigned w32 i.imm))) (c.word-from.ensures t running)
-    (subst (λ (most : ℕ). cuts c.word-from.result most) (c.named_word-most.ensures t running ∙ ap (λ (n : ℕ). reg t.regs n) number) c.make_cut.ensures.makes))
+    (subst (λ (most : ℕ). cuts c.word-from.result most) (c.named_word-most.ensures t running ∙ ap (λ (n : ℕ). reg t.regs n) number) (c.make_cut.ensures.makes going)))
 
 pub returns-in-Err-clause-subs : goal.returns-in-Err-clause-subs
-returns-in-Err-clause-subs g c = λ t running.
+returns-in-Err-clause-subs g c = λ going t running.
     let m = c.args.self.now in
     let memory = memory_of (program_of m) (state_of m) in
     let told = c.in-Err.ensures ∙ ap (λ (x : ℕ). or_trap 2 (memory (add_words x 1))) (c.word-text.ensures t running) in

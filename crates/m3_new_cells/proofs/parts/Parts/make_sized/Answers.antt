@@ -14,7 +14,7 @@ write_sizes-requires-clause-room g c =
     omega (arith, same, c.requires.room)
 
 pub returns-in-Ok-clause-makes : goal.returns-in-Ok-clause-makes
-returns-in-Ok-clause-makes g c =
+returns-in-Ok-clause-makes g c = λ going.
     let m = c.args.self.now in
     let p = program_of m in
     let mid = c.make_cell.new.self in
@@ -30,7 +30,7 @@ returns-in-Ok-clause-makes g c =
       becomes = becomes;
       goes = c.give.ensures.goes t (still_running u filled t becomes.others running);
     } in
-    (Ok cell, u, c.in-Ok.ensures.made, gives)
+    (Ok cell, u, c.in-Ok.ensures.made going, gives)
 
 pub returns-in-Err-clause-makes : goal.returns-in-Err-clause-makes
-returns-in-Err-clause-makes g c = (Err c.in-Err.outcome, state_of c.make_cell.new.self, c.in-Err.ensures.made, refl)
+returns-in-Err-clause-makes g c = λ going. (Err c.in-Err.outcome, state_of c.make_cell.new.self, c.in-Err.ensures.made going, refl)

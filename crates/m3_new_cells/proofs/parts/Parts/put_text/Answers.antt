@@ -2,7 +2,7 @@ use Rattle.std.specs.Prelude.{◌≡◌, false, true, None, Some}
 use Rattle.std.proofs.Common.{sym, ap, ◌∙◌, rules}
 use Rattle.m3_isa.specs.Effects.{next}
 use Rattle.m3_strides.specs.declared.progress.Progress.{Progress as Answer}
-use Rattle.m3_strides.specs.Act.{Puts, traps}
+use Rattle.m3_strides.specs.Act.{Puts, stops_with_trap}
 use Rattle.m3_strides.specs.Progress.{became}
 use Rattle.m3_strides.specs.State.{memory_of}
 use Rattle.m3_strides.specs.Texts.{text_bytes}
@@ -19,7 +19,7 @@ returns-in-None-clause-puts g c = λ t running.
     let p = program_of m in
     let memory = memory_of p s in
     let taken = g.O.Sink.taken c.args.out.now in
-    put_as p s (became c.trap.result s) taken taken (traps 2) (puts_text c.args.i t.regs memory)
+    put_as p s (became c.trap.result s) taken taken (stops_with_trap 2) (puts_text c.args.i t.regs memory)
     (put_loaded c.args.i t.regs memory c.word-text.result None (c.word-text.ensures t running) c.in-None.ensures)
     (put_none taken, ap (λ (a : Answer). became a s) c.trap.ensures)
 
@@ -32,7 +32,7 @@ returns-then-not-has_part-clause-puts g c = λ t running.
     let taken = g.O.Sink.taken c.args.out.now in
     let text = c.word-text.result in
     let missing : c.has_part.result ≡ false = search rules in
-    put_as p s (became c.trap-then-not-has_part.result s) taken taken (traps 2) (puts_text c.args.i t.regs memory)
+    put_as p s (became c.trap-then-not-has_part.result s) taken taken (stops_with_trap 2) (puts_text c.args.i t.regs memory)
     (put_found memory text c.in-Some.count t.regs false (sym missing ∙ c.has_part.ensures)
     ∙ put_loaded c.args.i t.regs memory text (Some c.in-Some.count) (c.word-text.ensures t running) c.in-Some.ensures)
     (put_none taken, ap (λ (a : Answer). became a s) c.trap-then-not-has_part.ensures)

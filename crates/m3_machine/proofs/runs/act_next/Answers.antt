@@ -1,0 +1,29 @@
+use Rattle.std.specs.Prelude.{ℕ, ◌+◌, List, Some}
+use Rattle.std.proofs.Common.{refl, sym, subst}
+use Rattle.m3_sections.specs.Parts.{Program}
+use Rattle.m3_strides.specs.Progress.{became}
+use Rattle.m3_strides.specs.State.{executed}
+use Rattle.m3_strides.specs.Steps.{Does}
+use Rattle.m3_new_cells.specs.Seen.{state_of, program_of}
+use Rattle.m3_machine.specs.declared.runs.Turn.{Turn}
+use Rattle.m3_machine.proofs.Settling.{same_code}
+use Rattle.m3_machine.proofs.Taking.{may_act, few_executed, acted}
+use Rattle.m3_machine.proofs.runs.act_next.Goals as goal
+
+pub returns-clause-came : goal.returns-clause-came
+returns-clause-came g c = λ p start k others known h.
+    let m = c.args.parts.now in
+    let n = c.act.new.parts in
+    let turn = c.args.turn.now in
+    let t = h.thread in
+    let i = h.instruction in
+    let progress = c.in_ok-progress.progress in
+    let new : Turn = record { done = turn.done + 1; points = turn.points } in
+    let next = same_code p (program_of m) t.regs.pc (Some i) (sym known.program) h.stands in
+    let told = c.in_ok-progress.ensures.does t i next (may_act p start k others m turn known h) (few_executed p start k others m turn known.course h) in
+    let one = subst (λ (q : Program). Does q m.input.now t i (executed (state_of m)) told.0 (became progress (state_of n))) known.program told.2 in
+    let does = subst (λ (input : List ℕ). Does p input t i (executed (state_of m)) told.0 (became progress (state_of n))) known.input one in (
+      told.0,
+      told.1,
+      acted p start k others m n turn new told.0 progress known.course h does c.act.ensures.one (λ plain. c.act.ensures.same t i h.running next h.acts plain) c.in_ok-progress.ensures.going refl refl,
+    )

@@ -1,0 +1,33 @@
+-- A collection of a machine, from what the collection of its parts told.
+use Rattle.std.specs.Prelude.{ℕ, ◌≡◌, Bool, true, false, List}
+use Rattle.std.specs.Bool.{OnTrue, OnFalse}
+use Rattle.std.proofs.Common.{sym, ap, subst, ◌∙◌}
+use Rattle.std.proofs.lemmas.Bool.{OnTrue_at, OnFalse_at}
+use Rattle.m3_heap.specs.declared.store.Store.{Ghosts}
+use Rattle.m3_sections.specs.Parts.{Program}
+use Rattle.m3_decoded.specs.Ready.{image_of}
+use Rattle.m3_roots.specs.Collected.{Collected, StopsCollection}
+use Rattle.m3_strides.specs.State.{State, raised}
+use Rattle.m3_strides.specs.Collecting.{parts_of, Collects, Spoils}
+use Rattle.m3_new_cells.specs.declared.parts.Parts.{Parts}
+use Rattle.m3_new_cells.specs.Seen.{program_of}
+
+with_constants : Program → List ℕ → Program
+with_constants p cs = record p { constants = cs }
+
+-- the program of a machine is its image's
+pub image_program : {S : Type 0} {g : Ghosts S} (m : Parts S g) → m.memory.outside.constants.items ≡ (image_of m.image).program.constants → (image_of m.image).program ≡ program_of m
+unfolding with_constants
+image_program m loaded = ap (λ (cs : List ℕ). with_constants (image_of m.image).program cs) (sym loaded)
+
+pub collects : (p q : Program) (old new : State) (b : Bool) (n : ℕ) → p ≡ q → b ≡ true → OnTrue b (Collected p (parts_of old) (parts_of new)) → OnTrue b (StopsCollection p (parts_of old) → ⊥)
+    → new ≡ record old { all = new.all; globals = new.globals; heap = new.heap; collections = n } → n ≡ raised 64 old.collections → Collects q old new
+collects p q old new b n same e collected whole rest counted = record {
+  whole = subst (λ (r : Program). StopsCollection r (parts_of old) → ⊥) same (OnTrue_at e whole);
+  collected = subst (λ (r : Program). Collected r (parts_of old) (parts_of new)) same (OnTrue_at e collected);
+  rest = rest ∙ ap (λ (k : ℕ). record old { all = new.all; globals = new.globals; heap = new.heap; collections = k }) counted;
+}
+
+pub spoils : (p q : Program) (old new : State) (b : Bool) → p ≡ q → b ≡ false → OnFalse b (StopsCollection p (parts_of old))
+    → new ≡ record old { all = new.all; globals = new.globals; heap = new.heap } → Spoils q old new
+spoils p q old new b same e stops rest = record { stops = subst (λ (r : Program). StopsCollection r (parts_of old)) same (OnFalse_at e stops); rest = rest }

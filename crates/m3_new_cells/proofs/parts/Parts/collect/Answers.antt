@@ -1,0 +1,20 @@
+use Rattle.std.specs.Prelude.{ℕ}
+use Rattle.std.proofs.Common.{refl, sym, subst}
+use Rattle.m3_roots.specs.RoomSizes.{IsRoomFor}
+use Rattle.m3_decoded.specs.Ready.{image_of}
+use Rattle.m3_new_cells.specs.Seen.{state_of, program_of}
+use Rattle.m3_new_cells.proofs.Collecting.{image_program, collects, spoils}
+use Rattle.m3_new_cells.proofs.parts.Parts.collect.Goals as goal
+
+pub returns-then-done-clause-good : goal.returns-then-done-clause-good
+returns-then-done-clause-good g c = λ e going.
+    let m = c.args.self.now in
+    let room = subst (λ (n : ℕ). IsRoomFor n m.room) (sym going.depth) m.roomy in
+    collects (image_of m.image).program (program_of m) (state_of m) _ c.collect_now-done.result c.saturating_add-self.result (image_program m m.loaded) c.if-done.true
+    (c.collect_now-done.ensures.collected room) (c.collect_now-done.ensures.whole room) refl c.saturating_add-self.ensures
+
+pub returns-else-done-clause-bad : goal.returns-else-done-clause-bad
+returns-else-done-clause-bad g c = λ e going.
+    let m = c.args.self.now in
+    let room = subst (λ (n : ℕ). IsRoomFor n m.room) (sym going.depth) m.roomy in
+    spoils (image_of m.image).program (program_of m) (state_of m) _ c.collect_now-done.result (image_program m m.loaded) c.if-done.false (c.collect_now-done.ensures.stopped room) refl

@@ -1,0 +1,100 @@
+//! Why the reading of a file stops, and what the file is refused for then: the rule, and its
+//! place among the tokens.
+#![tactic(auto)]
+
+ghost use Rattle.std.specs.Prelude.{◌≡◌, ◌<◌, ◌≤◌, length, drop};
+ghost use Rattle.m3_base.specs.declared.refusals.Refused.TheVariants.{Rule};
+ghost use Rattle.m3_stops.specs.Refusals.{IsRefusal};
+ghost use Rattle.m3_stops.specs.Refusals as spec;
+
+use m3_base::{Refusal, Refused};
+use m3_syntax::{Lexed, TokenKind};
+
+/// How many tokens a file may have.
+pub const MAX_TOKENS: usize = 500_000;
+
+/// The rule that a token breaks with which no text of the grammar goes on.
+const UNEXPECTED_TOKEN: u16 = 10;
+
+/// The rule that a file breaks that ends too early.
+const END_OF_FILE: u16 = 11;
+
+/// The rule that a closing name breaks that differs from the name that it closes.
+const END_NAME_DIFFERS: u16 = 12;
+
+/// The rule that a token breaks that lies inside too many constructs.
+const NESTING_TOO_DEEP: u16 = 13;
+
+/// The rule that token 500,001 breaks.
+const TOO_MANY_TOKENS: u16 = 14;
+
+/// Why the reading of a file stopped.
+#[derive(Clone, Copy, Debug, PartialEq, Eq)]
+pub enum Why {
+    /// The token there may not stand there, or the file ends too early.
+    Unexpected,
+    /// The token there lies inside too many constructs.
+    TooDeep,
+    NoMemory,
+}
+
+/// The first error in a file, and how many tokens were left there.
+#[derive(Clone, Copy, Debug)]
+pub struct Stop {
+    pub why: Why,
+    pub left: usize,
+}
+
+/// What a file is refused for whose reading stopped: token 500,001 where that was taken before.
+pub fn refusal_of(lexed: &Lexed<'_>, stop: Stop) -> Refused
+    ensures { IsRefusal lexed.now.end lexed.now.tokens.items result }
+{
+    let taken = lexed.tokens.len().saturating_sub(stop.left);
+    if taken > MAX_TOKENS {
+        return too_many_tokens(lexed);
+    }
+    match stop.why {
+        Why::NoMemory => Refused::NoMemory,
+        Why::Unexpected => refused_at(lexed, taken, UNEXPECTED_TOKEN),
+        Why::TooDeep => refused_at(lexed, taken, NESTING_TOO_DEEP),
+    }
+}
+
+/// What a file is refused for whose closing name, with so many tokens left there, is another than
+/// the one that it is to be.
+pub fn wrong_closing(lexed: &Lexed<'_>, left: usize) -> Refused
+    ensures { IsRefusal lexed.now.end lexed.now.tokens.items result }
+{
+    let taken = lexed.tokens.len().saturating_sub(left);
+    match &lexed.tokens.as_slice()[taken..] {
+        [token, ..] if matches!(token.kind, TokenKind::Ident) => {
+            refused_at(lexed, taken, END_NAME_DIFFERS)
+        }
+        _ => refused_at(lexed, taken, UNEXPECTED_TOKEN),
+    }
+}
+
+/// The refusal of token 500,001.
+pub fn too_many_tokens(lexed: &Lexed<'_>) -> Refused
+    requires { 500000 < length lexed.now.tokens.items }
+    ensures { IsRefusal lexed.now.end lexed.now.tokens.items result }
+{
+    refused_at(lexed, MAX_TOKENS, TOO_MANY_TOKENS)
+}
+
+/// The refusal of the token behind so many by a rule. Where there is none, the file ends too early.
+fn refused_at(lexed: &Lexed<'_>, taken: usize, rule: u16) -> Refused
+    requires { taken ≤ length lexed.now.tokens.items }
+    ensures { result ≡ Rule (spec.refused rule lexed.now.end (drop taken lexed.now.tokens.items)) }
+{
+    let (pos, rule) = match &lexed.tokens.as_slice()[taken..] {
+        [token, ..] => (token.pos, rule),
+        [] => (lexed.end, END_OF_FILE),
+    };
+    Refused::Rule(Refusal {
+        phase: 2,
+        unit: lexed.end.file,
+        pos,
+        rule,
+    })
+}

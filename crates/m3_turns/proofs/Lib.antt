@@ -1,0 +1,6 @@
+pub mod ThreadLists
+pub mod ThreadSteps
+pub mod Stays
+pub mod Ending
+pub mod Doing
+pub mod Moving
