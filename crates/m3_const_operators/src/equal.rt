@@ -1,7 +1,7 @@
-use indexmap::IndexSet;
 use m3_base::NoMemory;
 use m3_core::{Value, ValueId};
 use m3_worth::Evaluator;
+use std::collections::HashSet;
 
 /// Whether the values of two constants without parts are equal, texts by their cells; none where
 /// they have parts.
@@ -23,7 +23,7 @@ fn are_equal_leaves(a: Value<'_>, b: Value<'_>) -> bool {
 #[derive(Drop)]
 struct Compared {
     pairs: Vec<(ValueId, ValueId)>,
-    met: IndexSet<(ValueId, ValueId)>,
+    met: HashSet<(ValueId, ValueId)>,
 }
 
 impl Compared {
@@ -67,7 +67,7 @@ pub fn are_equal<'a>(
 ) -> Result<bool, NoMemory> {
     let mut compared = Compared {
         pairs: Vec::new(eval.alloc),
-        met: IndexSet::new(eval.alloc),
+        met: HashSet::new(eval.alloc),
     };
     if !compare(eval, &mut compared, a, b)? {
         return Ok(false);

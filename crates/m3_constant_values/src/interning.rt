@@ -67,6 +67,7 @@ fn intern_whole(declarer: &mut Declarer<'_, '_>, value: ValueId) -> Result<(), N
         .types
         .push(TypeNode::Constant(constant))?;
     declarer.interned.insert(value, ConstId(place.0))?;
+    declarer.intern_order.push(value)?;
     Ok(())
 }
 

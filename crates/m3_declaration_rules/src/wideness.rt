@@ -1,12 +1,12 @@
-use indexmap::IndexMap;
 use m3_base::NoMemory;
 use m3_declarer::Declarer;
 use m3_types::{Field, TypeId, TypeNode};
+use std::collections::HashMap;
 
 /// The words of types, as far as 2: each type's are told once.
 #[derive(Drop)]
 pub struct Words {
-    told: IndexMap<TypeId, u64>,
+    told: HashMap<TypeId, u64>,
 }
 
 impl Words {
@@ -26,7 +26,7 @@ fn at_most_two(words: u64) -> u64 {
 /// The words of types, of which none is told yet.
 pub fn new_words<'a>(declarer: &Declarer<'_, 'a>) -> Words {
     Words {
-        told: IndexMap::new(declarer.eval.alloc),
+        told: HashMap::new(declarer.eval.alloc),
     }
 }
 

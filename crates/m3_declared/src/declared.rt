@@ -1,9 +1,9 @@
-use indexmap::IndexMap;
 use m3_base::{Least, NoMemory, Pos};
 use m3_core::{Value, ValueId};
 use m3_scopes::EntityId;
 use m3_types::{TypeGraph, TypeId};
 use std::alloc::Global;
+use std::collections::HashMap;
 
 /// The types that every program has.
 #[derive(Clone, Copy, Debug)]
@@ -38,15 +38,15 @@ pub struct Declared<'a> {
     pub texts: Vec<&'a [u8]>,
     /// The least broken rule of expressions and statements that was met in declarations.
     pub later: Least,
-    named: IndexMap<EntityId, TypeId>,
-    kinds: IndexMap<EntityId, TypeId>,
-    constants: IndexMap<EntityId, Constant>,
-    types_at: IndexMap<(u32, Pos), TypeId>,
-    constants_at: IndexMap<(u32, Pos), Constant>,
-    texts_at: IndexMap<(u32, Pos), u32>,
-    procedures: IndexMap<EntityId, u32>,
-    modules: IndexMap<u32, u32>,
-    exceptions: IndexMap<EntityId, u32>,
+    named: HashMap<EntityId, TypeId>,
+    kinds: HashMap<EntityId, TypeId>,
+    constants: HashMap<EntityId, Constant>,
+    types_at: HashMap<(u32, Pos), TypeId>,
+    constants_at: HashMap<(u32, Pos), Constant>,
+    texts_at: HashMap<(u32, Pos), u32>,
+    procedures: HashMap<EntityId, u32>,
+    modules: HashMap<u32, u32>,
+    exceptions: HashMap<EntityId, u32>,
 }
 
 impl<'a> Declared<'a> {
@@ -58,15 +58,15 @@ impl<'a> Declared<'a> {
             values: Vec::new(alloc),
             texts: Vec::new(alloc),
             later: Least::new(),
-            named: IndexMap::new(alloc),
-            kinds: IndexMap::new(alloc),
-            constants: IndexMap::new(alloc),
-            types_at: IndexMap::new(alloc),
-            constants_at: IndexMap::new(alloc),
-            texts_at: IndexMap::new(alloc),
-            procedures: IndexMap::new(alloc),
-            modules: IndexMap::new(alloc),
-            exceptions: IndexMap::new(alloc),
+            named: HashMap::new(alloc),
+            kinds: HashMap::new(alloc),
+            constants: HashMap::new(alloc),
+            types_at: HashMap::new(alloc),
+            constants_at: HashMap::new(alloc),
+            texts_at: HashMap::new(alloc),
+            procedures: HashMap::new(alloc),
+            modules: HashMap::new(alloc),
+            exceptions: HashMap::new(alloc),
         }
     }
 

@@ -1,4 +1,3 @@
-use indexmap::IndexMap;
 use m3_base::{Least, NoMemory, Pos, Refusal};
 use m3_core::{Value, ValueId};
 use m3_early_names::type_of;
@@ -8,6 +7,7 @@ use m3_syntax::{Expr, Init, Signature, TypeExp};
 use m3_types::{ConstId, TypeId, TypeNode};
 use m3_worth::{Assumed, Evaluator, Need, Reason};
 use std::alloc::Global;
+use std::collections::HashMap;
 
 const PHASE: u8 = 5;
 
@@ -75,7 +75,9 @@ pub struct Declarer<'p, 'a> {
     pub declarations: &'p [Declaration<'a>],
     pub gathered: Gathered<'a>,
     pub least: Least,
-    pub plans: IndexMap<TypeId, Plan<'a>>,
+    pub plans: HashMap<TypeId, Plan<'a>>,
+    /// The types that have a plan, in the order in which they were reserved.
+    pub planned: Vec<TypeId>,
     /// What the task that is done notes; it counts when nothing lacks.
     pub reasons: Vec<Reason>,
     pub doubts: Vec<Doubtful<'a>>,
@@ -92,9 +94,11 @@ pub struct Declarer<'p, 'a> {
     /// The number of the next BRANDED without a text.
     pub occurrence: u32,
     /// The constants that types contain, by those of the program.
-    pub interned: IndexMap<ValueId, ConstId>,
+    pub interned: HashMap<ValueId, ConstId>,
+    /// The constants that are interned, in their order.
+    pub intern_order: Vec<ValueId>,
     /// The tasks that are done, each with its place on the stack.
-    pub busy: IndexMap<Need, usize>,
+    pub busy: HashMap<Need, usize>,
 }
 
 impl<'p, 'a> Declarer<'p, 'a> {
@@ -109,7 +113,8 @@ impl<'p, 'a> Declarer<'p, 'a> {
             declarations,
             gathered,
             least: Least::new(),
-            plans: IndexMap::new(alloc),
+            plans: HashMap::new(alloc),
+            planned: Vec::new(alloc),
             reasons: Vec::new(alloc),
             doubts: Vec::new(alloc),
             assumed: Vec::new(alloc),
@@ -121,8 +126,9 @@ impl<'p, 'a> Declarer<'p, 'a> {
             values: Vec::new(alloc),
             has_definitions: false,
             occurrence: 0,
-            interned: IndexMap::new(alloc),
-            busy: IndexMap::new(alloc),
+            interned: HashMap::new(alloc),
+            intern_order: Vec::new(alloc),
+            busy: HashMap::new(alloc),
         }
     }
 

@@ -1,8 +1,8 @@
-use indexmap::IndexMap;
 use m3_base::Pos;
 use m3_scopes::{EntityId, Program};
 use m3_syntax::{Expr, Name, Qualid, TypeExp};
 use std::alloc::Global;
+use std::collections::HashMap;
 
 /// A text literal as it is written, with its unit and place.
 #[derive(Clone, Copy)]
@@ -46,7 +46,7 @@ pub struct Gathered<'a> {
     pub texts: Vec<TextAt<'a>>,
     pub types: Vec<TypeAt<'a>>,
     pub labels: Vec<LabelAt<'a>>,
-    pub bindings: IndexMap<EntityId, Bound<'a>>,
+    pub bindings: HashMap<EntityId, Bound<'a>>,
 }
 
 /// The walk: what it found, and the unit that it is in. Where memory is wanting it goes on to its
@@ -70,7 +70,7 @@ impl<'p, 'a> Gatherer<'p, 'a> {
                 texts: Vec::new(alloc),
                 types: Vec::new(alloc),
                 labels: Vec::new(alloc),
-                bindings: IndexMap::new(alloc),
+                bindings: HashMap::new(alloc),
             },
             is_whole: true,
         }

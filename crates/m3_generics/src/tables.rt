@@ -1,15 +1,15 @@
-use indexmap::IndexMap;
 use m3_base::NoMemory;
 use m3_syntax::{Unit, UnitKind};
 use std::alloc::Global;
+use std::collections::{HashMap, HashSet};
 
 /// The units of a program that instances speak of, by their names. Of two with one name the first
 /// counts; the linker refuses the later one.
 #[derive(Drop)]
 pub struct Tables<'a> {
-    interfaces: IndexMap<&'a [u8], ()>,
-    generic_interfaces: IndexMap<&'a [u8], usize>,
-    generic_modules: IndexMap<&'a [u8], usize>,
+    interfaces: HashSet<&'a [u8]>,
+    generic_interfaces: HashMap<&'a [u8], usize>,
+    generic_modules: HashMap<&'a [u8], usize>,
 }
 
 /// The interfaces that every program has.
@@ -18,12 +18,12 @@ const BUILT_IN: [&[u8]; 5] = [b"Main", b"IO", b"Text", b"Word", b"Thread"];
 impl<'a> Tables<'a> {
     pub fn new(alloc: Global, units: &[Unit<'a>]) -> Result<Tables<'a>, NoMemory> {
         let mut tables = Tables {
-            interfaces: IndexMap::new(alloc),
-            generic_interfaces: IndexMap::new(alloc),
-            generic_modules: IndexMap::new(alloc),
+            interfaces: HashSet::new(alloc),
+            generic_interfaces: HashMap::new(alloc),
+            generic_modules: HashMap::new(alloc),
         };
         for name in BUILT_IN {
-            tables.interfaces.insert(name, ())?;
+            tables.interfaces.insert(name)?;
         }
         for (place, unit) in units.iter().enumerate() {
             tables.add(place, unit)?;
@@ -35,7 +35,7 @@ impl<'a> Tables<'a> {
         let name = unit.name.text;
         match unit.kind {
             UnitKind::Interface { .. } | UnitKind::InterfaceInstance { .. } => {
-                self.interfaces.insert(name, ())?;
+                self.interfaces.insert(name)?;
             }
             UnitKind::GenericInterface { .. } => {
                 if !self.generic_interfaces.contains_key(&name) {
@@ -54,7 +54,7 @@ impl<'a> Tables<'a> {
 
     /// Whether an interface has this name.
     pub fn is_interface(&self, name: &'a [u8]) -> bool {
-        self.interfaces.contains_key(&name)
+        self.interfaces.contains(&name)
     }
 
     /// The place of the generic interface of this name in the list of units.

@@ -1,15 +1,15 @@
 use crate::limits::MOST_WORDS;
-use indexmap::IndexMap;
 use m3_base::NoMemory;
 use m3_sizes::SizedTypes;
 use m3_types::{Field, Secret, TypeId, TypeNode};
 use std::alloc::Global;
+use std::collections::HashMap;
 
 /// The words of the cells of objects, as far as they were asked for.
 #[derive(Drop)]
 pub struct Cells {
     alloc: Global,
-    words: IndexMap<TypeId, u64>,
+    words: HashMap<TypeId, u64>,
 }
 
 /// What stands above the part that an object type adds.
@@ -26,7 +26,7 @@ impl Cells {
     pub fn new(alloc: Global) -> Cells {
         Cells {
             alloc,
-            words: IndexMap::new(alloc),
+            words: HashMap::new(alloc),
         }
     }
 

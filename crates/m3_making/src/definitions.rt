@@ -16,6 +16,7 @@ pub fn make_node<'a>(declarer: &mut Declarer<'_, 'a>, kind: TypeId) -> Result<()
     let node = definition_of(declarer, &plan, kind)?;
     if let (true, Some(node)) = (declarer.has_all(), node) {
         if binds_methods(&plan) {
+            declarer.eval.drafted.push(kind)?;
             declarer.eval.drafts.insert(kind, node)?;
         } else {
             declarer.set(kind, node);

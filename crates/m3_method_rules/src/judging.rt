@@ -1,4 +1,3 @@
-use indexmap::IndexSet;
 use m3_base::{NoMemory, place_number};
 use m3_declared::method_kind;
 use m3_declarer::{Declarer, MethodValue};
@@ -8,6 +7,7 @@ use m3_gathered::TypeAt;
 use m3_syntax::TypeExp;
 use m3_types::{Mode, Secret, TypeId, TypeNode};
 use m3_worth::Member;
+use std::collections::HashSet;
 
 /// How many ancestors are passed between two that are noted as being below a type.
 const NOTED_EVERY: usize = 64;
@@ -15,7 +15,7 @@ const NOTED_EVERY: usize = 64;
 /// Object types with types above them that were found.
 #[derive(Drop)]
 struct Lines {
-    below: IndexSet<(TypeId, TypeId)>,
+    below: HashSet<(TypeId, TypeId)>,
 }
 
 impl Lines {
@@ -31,7 +31,7 @@ impl Lines {
 pub fn judge_methods<'a>(declarer: &mut Declarer<'_, 'a>) -> Result<(), NoMemory> {
     let orphans = orphans(declarer)?;
     let mut lines = Lines {
-        below: IndexSet::new(declarer.eval.alloc),
+        below: HashSet::new(declarer.eval.alloc),
     };
     for place in 0..declarer.values.len() {
         if let Some(value) = declarer.values.get(place).copied() {
@@ -44,8 +44,8 @@ pub fn judge_methods<'a>(declarer: &mut Declarer<'_, 'a>) -> Result<(), NoMemory
 }
 
 /// The parts of object types whose parents are refused.
-fn orphans<'a>(declarer: &mut Declarer<'_, 'a>) -> Result<IndexSet<TypeId>, NoMemory> {
-    let mut orphans = IndexSet::new(declarer.eval.alloc);
+fn orphans<'a>(declarer: &mut Declarer<'_, 'a>) -> Result<HashSet<TypeId>, NoMemory> {
+    let mut orphans = HashSet::new(declarer.eval.alloc);
     for place in 0..declarer.gathered.types.len() {
         if let Some(written) = declarer.gathered.types.get(place).copied() {
             if let Some(orphan) = judge_parent(declarer, written)? {

@@ -1,7 +1,6 @@
 use crate::members::Member;
 use crate::things::Thing;
 use bumpalo::Bump;
-use indexmap::{IndexMap, IndexSet};
 use m3_base::{Least, NoMemory, Pos, Refusal};
 use m3_core::{CoreExpr, ProcDef, Step};
 use m3_declared::Declared;
@@ -9,6 +8,7 @@ use m3_scopes::{EntityId, Program};
 use m3_syntax::Kept;
 use m3_types::TypeId;
 use std::alloc::Global;
+use std::collections::{HashMap, HashSet};
 
 const PHASE: u8 = 6;
 
@@ -45,16 +45,16 @@ pub struct Checker<'p, 'a> {
     /// The level of the procedure around.
     pub level: u32,
     /// The variables in force and all others of the program that were met.
-    pub variables: IndexMap<EntityId, Variable>,
+    pub variables: HashMap<EntityId, Variable>,
     /// The steps of the chains in the making, each chain's behind those of the chains around it.
     pub steps: Vec<Step<'a>>,
     /// The fields, methods and formals of the types that were asked for one, by name.
-    pub members: IndexMap<(TypeId, &'a [u8]), Member>,
-    pub listed: IndexSet<TypeId>,
+    pub members: HashMap<(TypeId, &'a [u8]), Member>,
+    pub listed: HashSet<TypeId>,
     /// What each unit sees of the opaque types that were asked for.
-    pub seen: IndexMap<(u32, TypeId), TypeId>,
+    pub seen: HashMap<(u32, TypeId), TypeId>,
     /// The open array type of each element type that SUBARRAY met.
-    pub open: IndexMap<TypeId, TypeId>,
+    pub open: HashMap<TypeId, TypeId>,
     /// The procedures that were checked, each with its number.
     pub procedures: Vec<(u32, ProcDef<'a>)>,
 }
@@ -74,12 +74,12 @@ impl<'p, 'a> Checker<'p, 'a> {
             least: Least::new(),
             unit: 0,
             level: 0,
-            variables: IndexMap::new(alloc),
+            variables: HashMap::new(alloc),
             steps: Vec::new(alloc),
-            members: IndexMap::new(alloc),
-            listed: IndexSet::new(alloc),
-            seen: IndexMap::new(alloc),
-            open: IndexMap::new(alloc),
+            members: HashMap::new(alloc),
+            listed: HashSet::new(alloc),
+            seen: HashMap::new(alloc),
+            open: HashMap::new(alloc),
             procedures: Vec::new(alloc),
         }
     }

@@ -1,11 +1,11 @@
 use crate::bodies::join_body;
-use indexmap::IndexSet;
 use m3_base::{NoMemory, Refusal, place_number};
 use m3_declaration_names::declare_all;
 use m3_names::{walk_declarations, walk_statements};
 use m3_scopes::{EntityId, EntityKind, Linker, UnitInfo};
 use m3_syntax::{Import, ImportItem, Name, Unit, UnitKind};
 use std::alloc::Global;
+use std::collections::HashSet;
 
 const BUILT_IN: [&[u8]; 5] = [b"Main", b"IO", b"Text", b"Word", b"Thread"];
 
@@ -32,7 +32,7 @@ pub fn judge_units<'a>(
     alloc: Global,
     given: &[Unit<'a>],
 ) -> Result<(), NoMemory> {
-    let mut seen = IndexSet::new(alloc);
+    let mut seen = HashSet::new(alloc);
     for unit in given {
         let key = (
             is_interface(unit.kind),

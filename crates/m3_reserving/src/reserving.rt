@@ -34,6 +34,7 @@ fn plan_type<'a>(
     written: Written<'a>,
 ) -> Result<TypeId, NoMemory> {
     let kind = declarer.eval.declared.types.reserve()?;
+    declarer.planned.push(kind)?;
     declarer.plans.insert(
         kind,
         Plan {

@@ -3,10 +3,10 @@ use crate::entities::{Entity, EntityId, EntityKind};
 use crate::predeclared::{Predeclared, predeclared_names};
 use crate::program::{Binds, Revealed, UnitInfo};
 use crate::scopes::{Scopes, Visible};
-use indexmap::{IndexMap, IndexSet};
 use m3_base::{Least, NoMemory, Pos, Refusal, place_number};
 use m3_syntax::{Name, Qualid};
 use std::alloc::Global;
+use std::collections::{HashMap, HashSet};
 
 const PHASE: u8 = 4;
 
@@ -19,11 +19,11 @@ pub struct Linker<'a> {
     pub binds: Binds<'a>,
     pub reveals: Vec<Revealed>,
     pub scopes: Scopes<'a>,
-    predeclared: IndexSet<&'a [u8]>,
+    predeclared: HashSet<&'a [u8]>,
     /// The interfaces by name.
-    pub interfaces: IndexMap<&'a [u8], u32>,
+    pub interfaces: HashMap<&'a [u8], u32>,
     /// What the outermost scope of each unit declares itself, by unit and name.
-    pub own: IndexMap<(u32, &'a [u8]), EntityId>,
+    pub own: HashMap<(u32, &'a [u8]), EntityId>,
     pub least: Least,
     /// The unit that is read, and the procedure around the place that is read.
     pub unit: u32,
@@ -38,9 +38,9 @@ impl<'a> Linker<'a> {
             binds: Binds::new(alloc),
             reveals: Vec::new(alloc),
             scopes: Scopes::new(alloc),
-            predeclared: IndexSet::new(alloc),
-            interfaces: IndexMap::new(alloc),
-            own: IndexMap::new(alloc),
+            predeclared: HashSet::new(alloc),
+            interfaces: HashMap::new(alloc),
+            own: HashMap::new(alloc),
             least: Least::new(),
             unit: 0,
             procedure: None,

@@ -1,9 +1,9 @@
 use crate::declarations::Declaration;
 use crate::entities::{Entity, EntityId, EntityKind};
-use indexmap::IndexMap;
 use m3_base::{NoMemory, Pos, place_number};
 use m3_syntax::{Name, Unit};
 use std::alloc::Global;
+use std::collections::HashMap;
 
 /// A linked program with its text: the given units and behind them the built-in interfaces, what
 /// declares their entities, and what linking found out.
@@ -56,14 +56,14 @@ pub struct Revealed {
 pub struct Binds<'a> {
     entities: Vec<Entity<'a>>,
     /// What the name at a place of a unit's text stands for, where it is declared and where it is used.
-    names: IndexMap<(u32, Pos), EntityId>,
+    names: HashMap<(u32, Pos), EntityId>,
 }
 
 impl<'a> Binds<'a> {
     pub fn new(alloc: Global) -> Binds<'a> {
         Binds {
             entities: Vec::new(alloc),
-            names: IndexMap::new(alloc),
+            names: HashMap::new(alloc),
         }
     }
 

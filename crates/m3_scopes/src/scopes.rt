@@ -1,7 +1,7 @@
 use crate::entities::EntityId;
-use indexmap::IndexSet;
 use m3_base::{NoMemory, Pos};
 use std::alloc::Global;
+use std::collections::HashMap;
 
 /// A name that can be used at a place of the text: what it stands for, in which scope, and the place
 /// in this unit that gives it, where one does.
@@ -23,7 +23,8 @@ struct Hidden {
 /// many scopes there are.
 #[derive(Drop)]
 pub struct Scopes<'a> {
-    names: IndexSet<&'a [u8]>,
+    /// The place of each name that was declared somewhere, in `visible`.
+    places: HashMap<&'a [u8], usize>,
     visible: Vec<Option<Visible>>,
     hidden: Vec<Hidden>,
     /// Of each open scope its number and how many names were hidden when it was opened.
@@ -35,7 +36,7 @@ pub struct Scopes<'a> {
 impl<'a> Scopes<'a> {
     pub fn new(alloc: Global) -> Scopes<'a> {
         Scopes {
-            names: IndexSet::new(alloc),
+            places: HashMap::new(alloc),
             visible: Vec::new(alloc),
             hidden: Vec::new(alloc),
             open: Vec::new(alloc),
@@ -79,7 +80,7 @@ impl<'a> Scopes<'a> {
 
     /// What a name stands for here.
     pub fn look_up(&self, name: &'a [u8]) -> Option<Visible> {
-        let place = self.names.get_index_of(&name)?;
+        let place = self.places.get(&name).copied()?;
         self.visible.get(place).copied()?
     }
 
@@ -91,6 +92,17 @@ impl<'a> Scopes<'a> {
         }
     }
 
+    /// The place of a name, a new one where it was declared nowhere before.
+    fn place_of(&mut self, name: &'a [u8]) -> Result<usize, NoMemory> {
+        if let Some(place) = self.places.get(&name) {
+            return Ok(*place);
+        }
+        let place = self.visible.len();
+        self.visible.push(None)?;
+        self.places.insert(name, place)?;
+        Ok(place)
+    }
+
     /// Gives a name a meaning in the innermost scope.
     pub fn declare(
         &mut self,
@@ -98,10 +110,7 @@ impl<'a> Scopes<'a> {
         entity: EntityId,
         pos: Option<Pos>,
     ) -> Result<(), NoMemory> {
-        let (place, is_new) = self.names.insert_full(name)?;
-        if is_new {
-            self.visible.push(None)?;
-        }
+        let place = self.place_of(name)?;
         let scope = self.innermost();
         let before = self.visible.get(place).copied().flatten();
         self.hidden.push(Hidden {

@@ -3,7 +3,6 @@ use m3_declarer::Declarer;
 use m3_making::{make_constant, make_kind, make_methods, make_node};
 use m3_reveals::{list_reveals, note_reveals};
 use m3_scopes::{EntityId, EntityKind};
-use m3_types::TypeId;
 use m3_worth::Need;
 
 /// Does all tasks: the definitions of types, then with the reveals of opaque types the constants
@@ -21,8 +20,8 @@ pub fn settle_all<'a>(declarer: &mut Declarer<'_, 'a>) -> Result<(), NoMemory> {
 
 /// Tries the definition of each type once; those that lack something are settled behind that.
 fn attempt_nodes<'a>(declarer: &mut Declarer<'_, 'a>) -> Result<(), NoMemory> {
-    for place in 0..declarer.plans.len() {
-        if let Some(kind) = planned(declarer, place) {
+    for place in 0..declarer.planned.len() {
+        if let Some(kind) = declarer.planned.get(place).copied() {
             attempt(declarer, Need::Node(kind))?;
         }
     }
@@ -30,8 +29,8 @@ fn attempt_nodes<'a>(declarer: &mut Declarer<'_, 'a>) -> Result<(), NoMemory> {
 }
 
 fn settle_nodes<'a>(declarer: &mut Declarer<'_, 'a>) -> Result<(), NoMemory> {
-    for place in 0..declarer.plans.len() {
-        if let Some(kind) = planned(declarer, place) {
+    for place in 0..declarer.planned.len() {
+        if let Some(kind) = declarer.planned.get(place).copied() {
             settle(declarer, Need::Node(kind))?;
         }
     }
@@ -39,8 +38,8 @@ fn settle_nodes<'a>(declarer: &mut Declarer<'_, 'a>) -> Result<(), NoMemory> {
 }
 
 fn settle_methods<'a>(declarer: &mut Declarer<'_, 'a>) -> Result<(), NoMemory> {
-    for place in 0..declarer.eval.drafts.len() {
-        if let Some(kind) = drafted(declarer, place) {
+    for place in 0..declarer.eval.drafted.len() {
+        if let Some(kind) = declarer.eval.drafted.get(place).copied() {
             settle(declarer, Need::Methods(kind))?;
         }
     }
@@ -55,20 +54,6 @@ fn settle_names<'a>(declarer: &mut Declarer<'_, 'a>) -> Result<(), NoMemory> {
         }
     }
     Ok(())
-}
-
-fn planned<'a>(declarer: &Declarer<'_, 'a>, place: usize) -> Option<TypeId> {
-    match declarer.plans.get_index(place) {
-        Some((kind, _)) => Some(*kind),
-        None => None,
-    }
-}
-
-fn drafted<'a>(declarer: &Declarer<'_, 'a>, place: usize) -> Option<TypeId> {
-    match declarer.eval.drafts.get_index(place) {
-        Some((kind, _)) => Some(*kind),
-        None => None,
-    }
 }
 
 /// The task that a name is.
@@ -94,7 +79,7 @@ fn settle<'a>(declarer: &mut Declarer<'_, 'a>, need: Need) -> Result<(), NoMemor
         };
         if declarer.eval.settled.contains(&need) || attempt(declarer, need)? {
             stack.pop();
-            declarer.busy.swap_remove(&need);
+            declarer.busy.remove(&need);
             continue 'tasks;
         }
         let place = stack.len().saturating_sub(1);
@@ -189,7 +174,7 @@ fn attempt<'a>(declarer: &mut Declarer<'_, 'a>, need: Need) -> Result<bool, NoMe
     declarer.new_values.clear();
     let texts = declarer.eval.declared.texts.len();
     let values = declarer.eval.declared.values.len();
-    let interned = declarer.interned.len();
+    let interned = declarer.intern_order.len();
     match need {
         Need::Constant(id) => make_constant(declarer, id)?,
         Need::Kind(id) => make_kind(declarer, id)?,
@@ -199,12 +184,21 @@ fn attempt<'a>(declarer: &mut Declarer<'_, 'a>, need: Need) -> Result<bool, NoMe
     if !declarer.has_all() {
         declarer.eval.declared.texts.truncate(texts);
         declarer.eval.declared.values.truncate(values);
-        declarer.interned.truncate(interned);
+        forget_interned(declarer, interned);
         return Ok(false);
     }
     keep_notes(declarer)?;
     declarer.eval.settled.insert(need)?;
     Ok(true)
+}
+
+/// Takes back the constants that were interned behind the first so many.
+fn forget_interned<'a>(declarer: &mut Declarer<'_, 'a>, kept: usize) {
+    for _ in kept..declarer.intern_order.len() {
+        if let Some(value) = declarer.intern_order.pop() {
+            declarer.interned.remove(&value);
+        }
+    }
 }
 
 /// Keeps what a task noted.

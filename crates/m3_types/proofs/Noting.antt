@@ -5,7 +5,7 @@ use Rattle.std.specs.Option.{option_map_or}
 use Rattle.std.proofs.lemmas.List.Elements.{Contains-append_left, Contains-push}
 use Rattle.std.proofs.lemmas.Bool.{and_parts}
 use Rattle.std.proofs.lemmas.Bool.Decides.{nat_tests}
-use Rattle.indexmap.specs.IndexMap.{IndexMap, Updates, IsUnchanged}
+use Rattle.std.specs.HashMap.{HashMap, Updates, IsUnchanged}
 use Rattle.std.specs.Prelude.{Result, Ok, Err, OnOk, OnErr}
 use Rattle.std.specs.Map.{lookup}
 use Rattle.m3_types.specs.declared.places.Link.{Link}
@@ -51,10 +51,10 @@ module _ (links : List Link) (link : Link) where
   descends_more d last n o l g e =
       ⊎_elim (λ old. d n o l old e) (λ new. subst (λ k. o < k) (sym new.0) (last o (ap (λ m. m.older) new.1 ∙ e))) (get_cases links link n l g)
 
-  pub there_more : {S : Type 0} (m : IndexMap (ℕ × ℕ) ℕ S) → AreThere m links → AreThere m (links ++ link ∷ [])
+  pub there_more : {S : Type 0} (m : HashMap (ℕ × ℕ) ℕ S) → AreThere m links → AreThere m (links ++ link ∷ [])
   there_more m h v i n e = let l = h v i n e in omega (arith, length-append links (link ∷ []))
 
-module _ {S : Type 0} (m n : IndexMap (ℕ × ℕ) ℕ S) (view id number : ℕ) (u : Updates same_key m n (view, id) (Some number)) where
+module _ {S : Type 0} (m n : HashMap (ℕ × ℕ) ℕ S) (view id number : ℕ) (u : Updates same_key m n (view, id) (Some number)) where
   pub newest_here : newest_of n view id ≡ Some number
   newest_here = u.1
 
@@ -88,7 +88,7 @@ module _ {S : Type 0} (m n : IndexMap (ℕ × ℕ) ℕ S) (view id number : ℕ)
       (newest_cases v i)
 
 -- where an insertion fails the keys keep what they have
-module _ {S : Type 0} (m n : IndexMap (ℕ × ℕ) ℕ S) (e : IsUnchanged m n) where
+module _ {S : Type 0} (m n : HashMap (ℕ × ℕ) ℕ S) (e : IsUnchanged m n) where
   newest_unchanged : (v i : ℕ) → newest_of n v i ≡ newest_of m v i
   newest_unchanged v i = ap (λ es. lookup (same_key (v, i)) es) e
 
@@ -99,7 +99,7 @@ module _ {S : Type 0} (m n : IndexMap (ℕ × ℕ) ℕ S) (e : IsUnchanged m n) 
   there_unchanged links link h v i k f = there_more links link m h v i k (sym (newest_unchanged v i) ∙ f)
 
 -- whether the insertion succeeds or not, each key has a link that is there
-pub there_either : {S T E : Type 0} (r : Result T E) (m n : IndexMap (ℕ × ℕ) ℕ S) (view id number : ℕ) (links : List Link) (link : Link) → number ≡ length links → OnOk r (Updates same_key m n (view, id) (Some number)) → OnErr r (IsUnchanged m n) → AreThere m links → AreThere n (links ++ link ∷ [])
+pub there_either : {S T E : Type 0} (r : Result T E) (m n : HashMap (ℕ × ℕ) ℕ S) (view id number : ℕ) (links : List Link) (link : Link) → number ≡ length links → OnOk r (Updates same_key m n (view, id) (Some number)) → OnErr r (IsUnchanged m n) → AreThere m links → AreThere n (links ++ link ∷ [])
 there_either (Ok t) m n view id number links link l u e h = there_stays m n view id number u links link l h
 there_either (Err t) m n view id number links link l u e h = there_unchanged m n e links link h
 

@@ -7,7 +7,7 @@ use Rattle.std.proofs.lemmas.Bool.{cases_eq, cases_lt}
 use Rattle.std.proofs.lemmas.List.Elements.{All-push, All-weaker, Contains-push_cases}
 use Rattle.std.proofs.lemmas.List.{take_more, take_all}
 use Rattle.std.proofs.lemmas.Option.{slice_get-get_or}
-use Rattle.indexmap.specs.IndexMap.{IndexMap}
+use Rattle.std.specs.HashMap.{HashMap}
 use Rattle.m3_types.specs.declared.nodes.Reveal.{Reveal}
 use Rattle.m3_types.specs.declared.nodes.TypeNode.{TypeNode}
 use Rattle.m3_types.specs.declared.nodes.TypeNode.TheVariants.{Reserved}
@@ -20,7 +20,7 @@ use Rattle.m3_types.proofs.Noting.{some_is, number_eq, get_last, get_cases}
 
 -- ---- what was noted stays
 
-module _ {S T : Type 0} (m : IndexMap (ℕ × ℕ) ℕ S) (links : List Link) (n : IndexMap (ℕ × ℕ) ℕ T) (more : List Link) (k : (v i p : ℕ) → IsNoted links (newest_of m v i) p → IsNoted more (newest_of n v i) p) where
+module _ {S T : Type 0} (m : HashMap (ℕ × ℕ) ℕ S) (links : List Link) (n : HashMap (ℕ × ℕ) ℕ T) (more : List Link) (k : (v i p : ℕ) → IsNoted links (newest_of m v i) p → IsNoted more (newest_of n v i) p) where
   pub noted_kept : (reveals : List Reveal) → AreNoted reveals m links → AreNoted reveals n more
   noted_kept reveals h place r g = ∥∥₁_elim (h place r g) ∥∥₁_prop (λ q. ∣ k r.view r.opaque.0 place q ∣₁)
 
@@ -30,7 +30,7 @@ module _ {S T : Type 0} (m : IndexMap (ℕ × ℕ) ℕ S) (links : List Link) (n
 
 -- ---- one reveal more
 
-module _ {S : Type 0} (m : IndexMap (ℕ × ℕ) ℕ S) (links : List Link) (reveals : List Reveal) (r : Reveal) where
+module _ {S : Type 0} (m : HashMap (ℕ × ℕ) ℕ S) (links : List Link) (reveals : List Reveal) (r : Reveal) where
   pub noted_added : AreNoted reveals m links → IsNoted links (newest_of m r.view r.opaque.0) (length reveals) → AreNoted (reveals ++ r ∷ []) m links
   noted_added h new place q g =
       ⊎_elim (λ old. h place q old)
@@ -83,7 +83,7 @@ set_other (x ∷ xs) (suc t) y (suc k) ne = set_other xs t y k (λ e. ne (ap suc
 mark_in : ℕ → Option TypeNode → ℕ
 mark_in place o = mark_of (option_map_or (head_of place) o Missing)
 
-module _ {S : Type 0} (m : IndexMap (ℕ × ℕ) ℕ S) (links : List Link) (reveals : List Reveal) (old new : List TypeNode) (stays : (b : ℕ) → (mark_at old b ≡ 0) ⊎ (mark_at old b ≡ mark_at new b)) where
+module _ {S : Type 0} (m : HashMap (ℕ × ℕ) ℕ S) (links : List Link) (reveals : List Reveal) (old new : List TypeNode) (stays : (b : ℕ) → (mark_at old b ≡ 0) ⊎ (mark_at old b ≡ mark_at new b)) where
   hidden_along : AreHidden old reveals m links → AreHidden new reveals m links
   hidden_along h place r g f =
       ∥∥₁_elim (h place r g f) ∥∥₁_prop (λ q.
@@ -93,7 +93,7 @@ module _ {S : Type 0} (m : IndexMap (ℕ × ℕ) ℕ S) (links : List Link) (rev
       (λ e. inr (subst (λ k. IsNoted links (newest_of m r.view k) place) e a)) (stays r.bound.0))
       q ∣₁)
 
-module _ {S : Type 0} (m : IndexMap (ℕ × ℕ) ℕ S) (links : List Link) (reveals : List Reveal) (nodes : List TypeNode) (node : TypeNode) where
+module _ {S : Type 0} (m : HashMap (ℕ × ℕ) ℕ S) (links : List Link) (reveals : List Reveal) (nodes : List TypeNode) (node : TypeNode) where
   pub hidden_pushed : AreHidden nodes reveals m links → AreHidden (nodes ++ node ∷ []) reveals m links
   hidden_pushed h = hidden_along m links reveals nodes (nodes ++ node ∷ []) stays h
     where

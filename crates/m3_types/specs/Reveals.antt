@@ -1,7 +1,7 @@
 -- What stands behind an opaque type, and how the reveals of a graph are found.
 use Rattle.std.specs.Prelude.{◌≡◌, ℕ, ◌<◌, ◌⊎◌, ◌&&◌, ◌==◌, if◌then◌else◌, true, List, [], ◌∷◌, length, All, Option, Some, None, slice_get}
 use Rattle.std.specs.Option.{option_and_then}
-use Rattle.indexmap.specs.IndexMap.{IndexMap}
+use Rattle.std.specs.HashMap.{HashMap}
 use Rattle.m3_types.specs.declared.nodes.Reveal.{Reveal}
 use Rattle.m3_types.specs.declared.nodes.TypeNode.{TypeNode}
 use Rattle.m3_types.specs.declared.places.Link.{Link}
@@ -17,11 +17,11 @@ full_reveal (r ∷ reveals) opaque = if r.full && (r.opaque.0 == opaque) then So
 -- ---- how they are found
 
 -- each reveal is noted under its view and its opaque type
-abbrev pub AreNoted : {S : Type 0} → List Reveal → IndexMap (ℕ × ℕ) ℕ S → List Link → Type 0
+abbrev pub AreNoted : {S : Type 0} → List Reveal → HashMap (ℕ × ℕ) ℕ S → List Link → Type 0
 AreNoted reveals newest links = (place : ℕ) (r : Reveal) → slice_get reveals place ≡ Some r → ∥ IsNoted links (newest_of newest r.view r.opaque.0) place ∥₁
 
 -- each full reveal is noted under its view and the mark of the type that it gives, or under 0
-abbrev pub AreHidden : {S : Type 0} → List TypeNode → List Reveal → IndexMap (ℕ × ℕ) ℕ S → List Link → Type 0
+abbrev pub AreHidden : {S : Type 0} → List TypeNode → List Reveal → HashMap (ℕ × ℕ) ℕ S → List Link → Type 0
 AreHidden nodes reveals newest links = (place : ℕ) (r : Reveal) → slice_get reveals place ≡ Some r → r.full ≡ true → ∥ (IsNoted links (newest_of newest r.view 0) place ⊎ IsNoted links (newest_of newest r.view (mark_at nodes r.bound.0)) place) ∥₁
 
 -- the entry of a list at a place

@@ -1,9 +1,9 @@
 ghost use Rattle.std.specs.Prelude.{◌≡◌, ◌<◌, ◌++◌, ℕ, [], OnOk, IfOk, IfSome, Contains, Option, Some, slice_get};
 ghost use Rattle.m3_types.specs.Noting.{IsNoted, Descends, AreThere, newest_of};
 
-use indexmap::IndexMap;
 use m3_base::NoMemory;
 use std::alloc::Global;
+use std::collections::HashMap;
 
 /// A place that was noted, and the link of the one that was noted before it under the same key.
 #[derive(Clone, Copy)]
@@ -15,7 +15,7 @@ pub(crate) struct Link {
 /// Places under keys: each key has the link of the place that was noted last.
 #[derive(Drop)]
 pub(crate) struct PlaceIndex {
-    pub(crate) newest: IndexMap<(u32, usize), u32>,
+    pub(crate) newest: HashMap<(u32, usize), u32>,
     pub(crate) links: Vec<Link>,
     ghost descends: { Descends links.items },
     ghost there: { AreThere newest links.items },
@@ -24,7 +24,7 @@ pub(crate) struct PlaceIndex {
 impl PlaceIndex {
     pub(crate) fn new(alloc: Global) -> PlaceIndex {
         PlaceIndex {
-            newest: IndexMap::new(alloc),
+            newest: HashMap::new(alloc),
             links: Vec::new(alloc),
         }
     }

@@ -1,13 +1,13 @@
 use crate::members::{Found, Member};
 use crate::worth::{Known, Reason, Thing, Worth};
 use bumpalo::Bump;
-use indexmap::{IndexMap, IndexSet};
 use m3_base::{NoMemory, Pos, place_number};
 use m3_core::{Value, ValueId};
 use m3_declared::Declared;
 use m3_scopes::{EntityId, Program};
 use m3_types::{Reveal, TypeId, TypeNode};
 use std::alloc::Global;
+use std::collections::{HashMap, HashSet};
 
 /// What has to be worked out: a constant, the type of a variable that names none, the definition
 /// of a type, or what is bound to its methods.
@@ -51,20 +51,22 @@ pub struct Evaluator<'p, 'a> {
     /// What the expression assumes.
     pub assumed: Vec<Assumed>,
     /// What is worked out, also where it was refused.
-    pub settled: IndexSet<Need>,
+    pub settled: HashSet<Need>,
     /// The definitions of object types to whose methods nothing is bound yet.
-    pub drafts: IndexMap<TypeId, TypeNode<'a>>,
+    pub drafts: HashMap<TypeId, TypeNode<'a>>,
+    /// The object types that have a draft, in the order in which they got it.
+    pub drafted: Vec<TypeId>,
     /// The types in the making that NIL belongs to.
-    pub nilable: IndexSet<TypeId>,
+    pub nilable: HashSet<TypeId>,
     /// Whether the definitions of all types are there.
     pub is_complete: bool,
     /// The reveals of opaque types by view, a full one where there is one.
-    pub early: IndexMap<(u32, TypeId), Reveal>,
+    pub early: HashMap<(u32, TypeId), Reveal>,
     /// The fields, methods and formals of the types that were asked for one, by name.
-    pub members: IndexMap<(TypeId, &'a [u8]), Member>,
-    pub listed: IndexSet<TypeId>,
+    pub members: HashMap<(TypeId, &'a [u8]), Member>,
+    pub listed: HashSet<TypeId>,
     /// Members of object types that were found, by view.
-    pub found: IndexMap<(u32, TypeId, &'a [u8]), Option<Found>>,
+    pub found: HashMap<(u32, TypeId, &'a [u8]), Option<Found>>,
 }
 
 impl<'p, 'a> Evaluator<'p, 'a> {
@@ -84,14 +86,15 @@ impl<'p, 'a> Evaluator<'p, 'a> {
             lacks: Vec::new(alloc),
             flaw: None,
             assumed: Vec::new(alloc),
-            settled: IndexSet::new(alloc),
-            drafts: IndexMap::new(alloc),
-            nilable: IndexSet::new(alloc),
+            settled: HashSet::new(alloc),
+            drafts: HashMap::new(alloc),
+            drafted: Vec::new(alloc),
+            nilable: HashSet::new(alloc),
             is_complete: false,
-            early: IndexMap::new(alloc),
-            members: IndexMap::new(alloc),
-            listed: IndexSet::new(alloc),
-            found: IndexMap::new(alloc),
+            early: HashMap::new(alloc),
+            members: HashMap::new(alloc),
+            listed: HashSet::new(alloc),
+            found: HashMap::new(alloc),
         }
     }
 
