@@ -8,6 +8,7 @@ use m3_gather::gather;
 use m3_reserving::reserve_all;
 use m3_scopes::Linked;
 use m3_settle::settle_all;
+use m3_syntax::Unit;
 use m3_types::{TypeGraph, TypeNode};
 use m3_worth::Evaluator;
 use std::alloc::Global;
@@ -51,14 +52,20 @@ pub fn declare<'a>(
     let eval = Evaluator::new(alloc, arena, &linked.program, declared);
     let gathered = gather(alloc, linked)?;
     let mut declarer = Declarer::new(alloc, eval, &linked.declarations, gathered);
-    reserve_all(&mut declarer, &linked.units)?;
-    name_all(&mut declarer)?;
-    define_all(&mut declarer)?;
-    settle_all(&mut declarer)?;
-    judge_all(&mut declarer, &linked.units)?;
-    declarer.least.check()?;
+    work_out(&mut declarer, &linked.units)?;
     Ok(Declarations {
         declared: declarer.eval.declared,
         doubtful: declarer.doubtful,
     })
+}
+
+/// Works out all types and constants of a program, and judges them.
+fn work_out<'a>(declarer: &mut Declarer<'_, 'a>, units: &[Unit<'a>]) -> Result<(), Refused> {
+    reserve_all(declarer, units)?;
+    name_all(declarer)?;
+    define_all(declarer)?;
+    settle_all(declarer)?;
+    judge_all(declarer, units)?;
+    declarer.least.check()?;
+    Ok(())
 }
