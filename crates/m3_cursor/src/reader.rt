@@ -1,14 +1,14 @@
 ghost use Rattle.std.specs.Prelude.{◌≡◌, ◌+◌, ◌<◌, ◌≤◌, ◌++◌, [], ◌∷◌, length};
-ghost use Rattle.std.specs.Prelude.{IsTrue, IsFalse, IfSome, IfNone, OnSome, IfOk, IsSome};
+ghost use Rattle.std.specs.Prelude.{IsTrue, IsFalse, IfSome, IfNone, OnSome, IsSome};
 ghost use Rattle.m3_syntax.specs.declared.tokens.TokenKind.{TokenKind};
 ghost use Rattle.m3_grammar.specs.Tokens.{IsAt, IsToken, IsWritten, IsWord, IsSign, IsName, first_kind};
 ghost use Rattle.m3_cursor.specs.Readers.{Follows, Reads};
 
 use bumpalo::Bump;
-use m3_base::{NoMemory, Pos};
+use m3_base::Pos;
 use m3_grammar::{is_sign, is_word};
 use m3_stops::{Stop, Why};
-use m3_syntax::{Expr, Lexed, Name, Sign, Token, TokenKind, TypeExp, Word};
+use m3_syntax::{Lexed, Name, Sign, Token, TokenKind, Word};
 use std::alloc::Global;
 
 /// Reads the tokens of a file from the first to the last. It keeps the first error, and stands at
@@ -23,8 +23,6 @@ pub struct Reader<'t, 'a> {
     /// How many tokens were left at the first closing name that differs from the name that it
     /// closes.
     wrong_closing: Option<usize>,
-    no_expr: &'a Expr<'a>,
-    no_type: &'a TypeExp<'a>,
 }
 
 impl Drop for Reader<'_, '_> {
@@ -36,34 +34,23 @@ impl Drop for Reader<'_, '_> {
             end: _,
             stop: _,
             wrong_closing: _,
-            no_expr: _,
-            no_type: _,
         } = self;
     }
 }
 
 impl<'t, 'a> Reader<'t, 'a> {
     /// The reader at the first token of a file. What is read goes into the arena.
-    pub fn new(
-        alloc: Global,
-        arena: &'a Bump,
-        lexed: &'t Lexed<'a>,
-    ) -> Result<Reader<'t, 'a>, NoMemory>
-        ensures { IfOk result (λ reader. reader.rest.now ≡ lexed.now.tokens.items) }
+    pub fn new(alloc: Global, arena: &'a Bump, lexed: &'t Lexed<'a>) -> Reader<'t, 'a>
+        ensures { result.rest.now ≡ lexed.now.tokens.items }
     {
-        let end = lexed.end;
-        let no_expr = &*arena.try_alloc(Expr::Missing { pos: end })?;
-        let no_type = &*arena.try_alloc(TypeExp::Missing { pos: end })?;
-        Ok(Reader {
+        Reader {
             alloc,
             arena,
             rest: lexed.tokens.as_slice(),
-            end,
+            end: lexed.end,
             stop: None,
             wrong_closing: None,
-            no_expr,
-            no_type,
-        })
+        }
     }
 
     /// The first error, if there was one.
@@ -346,39 +333,18 @@ impl<'t, 'a> Reader<'t, 'a> {
         }
     }
 
-    /// Keeps an expression.
-    pub fn expr(&mut self, expr: Expr<'a>) -> &'a Expr<'a>
+    /// Keeps a node. Where there is no memory for it, a spare one stands for it.
+    pub fn node<T: Copy>(&mut self, node: T, spare: &'a T) -> &'a T
         ensures follows { Follows self.old self.new }
         ensures reads { Reads self.old self.new (λ before after. after ≡ before) }
-        ensures kept { self.new.stop ≡ None → result.now ≡ expr.entry }
+        ensures kept { self.new.stop ≡ None → result.now ≡ node }
     {
-        let spare = self.no_expr;
-        let kept = kept(self.arena, expr);
-        if kept.is_err() {
-            self.fail(Why::NoMemory);
+        match self.arena.try_alloc(node) {
+            Ok(kept) => &*kept,
+            Err(_) => {
+                self.fail(Why::NoMemory);
+                spare
+            }
         }
-        kept.unwrap_or(spare)
     }
-
-    /// Keeps a type.
-    pub fn type_exp(&mut self, kind: TypeExp<'a>) -> &'a TypeExp<'a>
-        ensures follows { Follows self.old self.new }
-        ensures reads { Reads self.old self.new (λ before after. after ≡ before) }
-        ensures kept { self.new.stop ≡ None → result.now ≡ kind.entry }
-    {
-        let spare = self.no_type;
-        let kept = kept(self.arena, kind);
-        if kept.is_err() {
-            self.fail(Why::NoMemory);
-        }
-        kept.unwrap_or(spare)
-    }
-}
-
-/// Keeps a node in the arena.
-fn kept<'a, T: Copy>(arena: &'a Bump, node: T) -> Result<&'a T, NoMemory>
-    ensures { IfOk result (λ kept. kept.now ≡ node) }
-{
-    let kept = arena.try_alloc(node)?;
-    Ok(&*kept)
 }

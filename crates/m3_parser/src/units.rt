@@ -28,7 +28,7 @@ pub fn parse<'a>(alloc: Global, arena: &'a Bump, lexed: &Lexed<'a>) -> Result<Un
     ensures closed { IfOk result (λ unit. unit.closing.text.now ≡ unit.name.text.now) }
     ensures refused { IfErr result (IsRefusal lexed.now.end lexed.now.tokens.items) }
 {
-    let mut reader = Reader::new(alloc, arena, lexed)?;
+    let mut reader = Reader::new(alloc, arena, lexed);
     let found = unit(&mut reader);
     match reader.stop() {
         Some(stop) => Err(refusal_of(lexed, stop)),

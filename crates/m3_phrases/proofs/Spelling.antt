@@ -1,5 +1,5 @@
 -- Rows that spell expressions, put together as the readers take them. Nothing is said of what has a type in it.
-use Rattle.std.proofs.Common.{ℕ, ℤ, ◌≡◌, ◌≢◌, ◌⊎◌, ◌≤◌, ◌+◌, Bool, true, false, List, [], ◌∷◌, ◌++◌, Option, None, Some, Bor, refl, sym, subst, inl, inr, ap, ◌∙◌, length, length-append, is_some, arith}
+use Rattle.std.proofs.Common.{ℤ, ◌≡◌, ◌≢◌, ◌⊎◌, Bool, true, false, List, [], ◌∷◌, ◌++◌, Option, None, Some, Bor, refl, sym, subst, inl, inr, ap, ◌∙◌, length, length-append, is_some, arith}
 use Rattle.std.specs.Prelude.{◌==◌}
 use Rattle.std.proofs.lemmas.Bool.{false≢true, eqb-true}
 use Rattle.m3_base.specs.declared.places.Pos.{Pos}
@@ -8,7 +8,6 @@ use Rattle.m3_syntax.specs.declared.expressions.Actual.TheVariants as act
 use Rattle.m3_syntax.specs.declared.expressions.Expr.{Expr}
 use Rattle.m3_syntax.specs.declared.expressions.Expr.TheVariants as e
 use Rattle.m3_syntax.specs.declared.expressions.Operation.{Operation}
-use Rattle.m3_syntax.specs.declared.expressions.Operator.{Operator}
 use Rattle.m3_syntax.specs.declared.expressions.PrefixSign.{PrefixSign}
 use Rattle.m3_syntax.specs.declared.expressions.Selector.{Selector}
 use Rattle.m3_syntax.specs.declared.expressions.Selector.TheVariants as sel
@@ -18,7 +17,7 @@ use Rattle.m3_syntax.specs.declared.tokens.Sign.TheVariants as s
 use Rattle.m3_syntax.specs.declared.tokens.TokenKind.TheVariants.{Number}
 use Rattle.m3_syntax.specs.declared.tokens.Word.TheVariants as w
 use Rattle.m3_grammar.specs.declared.operators.Level.{Level}
-use Rattle.m3_grammar.specs.Ranks.{Rank, whole, e1, e2, e3, e4, e5, e6, e7, e8, next, rank_of}
+use Rattle.m3_grammar.specs.Ranks.{Rank, whole, e2, e3, e6, e7, e8, next, rank_of}
 use Rattle.m3_grammar.specs.Tokens.{Row, IsAt, IsToken, IsWord, IsSign, IsName}
 use Rattle.m3_grammar.specs.Expressions as g
 use Rattle.m3_grammar.specs.Plain as plain

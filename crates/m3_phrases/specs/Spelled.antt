@@ -1,6 +1,6 @@
 -- What the readers of phrases have read, in the words of the grammar: unless reading has stopped, the tokens
 -- that were taken spell what was found. Nothing is said of what has a type in it.
-use Rattle.std.specs.Prelude.{◌≡◌, ◌⊎◌, Bool, true, false, List, Option, None, Some}
+use Rattle.std.specs.Prelude.{◌≡◌, ◌⊎◌, true, false, List, Option, None, Some}
 use Rattle.m3_base.specs.declared.places.Pos.{Pos}
 use Rattle.m3_syntax.specs.declared.expressions.Actual.{Actual}
 use Rattle.m3_syntax.specs.declared.expressions.Expr.{Expr}

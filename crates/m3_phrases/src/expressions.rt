@@ -6,6 +6,7 @@ ghost use Rattle.m3_phrases.specs.Spelled.{IsInfix, IsPrefixSign};
 
 use crate::operands::operand;
 use crate::settings::{Found, Setting, Want};
+use crate::trees::keep_expr;
 use m3_cursor::{Reader, begins_expression};
 use m3_grammar::{Level, level_of, operator_of};
 use m3_syntax::{Expr, Operation, Operator, PrefixSign, Sign, Word};
@@ -48,7 +49,7 @@ pub fn statement_head<'a>(reader: &mut Reader<'_, 'a>, room: u32) -> &'a Expr<'a
 {
     let pos = reader.pos();
     let Some(inside) = inside_expression(reader, room) else {
-        return reader.expr(Expr::Missing { pos });
+        return keep_expr(reader, Expr::Missing { pos });
     };
     let setting = Setting {
         room: inside,
@@ -82,10 +83,10 @@ pub fn kept_value<'a>(reader: &mut Reader<'_, 'a>, found: Found<'a>) -> &'a Expr
     ensures value { reader.new.stop ≡ None → found.entry ≡ Found.Value result.now }
 {
     match found {
-        Found::Value(expr) => reader.expr(expr),
+        Found::Value(expr) => keep_expr(reader, expr),
         Found::TypeExp(kind) => {
             reader.unexpected();
-            reader.expr(Expr::Missing { pos: kind.pos() })
+            keep_expr(reader, Expr::Missing { pos: kind.pos() })
         }
     }
 }
@@ -123,7 +124,7 @@ pub fn operations<'a>(reader: &mut Reader<'_, 'a>, setting: Setting, level: Leve
     }
     Found::Value(Expr::Operations {
         pos,
-        first: reader.expr(first),
+        first: keep_expr(reader, first),
         rest,
     })
 }

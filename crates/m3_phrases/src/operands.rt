@@ -8,7 +8,7 @@ ghost use Rattle.m3_phrases.specs.Spelled.{BindingSpells, NameSpells};
 
 use crate::expressions::{expression, phrase};
 use crate::settings::{Found, Setting, Want};
-use crate::trees::{qualid_of, type_of};
+use crate::trees::{keep_expr, keep_type, qualid_of, type_of};
 use crate::types::{begins_object, named_type, opened_type};
 use m3_base::Pos;
 use m3_cursor::{Reader, begins_type, goes_on};
@@ -123,11 +123,11 @@ fn parenthesis<'a>(reader: &mut Reader<'_, 'a>, setting: Setting) -> Found<'a>
     match inner {
         Found::Value(expr) => Found::Value(Expr::Parenthesis {
             pos,
-            inner: reader.expr(expr),
+            inner: keep_expr(reader, expr),
         }),
         Found::TypeExp(kind) => Found::TypeExp(TypeExp::Parenthesis {
             pos,
-            inner: reader.type_exp(kind),
+            inner: keep_type(reader, kind),
         }),
     }
 }
@@ -154,7 +154,7 @@ fn selected<'a>(
     }
     Expr::Selected {
         pos,
-        operand: reader.expr(operand),
+        operand: keep_expr(reader, operand),
         selectors,
     }
 }
@@ -228,10 +228,10 @@ fn actual<'a>(reader: &mut Reader<'_, 'a>, room: u32) -> Actual<'a>
     match binding(reader) {
         Some(name) => Actual::Named(name, expression(reader, room)),
         None => match lone_name(reader, room) {
-            Some(name) => Actual::Value(reader.expr(Expr::Name(name))),
+            Some(name) => Actual::Value(keep_expr(reader, Expr::Name(name))),
             None => match phrase(reader, room, Want::Actual) {
-                Found::Value(expr) => Actual::Value(reader.expr(expr)),
-                Found::TypeExp(kind) => Actual::Type(reader.type_exp(kind)),
+                Found::Value(expr) => Actual::Value(keep_expr(reader, expr)),
+                Found::TypeExp(kind) => Actual::Type(keep_type(reader, kind)),
             },
         },
     }
@@ -289,7 +289,7 @@ fn constructor<'a>(reader: &mut Reader<'_, 'a>, setting: Setting, head: Found<'a
     let (elements, is_filled) = elements(reader, setting.room);
     Expr::Constructor {
         pos: kind.pos(),
-        kind: reader.type_exp(kind),
+        kind: keep_type(reader, kind),
         brace,
         elements,
         is_filled,
@@ -330,7 +330,7 @@ fn element<'a>(reader: &mut Reader<'_, 'a>, room: u32) -> Element<'a>
         return Element::Named(name, expression(reader, room));
     }
     let first = match lone_name(reader, room) {
-        Some(name) => reader.expr(Expr::Name(name)),
+        Some(name) => keep_expr(reader, Expr::Name(name)),
         None => expression(reader, room),
     };
     if reader.skip_sign(Sign::DotDot) {

@@ -1,7 +1,48 @@
-ghost use Rattle.m3_cursor.specs.Readers.{Follows};
+ghost use Rattle.std.specs.Prelude.{◌≡◌, None};
+ghost use Rattle.m3_cursor.specs.Readers.{Follows, Reads};
 
+use m3_base::Pos;
 use m3_cursor::Reader;
 use m3_syntax::{Expr, Name, Qualid, Selector, TypeExp, TypeName};
+
+/// No place: that of a node which no memory was left for.
+const NOWHERE: Pos = Pos {
+    file: 0,
+    line: 0,
+    col: 0,
+};
+
+/// Stands for an expression which no memory was left for.
+static NO_EXPR: Expr<'static> = Expr::Missing { pos: NOWHERE };
+
+/// Stands for a type which no memory was left for.
+static NO_TYPE: TypeExp<'static> = TypeExp::Missing { pos: NOWHERE };
+
+fn no_expr<'a>() -> &'a Expr<'a> {
+    &NO_EXPR
+}
+
+fn no_type<'a>() -> &'a TypeExp<'a> {
+    &NO_TYPE
+}
+
+/// Keeps an expression.
+pub fn keep_expr<'a>(reader: &mut Reader<'_, 'a>, expr: Expr<'a>) -> &'a Expr<'a>
+    ensures follows { Follows reader.old reader.new }
+    ensures reads { Reads reader.old reader.new (λ before after. after ≡ before) }
+    ensures kept { reader.new.stop ≡ None → result.now ≡ expr.entry }
+{
+    reader.node(expr, no_expr())
+}
+
+/// Keeps a type.
+pub fn keep_type<'a>(reader: &mut Reader<'_, 'a>, kind: TypeExp<'a>) -> &'a TypeExp<'a>
+    ensures follows { Follows reader.old reader.new }
+    ensures reads { Reads reader.old reader.new (λ before after. after ≡ before) }
+    ensures kept { reader.new.stop ≡ None → result.now ≡ kind.entry }
+{
+    reader.node(kind, no_type())
+}
 
 /// The qualified name that an expression is, if it is one.
 pub fn qualid_of<'a>(expr: &Expr<'a>) -> Option<Qualid<'a>> {
@@ -42,7 +83,7 @@ pub fn type_of<'a>(reader: &mut Reader<'_, 'a>, expr: &Expr<'a>) -> Option<TypeE
 {
     if let Expr::Parenthesis { pos, inner } = expr {
         let inner = type_of(reader, inner)?;
-        let inner = reader.type_exp(inner);
+        let inner = keep_type(reader, inner);
         return Some(TypeExp::Parenthesis { pos: *pos, inner });
     }
     let name = qualid_of(expr)?;

@@ -3,6 +3,7 @@ ghost use Rattle.m3_cursor.specs.Readers.{Follows};
 use crate::expressions::{expression, kept_value, phrase};
 use crate::members::{fields, methods, overrides, signature};
 use crate::settings::Want;
+use crate::trees::keep_type;
 use m3_base::Pos;
 use m3_cursor::{Reader, begins_type, names_between, qualid};
 use m3_syntax::{Brand, ObjectPart, Sign, TokenKind, TypeExp, TypeName, Word};
@@ -25,7 +26,7 @@ pub fn type_expression<'a>(reader: &mut Reader<'_, 'a>, room: u32) -> &'a TypeEx
         Some(room) => opened_type(reader, room),
         None => TypeExp::Missing { pos },
     };
-    reader.type_exp(kind)
+    keep_type(reader, kind)
 }
 
 /// The type that begins here, given the room inside it.

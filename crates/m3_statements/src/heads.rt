@@ -2,6 +2,7 @@ ghost use Rattle.m3_cursor.specs.Readers.{Follows};
 
 use m3_base::Pos;
 use m3_cursor::Reader;
+use m3_phrases::keep_expr;
 use m3_syntax::{Actual, Expr, Operation, Selector};
 
 /// A call: what is called, the place of the parenthesis, and the actuals.
@@ -26,7 +27,7 @@ pub fn call_of<'a>(reader: &mut Reader<'_, 'a>, expr: &Expr<'a>) -> Option<Call<
         Expr::Operations { pos, first, rest } => {
             let (last, before) = rest.split_last()?;
             let call = call_of(reader, last.right)?;
-            let right = reader.expr(call.callee);
+            let right = keep_expr(reader, call.callee);
             let rest = with_last(reader, before, Operation { right, ..*last });
             let callee = Expr::Operations { pos, first, rest };
             Some(Call { callee, ..call })
@@ -37,7 +38,7 @@ pub fn call_of<'a>(reader: &mut Reader<'_, 'a>, expr: &Expr<'a>) -> Option<Call<
             operand,
         } => {
             let call = call_of(reader, operand)?;
-            let operand = reader.expr(call.callee);
+            let operand = keep_expr(reader, call.callee);
             let callee = Expr::Not {
                 pos,
                 words,
@@ -51,7 +52,7 @@ pub fn call_of<'a>(reader: &mut Reader<'_, 'a>, expr: &Expr<'a>) -> Option<Call<
             operand,
         } => {
             let call = call_of(reader, operand)?;
-            let operand = reader.expr(call.callee);
+            let operand = keep_expr(reader, call.callee);
             let callee = Expr::Signed {
                 pos,
                 signs,

@@ -11,7 +11,7 @@ use crate::loops::{
 };
 use m3_base::Pos;
 use m3_cursor::{Reader, begins_expression};
-use m3_phrases::{expression, statement_head};
+use m3_phrases::{expression, keep_expr, statement_head};
 use m3_syntax::{Expr, Sign, Stmt, TokenKind, Word};
 
 /// Statements, with semicolons between them and maybe behind the last.
@@ -96,7 +96,7 @@ fn statement<'a>(reader: &mut Reader<'_, 'a>, room: u32) -> Stmt<'a>
 fn missing_statement<'a>(reader: &mut Reader<'_, 'a>, pos: Pos) -> Stmt<'a>
     ensures { Follows reader.old reader.new }
 {
-    let value = reader.expr(Expr::Missing { pos });
+    let value = keep_expr(reader, Expr::Missing { pos });
     Stmt::Eval { pos, value }
 }
 
@@ -137,7 +137,7 @@ fn assignment_or_call<'a>(reader: &mut Reader<'_, 'a>, room: u32) -> Stmt<'a>
     };
     Stmt::Call {
         pos,
-        callee: reader.expr(call.callee),
+        callee: keep_expr(reader, call.callee),
         parenthesis: call.parenthesis,
         actuals: call.actuals,
     }

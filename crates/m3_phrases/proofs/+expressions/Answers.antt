@@ -1,13 +1,13 @@
 use mir.Val.{to_z, of_z}
 use mir.Syntax.{w64}
-use Rattle.std.proofs.Common.{ℕ, ◌≡◌, None, Some, inl, inr, sym, ap, subst, ◌∙◌, rules}
+use Rattle.std.proofs.Common.{ℕ, ◌≡◌, None, Some, inl, inr, sym, ap, ◌∙◌, rules}
 use Rattle.m3_grammar.specs.Expressions as g
 use Rattle.m3_grammar.specs.Expressions.{IsNots, IsSigns}
 use Rattle.m3_grammar.specs.Plain as plain
-use Rattle.m3_grammar.specs.Ranks.{whole, e2, e3, e6, e7, e8, next, rank_of}
+use Rattle.m3_grammar.specs.Ranks.{whole, e2, e3, e6, e7, next, rank_of}
 use Rattle.m3_cursor.proofs.Rests.{still, stays, follows_on}
-use Rattle.m3_phrases.specs.Spelled.{FoundSpells, IndexesSpell, ActualsSpell}
-use Rattle.m3_phrases.proofs.Spelling.{stopped, same_rest, moved, empty_row, some_row, kept_spells, loosened, not_negated, one_not, nothing_negated, negated, unsigned, no_sign, one_sign, signed, Operated, unoperated, one_operand, operated, one_operation, Selecting, unselecting, one_selector, unselected, selected, passed_kept, passed_bound, name_alone, in_parentheses, sign_from, unselected_here, bound_by, unbound_here, named_by, unnamed_here, indexed_by, called_with, Indexing, one_index, indexes_go_on, indexes_end, Passing, one_actual, put_more, actuals_go_on, actuals_end, actuals_from, unpassed, number_of}
+use Rattle.m3_phrases.specs.Spelled.{IndexesSpell, ActualsSpell}
+use Rattle.m3_phrases.proofs.Spelling.{same_rest, moved, empty_row, some_row, kept_spells, loosened, not_negated, one_not, nothing_negated, negated, unsigned, no_sign, one_sign, signed, Operated, unoperated, one_operand, operated, one_operation, Selecting, unselecting, one_selector, unselected, selected, passed_kept, passed_bound, name_alone, in_parentheses, sign_from, unselected_here, bound_by, unbound_here, named_by, unnamed_here, indexed_by, called_with, Indexing, one_index, indexes_go_on, indexes_end, Passing, one_actual, put_more, actuals_go_on, actuals_end, actuals_from, unpassed, number_of}
 use Rattle.m3_phrases.proofs.+expressions.Goals as goal
 
 pub expressions::expression-returns-clause-reads : goal.expressions::expression-returns-clause-reads
@@ -105,7 +105,7 @@ pub expressions::operations-returns-clause-reads : goal.expressions::operations-
 expressions::operations-returns-clause-reads t c =
     record {
       spelled = λ h.
-          let kept = c.expr.ensures in
+          let kept = c.keep_expr.ensures in
           let row = c.row-rest.ensures in
           let row_goes = still kept.follows h in
           let none = c.in_default.ensures in
@@ -190,7 +190,7 @@ operands::parenthesis-returns-in-Value-clause-reads t c =
           let opening = c.take_sign-pos.ensures in
           let inner = c.phrase-inner.ensures in
           let close = c.take_sign.ensures in
-          let kept = c.expr.ensures in
+          let kept = c.keep_expr.ensures in
           let close_goes = still kept.follows h in
           let inner_goes = still close.follows close_goes in
           let opened = opening.reads (still inner.follows inner_goes) in
@@ -235,7 +235,7 @@ operands::selected-returns-clause-reads t c =
           let none = c.selector.ensures in
           let ended : c.selector.result ≡ None = search rules in
           let row = c.row-selectors.ensures in
-          let kept = c.expr.ensures in
+          let kept = c.keep_expr.ensures in
           let row_goes = still kept.follows h in
           let none_goes = still row.follows row_goes in
           let selectors = c.selectors.invariant.reads.spelled (still none.follows none_goes) in
@@ -371,7 +371,7 @@ pub operands::actual-returns-in-Some-lone_name-clause-reads : goal.operands::act
 operands::actual-returns-in-Some-lone_name-clause-reads t c =
     record {
       spelled = λ h.
-          let kept = c.expr.ensures in
+          let kept = c.keep_expr.ensures in
           let lone_goes = still kept.follows h in
           let unbound : c.binding.result ≡ None = search rules in
           let start = unbound_here (c.binding.ensures.reads (still c.lone_name.ensures.follows lone_goes)) unbound in
@@ -382,7 +382,7 @@ pub operands::actual-returns-in-Value-clause-reads : goal.operands::actual-retur
 operands::actual-returns-in-Value-clause-reads t c =
     record {
       spelled = λ h.
-          let kept = c.expr-in-Value.ensures in
+          let kept = c.keep_expr-in-Value.ensures in
           let value = c.in-Value.ensures in
           let value_goes = still kept.follows h in
           let lone_goes = still value.follows value_goes in
