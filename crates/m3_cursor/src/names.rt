@@ -7,7 +7,7 @@ use m3_syntax::{Name, Qualid, Raises, Sign, Word};
 pub fn name_list<'a>(reader: &mut Reader<'_, 'a>) -> &'a [Name<'a>]
     ensures { Follows reader.old reader.new }
 {
-    let mut names = Vec::new(reader.alloc());
+    let mut names = Vec::new(reader.alloc);
     'names: loop {
         let name = reader.take_name();
         reader.put(&mut names, name);
@@ -48,7 +48,7 @@ pub fn qualid<'a>(reader: &mut Reader<'_, 'a>) -> Qualid<'a>
 pub fn qualid_list<'a>(reader: &mut Reader<'_, 'a>) -> &'a [Qualid<'a>]
     ensures { Follows reader.old reader.new }
 {
-    let mut names = Vec::new(reader.alloc());
+    let mut names = Vec::new(reader.alloc);
     'names: loop {
         let name = qualid(reader);
         reader.put(&mut names, name);

@@ -15,8 +15,10 @@ use std::alloc::Global;
 /// the end of the tokens from then on, where nothing more is taken; so whoever reads goes on as
 /// if nothing had happened, and asks at the end by `stop`.
 pub struct Reader<'t, 'a> {
-    alloc: Global,
-    arena: &'a Bump,
+    /// Where rows are put together.
+    pub alloc: Global,
+    /// Where what is read is kept.
+    pub arena: &'a Bump,
     rest: &'t [Token<'a>],
     end: Pos,
     stop: Option<Stop>,
@@ -66,14 +68,6 @@ impl<'t, 'a> Reader<'t, 'a> {
         ensures { result ≡ self.now.wrong_closing }
     {
         self.wrong_closing
-    }
-
-    pub fn alloc(&self) -> Global {
-        self.alloc
-    }
-
-    pub fn arena(&self) -> &'a Bump {
-        self.arena
     }
 
     /// What the token here is, or None at the end.

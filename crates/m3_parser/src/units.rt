@@ -152,7 +152,7 @@ fn interface<'a>(reader: &mut Reader<'_, 'a>) -> Result<UnitKind<'a>, NoMemory>
     reader.take_word(Word::End);
     Ok(UnitKind::Interface {
         imports,
-        declarations: kept(reader.arena(), declarations)?,
+        declarations: kept(reader.arena, declarations)?,
     })
 }
 
@@ -179,7 +179,7 @@ fn module<'a>(reader: &mut Reader<'_, 'a>) -> Result<UnitKind<'a>, NoMemory>
     Ok(UnitKind::Module {
         exports,
         imports,
-        block: kept(reader.arena(), block)?,
+        block: kept(reader.arena, block)?,
     })
 }
 
@@ -195,7 +195,7 @@ fn generic<'a>(reader: &mut Reader<'_, 'a>, is_interface: bool) -> Result<UnitKi
         return Ok(UnitKind::GenericModule {
             formals,
             imports,
-            block: kept(reader.arena(), block)?,
+            block: kept(reader.arena, block)?,
         });
     }
     let declarations = declaration_list(reader, MAX_OPEN);
@@ -203,7 +203,7 @@ fn generic<'a>(reader: &mut Reader<'_, 'a>, is_interface: bool) -> Result<UnitKi
     Ok(UnitKind::GenericInterface {
         formals,
         imports,
-        declarations: kept(reader.arena(), declarations)?,
+        declarations: kept(reader.arena, declarations)?,
     })
 }
 
@@ -227,7 +227,7 @@ fn instance<'a>(reader: &mut Reader<'_, 'a>) -> (Name<'a>, &'a [Name<'a>])
 fn imports<'a>(reader: &mut Reader<'_, 'a>) -> &'a [Import<'a>]
     ensures { Follows reader.old reader.new }
 {
-    let mut imports = Vec::new(reader.alloc());
+    let mut imports = Vec::new(reader.alloc);
     'imports: while let Some(import) = import(reader) {
         reader.put(&mut imports, import);
     }
@@ -263,7 +263,7 @@ fn import<'a>(reader: &mut Reader<'_, 'a>) -> Option<Import<'a>>
 fn import_items<'a>(reader: &mut Reader<'_, 'a>) -> &'a [ImportItem<'a>]
     ensures { Follows reader.old reader.new }
 {
-    let mut items = Vec::new(reader.alloc());
+    let mut items = Vec::new(reader.alloc);
     'items: loop {
         let interface = reader.take_name();
         let alias = if reader.skip_word(Word::As) {

@@ -103,7 +103,7 @@ pub fn operations<'a>(reader: &mut Reader<'_, 'a>, setting: Setting, level: Leve
         Found::Value(first) => first,
         Found::TypeExp(kind) => return Found::TypeExp(kind),
     };
-    let mut rest = Vec::new(reader.alloc());
+    let mut rest = Vec::new(reader.alloc);
     'operations: loop {
         let place = reader.pos();
         let Some(operator) = operator_here(reader, level) else {
@@ -168,7 +168,7 @@ fn negation<'a>(reader: &mut Reader<'_, 'a>, setting: Setting) -> Found<'a>
     ensures reads { ReadsFound e2 reader.old reader.new result }
 {
     let pos = reader.pos();
-    let mut words = Vec::new(reader.alloc());
+    let mut words = Vec::new(reader.alloc);
     'words: loop {
         let word = reader.pos();
         if !reader.skip_word(Word::Not) {
@@ -197,7 +197,7 @@ fn signed<'a>(reader: &mut Reader<'_, 'a>, setting: Setting) -> Found<'a>
     ensures reads { ReadsFound e6 reader.old reader.new result }
 {
     let pos = reader.pos();
-    let mut signs = Vec::new(reader.alloc());
+    let mut signs = Vec::new(reader.alloc);
     'signs: while let Some(sign) = prefix_sign(reader) {
         reader.put(&mut signs, sign);
     }

@@ -10,7 +10,7 @@ use m3_syntax::{Expr, Field, Formal, Init, Method, Mode, Override, Sign, Signatu
 pub fn fields<'a>(reader: &mut Reader<'_, 'a>, room: u32) -> &'a [Field<'a>]
     ensures { Follows reader.old reader.new }
 {
-    let mut fields = Vec::new(reader.alloc());
+    let mut fields = Vec::new(reader.alloc);
     'fields: while reader.is_name() {
         let names = name_list(reader);
         let init = initial(reader, room);
@@ -31,7 +31,7 @@ pub fn methods<'a>(reader: &mut Reader<'_, 'a>, room: u32) -> &'a [Method<'a>]
     if !reader.skip_word(Word::Methods) {
         return reader.no_items();
     }
-    let mut methods = Vec::new(reader.alloc());
+    let mut methods = Vec::new(reader.alloc);
     'methods: while reader.is_name() {
         let name = reader.take_name();
         let signature = signature(reader, room);
@@ -58,7 +58,7 @@ pub fn overrides<'a>(reader: &mut Reader<'_, 'a>, room: u32) -> &'a [Override<'a
     if !reader.skip_word(Word::Overrides) {
         return reader.no_items();
     }
-    let mut overrides = Vec::new(reader.alloc());
+    let mut overrides = Vec::new(reader.alloc);
     'overrides: while reader.is_name() {
         let name = reader.take_name();
         reader.take_sign(Sign::Assign);
@@ -123,7 +123,7 @@ pub fn signature<'a>(reader: &mut Reader<'_, 'a>, room: u32) -> Signature<'a>
 fn formals<'a>(reader: &mut Reader<'_, 'a>, room: u32) -> &'a [Formal<'a>]
     ensures { Follows reader.old reader.new }
 {
-    let mut formals = Vec::new(reader.alloc());
+    let mut formals = Vec::new(reader.alloc);
     'formals: loop {
         let pos = reader.pos();
         let Some(mode) = mode(reader) else {

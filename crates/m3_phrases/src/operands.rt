@@ -144,7 +144,7 @@ fn selected<'a>(
     ensures follows { Follows reader.old reader.new }
     ensures reads { Continues pos operand.entry reader.old reader.new result }
 {
-    let mut selectors = Vec::new(reader.alloc());
+    let mut selectors = Vec::new(reader.alloc);
     'selectors: while let Some(selector) = selector(reader, setting) {
         reader.put(&mut selectors, selector);
     }
@@ -187,7 +187,7 @@ fn indexes<'a>(reader: &mut Reader<'_, 'a>, room: u32) -> &'a [Expr<'a>]
     ensures follows { Follows reader.old reader.new }
     ensures reads { ReadsIndexes reader.old reader.new result.now }
 {
-    let mut indexes = Vec::new(reader.alloc());
+    let mut indexes = Vec::new(reader.alloc);
     'indexes: loop {
         let index = *expression(reader, room);
         reader.put(&mut indexes, index);
@@ -208,7 +208,7 @@ fn actuals<'a>(reader: &mut Reader<'_, 'a>, room: u32) -> &'a [Actual<'a>]
     if reader.skip_sign(Sign::CloseParen) {
         return reader.no_items();
     }
-    let mut actuals = Vec::new(reader.alloc());
+    let mut actuals = Vec::new(reader.alloc);
     'actuals: loop {
         let actual = actual(reader, room);
         reader.put(&mut actuals, actual);
@@ -305,7 +305,7 @@ fn elements<'a>(reader: &mut Reader<'_, 'a>, room: u32) -> (&'a [Element<'a>], b
     if reader.skip_sign(Sign::CloseBrace) {
         return (reader.no_items(), false);
     }
-    let mut elements = Vec::new(reader.alloc());
+    let mut elements = Vec::new(reader.alloc);
     let mut is_filled = false;
     'elements: loop {
         let element = element(reader, room);

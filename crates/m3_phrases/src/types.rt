@@ -153,7 +153,7 @@ fn array<'a>(reader: &mut Reader<'_, 'a>, room: u32) -> TypeExp<'a>
     ensures { Follows reader.old reader.new }
 {
     let pos = reader.take_word(Word::Array);
-    let mut indexes = Vec::new(reader.alloc());
+    let mut indexes = Vec::new(reader.alloc);
     if !reader.is_word(Word::Of) {
         'indexes: loop {
             let index = *type_expression(reader, room);
@@ -224,7 +224,7 @@ fn object_parts<'a>(
 ) -> &'a [ObjectPart<'a>]
     ensures { Follows reader.old reader.new }
 {
-    let mut parts = Vec::new(reader.alloc());
+    let mut parts = Vec::new(reader.alloc);
     let mut brand_of_next = brand_of_first;
     'parts: loop {
         let pos = match brand_of_next {

@@ -11,7 +11,7 @@ pub fn if_statement<'a>(reader: &mut Reader<'_, 'a>, room: u32) -> Stmt<'a>
     ensures { Follows reader.old reader.new }
 {
     let pos = reader.take_word(Word::If);
-    let mut arms = Vec::new(reader.alloc());
+    let mut arms = Vec::new(reader.alloc);
     let mut arm_pos = pos;
     'arms: loop {
         let condition = expression(reader, room);
@@ -58,7 +58,7 @@ pub fn case_statement<'a>(reader: &mut Reader<'_, 'a>, room: u32) -> Stmt<'a>
     let pos = reader.take_word(Word::Case);
     let value = expression(reader, room);
     reader.take_word(Word::Of);
-    let mut branches = Vec::new(reader.alloc());
+    let mut branches = Vec::new(reader.alloc);
     let is_branch = match reader.kind() {
         Some(kind) if begins_expression(kind) => true,
         _ => reader.skip_sign(Sign::Bar),
@@ -87,7 +87,7 @@ pub fn case_statement<'a>(reader: &mut Reader<'_, 'a>, room: u32) -> Stmt<'a>
 fn labels<'a>(reader: &mut Reader<'_, 'a>, room: u32) -> &'a [Label<'a>]
     ensures { Follows reader.old reader.new }
 {
-    let mut labels = Vec::new(reader.alloc());
+    let mut labels = Vec::new(reader.alloc);
     'labels: loop {
         let first = expression(reader, room);
         let last = if reader.skip_sign(Sign::DotDot) {
@@ -111,7 +111,7 @@ pub fn typecase_statement<'a>(reader: &mut Reader<'_, 'a>, room: u32) -> Stmt<'a
     let pos = reader.take_word(Word::Typecase);
     let value = expression(reader, room);
     reader.take_word(Word::Of);
-    let mut branches = Vec::new(reader.alloc());
+    let mut branches = Vec::new(reader.alloc);
     let is_branch = match reader.kind() {
         Some(kind) if begins_type(kind) => true,
         _ => reader.skip_sign(Sign::Bar),
@@ -142,7 +142,7 @@ pub fn typecase_statement<'a>(reader: &mut Reader<'_, 'a>, room: u32) -> Stmt<'a
 fn kinds<'a>(reader: &mut Reader<'_, 'a>, room: u32) -> &'a [TypeExp<'a>]
     ensures { Follows reader.old reader.new }
 {
-    let mut kinds = Vec::new(reader.alloc());
+    let mut kinds = Vec::new(reader.alloc);
     'kinds: loop {
         let kind = *type_expression(reader, room);
         reader.put(&mut kinds, kind);

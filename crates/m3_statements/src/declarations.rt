@@ -14,7 +14,7 @@ use m3_syntax::{
 pub fn declaration_list<'a>(reader: &mut Reader<'_, 'a>, room: u32) -> &'a [Decl<'a>]
     ensures { Follows reader.old reader.new }
 {
-    let mut declarations = Vec::new(reader.alloc());
+    let mut declarations = Vec::new(reader.alloc);
     'declarations: while let Some(declaration) = declaration(reader, room) {
         reader.put(&mut declarations, declaration);
     }
@@ -54,7 +54,7 @@ fn declaration<'a>(reader: &mut Reader<'_, 'a>, room: u32) -> Option<Decl<'a>>
 fn constants<'a>(reader: &mut Reader<'_, 'a>, room: u32) -> &'a [ConstDecl<'a>]
     ensures { Follows reader.old reader.new }
 {
-    let mut constants = Vec::new(reader.alloc());
+    let mut constants = Vec::new(reader.alloc);
     'constants: while reader.is_name() {
         let name = reader.take_name();
         let kind = if reader.skip_sign(Sign::Colon) {
@@ -77,7 +77,7 @@ fn constants<'a>(reader: &mut Reader<'_, 'a>, room: u32) -> &'a [ConstDecl<'a>]
 fn types<'a>(reader: &mut Reader<'_, 'a>, room: u32) -> &'a [TypeDecl<'a>]
     ensures { Follows reader.old reader.new }
 {
-    let mut types = Vec::new(reader.alloc());
+    let mut types = Vec::new(reader.alloc);
     'types: while reader.is_name() {
         let name = reader.take_name();
         let is_opaque = takes_bound(reader);
@@ -111,7 +111,7 @@ fn takes_bound(reader: &mut Reader<'_, '_>) -> bool
 fn exceptions<'a>(reader: &mut Reader<'_, 'a>, room: u32) -> &'a [ExceptionDecl<'a>]
     ensures { Follows reader.old reader.new }
 {
-    let mut exceptions = Vec::new(reader.alloc());
+    let mut exceptions = Vec::new(reader.alloc);
     'exceptions: while reader.is_name() {
         let name = reader.take_name();
         let argument = if reader.skip_sign(Sign::OpenParen) {
@@ -134,7 +134,7 @@ fn exceptions<'a>(reader: &mut Reader<'_, 'a>, room: u32) -> &'a [ExceptionDecl<
 fn variables<'a>(reader: &mut Reader<'_, 'a>, room: u32) -> &'a [VarDecl<'a>]
     ensures { Follows reader.old reader.new }
 {
-    let mut variables = Vec::new(reader.alloc());
+    let mut variables = Vec::new(reader.alloc);
     'variables: while reader.is_name() {
         let names = name_list(reader);
         let init = initial(reader, room);
@@ -151,7 +151,7 @@ fn variables<'a>(reader: &mut Reader<'_, 'a>, room: u32) -> &'a [VarDecl<'a>]
 fn reveals<'a>(reader: &mut Reader<'_, 'a>, room: u32) -> &'a [Revelation<'a>]
     ensures { Follows reader.old reader.new }
 {
-    let mut reveals = Vec::new(reader.alloc());
+    let mut reveals = Vec::new(reader.alloc);
     'reveals: while reader.is_name() {
         let name = qualid(reader);
         let is_partial = takes_bound(reader);

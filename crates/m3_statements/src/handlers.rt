@@ -32,7 +32,7 @@ pub fn try_statement<'a>(reader: &mut Reader<'_, 'a>, room: u32) -> Stmt<'a>
 fn handlers<'a>(reader: &mut Reader<'_, 'a>, room: u32) -> &'a [Handler<'a>]
     ensures { Follows reader.old reader.new }
 {
-    let mut handlers = Vec::new(reader.alloc());
+    let mut handlers = Vec::new(reader.alloc);
     if reader.is_name() || reader.skip_sign(Sign::Bar) {
         'handlers: loop {
             let exceptions = qualid_list(reader);

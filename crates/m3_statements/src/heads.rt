@@ -101,7 +101,7 @@ fn with_last<'a>(
 ) -> &'a [Operation<'a>]
     ensures { Follows reader.old reader.new }
 {
-    let mut operations = Vec::new(reader.alloc());
+    let mut operations = Vec::new(reader.alloc);
     'operations: for operation in before {
         reader.put(&mut operations, *operation);
     }

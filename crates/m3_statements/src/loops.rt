@@ -110,7 +110,7 @@ pub fn with_statement<'a>(reader: &mut Reader<'_, 'a>, room: u32) -> Stmt<'a>
 fn bindings<'a>(reader: &mut Reader<'_, 'a>, room: u32) -> &'a [Binding<'a>]
     ensures { Follows reader.old reader.new }
 {
-    let mut bindings = Vec::new(reader.alloc());
+    let mut bindings = Vec::new(reader.alloc);
     'bindings: loop {
         let name = reader.take_name();
         reader.take_sign(Sign::Equal);

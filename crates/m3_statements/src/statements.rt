@@ -19,7 +19,7 @@ use m3_syntax::{Expr, Sign, Stmt, TokenKind, Word};
 pub fn statements<'a>(reader: &mut Reader<'_, 'a>, room: u32) -> &'a [Stmt<'a>]
     ensures { Follows reader.old reader.new }
 {
-    let mut body = Vec::new(reader.alloc());
+    let mut body = Vec::new(reader.alloc);
     'statements: while begins_statement(reader) {
         let statement = statement(reader, room);
         reader.put(&mut body, statement);
