@@ -53,9 +53,11 @@ pub fn declare<'a>(
     let gathered = gather(alloc, linked)?;
     let mut declarer = Declarer::new(alloc, eval, &linked.declarations, gathered);
     work_out(&mut declarer, &linked.units)?;
+    let eval = declarer.eval;
+    let doubtful = declarer.doubtful;
     Ok(Declarations {
-        declared: declarer.eval.declared,
-        doubtful: declarer.doubtful,
+        declared: eval.declared,
+        doubtful,
     })
 }
 
