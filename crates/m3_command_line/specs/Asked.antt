@@ -4,12 +4,18 @@ use Rattle.std.specs.Option.{option_map}
 use Rattle.std.specs.List.{list_all}
 use Rattle.std.specs.Str.{bytes_eq}
 use Rattle.std.specs.Str.Parse.{digits_value}
-use Rattle.clap.specs.Walk.{Row, Text, all_of, first_of, is_empty, nonempty}
+use Rattle.clap.specs.Matches.{found_of}
+use Rattle.clap.specs.Walk.{Row, Text, all_of, first_of, is_empty, nonempty, rows_of}
+use Rattle.clap.specs.declared.parser.matches.ArgMatches.{ArgMatches}
 use Rattle.clap.specs.Simple.{subcommand_of}
 use Rattle.clap.specs.Faults.{fault_of}
 use Rattle.clap.specs.ValueTests.{is_numeral}
 use Rattle.m3_command_line.specs.Orders.{Bounds, Options, Order, build, run, exec, dump, bench}
 use Rattle.m3_command_line.specs.Grammar.{grammar}
+
+-- what a parse found for each option and plain word
+abbrev pub rows_in : ArgMatches → List Row
+rows_in matches = rows_of (found_of matches)
 
 -- ---- names
 

@@ -1,7 +1,8 @@
 //! The grammar of command lines, as `clap` takes it.
 ghost use Rattle.std.specs.Prelude.{[], ◌∷◌, IfOk};
 ghost use Rattle.clap.specs.Simple.{App};
-ghost use Rattle.m3_command_line.specs.Grammar.{build_command, command, exec_command, file_words, grammar, option, run_command, run_options, word};
+ghost use Rattle.m3_command_line.specs.Grammar.{build_command, command, exec_command, run_command};
+ghost use Rattle.m3_command_line.specs.Grammar.{file_words, grammar, option, run_options, word};
 ghost use Rattle.m3_command_line.specs.Built.{HasRule, ReadsBy, alone, with_rules};
 
 use clap::{Arg, ArgAction, Command};
@@ -42,7 +43,8 @@ fn file_words<'a>(alloc: Global) -> Arg<'a>
 
 /// A command with the options of a run.
 fn with_run_options<'a>(alloc: Global, command: Command<'a>) -> Result<Command<'a>, NoMemory>
-    ensures { (app : App) → ReadsBy app command.entry → IfOk result (ReadsBy (with_rules run_options app)) }
+    ensures { (app : App) → ReadsBy app command.entry
+        → IfOk result (ReadsBy (with_rules run_options app)) }
 {
     let command = command
         .arg(option(alloc, "switches"))?

@@ -1,10 +1,9 @@
 //! The ranges of options, and the numbers in them.
 ghost use Rattle.std.specs.Prelude.{◌≡◌, ◌≤◌, ◌==◌, IfSome, slice_index};
 ghost use Rattle.std.specs.Option.{option_map};
-ghost use Rattle.clap.specs.Matches.{found_of};
-ghost use Rattle.clap.specs.Walk.{first_of, rows_of};
+ghost use Rattle.clap.specs.Walk.{first_of};
 ghost use Rattle.m3_command_line.specs.Orders.{bounds_of};
-ghost use Rattle.m3_command_line.specs.Asked.{bounds_in, limit_of, number_of};
+ghost use Rattle.m3_command_line.specs.Asked.{bounds_in, limit_of, number_of, rows_in};
 
 use crate::limits::Limits;
 use clap::ArgMatches;
@@ -65,7 +64,7 @@ pub fn number_in(word: &str) -> Option<u64>
 fn value_of(matches: &ArgMatches<'_>, name: &str, range: Range) -> Option<u64>
     requires usual { (range.least ≤ range.usual) × (range.usual ≤ range.most) }
     ensures value { result ≡ limit_of range.least range.most range.usual
-        (first_of name.now (rows_of (found_of matches.now))) }
+        (first_of name.now (rows_in matches.now)) }
     ensures within { IfSome result (λ n. (range.least ≤ n) × (n ≤ range.most)) }
 {
     let Some(text) = matches.get_str(name) else {
@@ -81,7 +80,7 @@ fn value_of(matches: &ArgMatches<'_>, name: &str, range: Range) -> Option<u64>
 
 /// The limits that options give. None exactly where one of them is no number in its range.
 pub fn limits_of(matches: &ArgMatches<'_>) -> Option<Limits>
-    ensures { option_map bounds_of result ≡ bounds_in (rows_of (found_of matches.now)) }
+    ensures { option_map bounds_of result ≡ bounds_in (rows_in matches.now) }
 {
     let points = value_of(matches, "points", POINTS)?;
     let heap = value_of(matches, "heap", HEAP)?;

@@ -2,11 +2,12 @@
 ghost use Rattle.std.specs.Prelude.{◌≡◌, ◌↔◌, ◌&&◌, IfOk, IsTrue, length, map, nat_le};
 ghost use Rattle.std.specs.List.{list_all};
 ghost use Rattle.std.specs.Option.{option_map};
-ghost use Rattle.clap.specs.Matches.{found_of};
-ghost use Rattle.clap.specs.Walk.{first_of, rows_of};
+ghost use Rattle.clap.specs.Walk.{first_of};
 ghost use Rattle.clap.specs.Values.{kind_of};
 ghost use Rattle.m3_command_line.specs.Orders.{name_of, options_of, order_of};
-ghost use Rattle.m3_command_line.specs.Asked.{asked, bench_in, build_in, dump_in, exec_in, files_in, given_name, is_named, most_files, options_in, order_in, run_in, word_in};
+ghost use Rattle.m3_command_line.specs.Asked.{asked, bench_in, build_in, dump_in, exec_in, run_in};
+ghost use Rattle.m3_command_line.specs.Asked.{files_in, given_name, is_named, most_files, word_in};
+ghost use Rattle.m3_command_line.specs.Asked.{options_in, order_in, rows_in};
 
 use crate::grammar::whole_command;
 use crate::limits::Limits;
@@ -53,7 +54,7 @@ pub struct RunOptions<'a> {
 /// The name that an option gives, if it is given. None exactly where the name is empty.
 #[tactic(auto, using(crate::proofs::Found::first_in_rows))]
 fn given_name<'a>(matches: &ArgMatches<'a>, option: &str) -> Option<Option<&'a str>>
-    ensures { option_map name_of result ≡ given_name (first_of option.now (rows_of (found_of matches.now))) }
+    ensures { option_map name_of result ≡ given_name (first_of option.now (rows_in matches.now)) }
 {
     match matches.get_str(option) {
         Some("") => None,
@@ -64,7 +65,7 @@ fn given_name<'a>(matches: &ArgMatches<'a>, option: &str) -> Option<Option<&'a s
 /// A word that must stand there, and isn't empty.
 #[tactic(auto, using(crate::proofs::Found::first_in_rows))]
 fn word_of<'a>(matches: &ArgMatches<'a>, id: &str) -> Option<&'a str>
-    ensures { name_of result ≡ word_in id.now (rows_of (found_of matches.now)) }
+    ensures { name_of result ≡ word_in id.now (rows_in matches.now) }
 {
     let word = matches.get_str(id)?;
     if word.is_empty() { None } else { Some(word) }
@@ -79,14 +80,16 @@ fn are_named(words: &[&str]) -> bool
 
 /// Whether some words can be the names of the FILEs.
 fn are_files(words: &[&str]) -> bool
-    ensures { result ≡ (nat_le (length words.now) most_files && list_all (λ word. is_named word.now) words.now) }
+    ensures { result ≡ (nat_le (length words.now) most_files
+        && list_all (λ word. is_named word.now) words.now) }
 {
     words.len() <= MOST_FILES && are_named(words)
 }
 
 /// The FILE words. None exactly where there are too many, or one is empty.
 fn files_of<'a>(alloc: Global, matches: &ArgMatches<'a>) -> Result<Option<Vec<&'a str>>, NoMemory>
-    ensures { IfOk result (λ files. option_map (λ names. map (λ w. w.now) names.items) files ≡ files_in (rows_of (found_of matches.now))) }
+    ensures { IfOk result (λ files. option_map (λ names. map (λ w. w.now) names.items) files
+        ≡ files_in (rows_in matches.now)) }
 {
     let Some(words) = matches.get_strs("FILE") else {
         return Ok(None);
@@ -99,7 +102,7 @@ fn files_of<'a>(alloc: Global, matches: &ArgMatches<'a>) -> Result<Option<Vec<&'
 
 /// The options of a run. None exactly where one isn't in its range, or a name is empty.
 fn run_options<'a>(matches: &ArgMatches<'a>) -> Option<RunOptions<'a>>
-    ensures { option_map options_of result ≡ options_in (rows_of (found_of matches.now)) }
+    ensures { option_map options_of result ≡ options_in (rows_in matches.now) }
 {
     Some(RunOptions {
         switches: given_name(matches, "switches")?,
@@ -112,7 +115,8 @@ fn build_request<'a>(
     alloc: Global,
     matches: &ArgMatches<'a>,
 ) -> Result<Option<Request<'a>>, NoMemory>
-    ensures { IfOk result (λ request. option_map order_of request ≡ build_in (rows_of (found_of matches.now))) }
+    ensures { IfOk result (λ request. option_map order_of request
+        ≡ build_in (rows_in matches.now)) }
 {
     match (word_of(matches, "IMAGE"), files_of(alloc, matches)?) {
         (Some(image), Some(files)) => Ok(Some(Request::Build { image, files })),
@@ -124,7 +128,8 @@ fn exec_request<'a>(
     alloc: Global,
     matches: &ArgMatches<'a>,
 ) -> Result<Option<Request<'a>>, NoMemory>
-    ensures { IfOk result (λ request. option_map order_of request ≡ exec_in (rows_of (found_of matches.now))) }
+    ensures { IfOk result (λ request. option_map order_of request
+        ≡ exec_in (rows_in matches.now)) }
 {
     match (files_of(alloc, matches)?, run_options(matches)) {
         (Some(files), Some(options)) => Ok(Some(Request::Exec { files, options })),
@@ -133,7 +138,7 @@ fn exec_request<'a>(
 }
 
 fn run_request<'a>(matches: &ArgMatches<'a>) -> Option<Request<'a>>
-    ensures { option_map order_of result ≡ run_in (rows_of (found_of matches.now)) }
+    ensures { option_map order_of result ≡ run_in (rows_in matches.now) }
 {
     Some(Request::Run {
         image: word_of(matches, "IMAGE")?,
@@ -142,7 +147,7 @@ fn run_request<'a>(matches: &ArgMatches<'a>) -> Option<Request<'a>>
 }
 
 fn dump_request<'a>(matches: &ArgMatches<'a>) -> Option<Request<'a>>
-    ensures { option_map order_of result ≡ dump_in (rows_of (found_of matches.now)) }
+    ensures { option_map order_of result ≡ dump_in (rows_in matches.now) }
 {
     Some(Request::Dump {
         image: word_of(matches, "IMAGE")?,
@@ -151,7 +156,7 @@ fn dump_request<'a>(matches: &ArgMatches<'a>) -> Option<Request<'a>>
 
 #[tactic(auto, using(crate::proofs::Found::first_in_rows))]
 fn bench_request<'a>(matches: &ArgMatches<'a>) -> Option<Request<'a>>
-    ensures { option_map order_of result ≡ bench_in (rows_of (found_of matches.now)) }
+    ensures { option_map order_of result ≡ bench_in (rows_in matches.now) }
 {
     Some(Request::Bench {
         number: number_in(matches.get_str("N")?)?,
@@ -164,7 +169,8 @@ fn request_of<'a>(
     command: &str,
     matches: &ArgMatches<'a>,
 ) -> Result<Option<Request<'a>>, NoMemory>
-    ensures { IfOk result (λ request. option_map order_of request ≡ order_in command.now (rows_of (found_of matches.now))) }
+    ensures { IfOk result (λ request. option_map order_of request
+        ≡ order_in command.now (rows_in matches.now)) }
 {
     match command {
         "build" => build_request(alloc, matches),
@@ -186,7 +192,8 @@ fn is_want_of_memory(error: &Error) -> bool
 /// exactly where they are no command line, an option or a number is out of its range, a name is
 /// empty, or there are more than `MOST_FILES` FILE words.
 pub fn read_words<'a>(alloc: Global, words: &'a [&'a str]) -> Result<Option<Request<'a>>, NoMemory>
-    ensures { IfOk result (λ request. option_map order_of request ≡ asked (map (λ w. w.now) words.entry.now)) }
+    ensures { IfOk result (λ request. option_map order_of request
+        ≡ asked (map (λ w. w.now) words.entry.now)) }
 {
     match whole_command(alloc)?.try_get_matches_from(words) {
         Ok(matches) => match matches.subcommand() {
