@@ -1,5 +1,5 @@
 -- The words `exec FILE`, where FILE doesn't begin with `-`, ask for a run within the usual limits.
-use Rattle.std.proofs.Common.{◌≡◌, ◌∙◌, ◌==◌, ◌&&◌, ℕ, Bool, cond, not, length, arith, List, [], ◌∷◌, Option, None, Some, true, false, refl, ap, ap₂, codes}
+use Rattle.std.proofs.Common.{◌≡◌, ◌∙◌, ◌==◌, ◌&&◌, ℕ, Bool, cond, not, length, arith, List, [], ◌∷◌, None, Some, true, false, refl, ap, ap₂, codes}
 use Rattle.std.proofs.lemmas.Bool.Decides.{nat_tests}
 use Rattle.std.specs.Prelude.{option_and_then}
 use Rattle.std.specs.Str.{bytes_eq}
