@@ -2,7 +2,9 @@
 #![tactic(auto)]
 
 mod defaults;
+mod grammar;
 mod limits;
+mod ranges;
 mod words;
 
 pub use limits::Limits;

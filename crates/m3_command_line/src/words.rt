@@ -1,7 +1,19 @@
 //! The commands and their words.
-use crate::limits::{Limits, limits_of, number_in};
+ghost use Rattle.std.specs.Prelude.{◌≡◌, ◌↔◌, ◌&&◌, IfOk, IsTrue, length, map, nat_le};
+ghost use Rattle.std.specs.List.{list_all};
+ghost use Rattle.std.specs.Option.{option_map};
+ghost use Rattle.clap.specs.Walk.{first_of};
+ghost use Rattle.clap.specs.Values.{kind_of};
+ghost use Rattle.m3_command_line.specs.Orders.{name_of, options_of, order_of};
+ghost use Rattle.m3_command_line.specs.Asked.{asked, bench_in, build_in, dump_in, exec_in, run_in};
+ghost use Rattle.m3_command_line.specs.Asked.{files_in, given_name, is_named, most_files, word_in};
+ghost use Rattle.m3_command_line.specs.Asked.{options_in, order_in, rows_in};
+
+use crate::grammar::whole_command;
+use crate::limits::Limits;
+use crate::ranges::{limits_of, number_in};
 use clap::error::ErrorKind;
-use clap::{Arg, ArgAction, ArgMatches, Command, Error};
+use clap::{ArgMatches, Error};
 use m3_base::NoMemory;
 use std::alloc::Global;
 
@@ -39,119 +51,62 @@ pub struct RunOptions<'a> {
     pub limits: Limits,
 }
 
-/// A command without words, flags or a help text of its own.
-fn command<'a>(alloc: Global, name: &'a str) -> Command<'a> {
-    Command::new(alloc, name)
-        .disable_help_flag(true)
-        .disable_version_flag(true)
-}
-
-fn option<'a>(alloc: Global, name: &'a str) -> Arg<'a> {
-    Arg::new(alloc, name).long(name).action(ArgAction::Set)
-}
-
-/// A word that must stand there.
-fn word<'a>(alloc: Global, name: &'a str) -> Arg<'a> {
-    Arg::new(alloc, name).required(true).action(ArgAction::Set)
-}
-
-/// One FILE or more, also with options among them.
-fn file_words<'a>(alloc: Global) -> Arg<'a> {
-    Arg::new(alloc, "FILE")
-        .required(true)
-        .action(ArgAction::Append)
-        .num_args(1..)
-}
-
-/// A command with the options of a run.
-fn with_run_options<'a>(alloc: Global, command: Command<'a>) -> Result<Command<'a>, NoMemory> {
-    let command = command
-        .arg(option(alloc, "switches"))?
-        .arg(option(alloc, "points"))?;
-    let command = command
-        .arg(option(alloc, "heap"))?
-        .arg(option(alloc, "stack"))?
-        .arg(option(alloc, "threads"))?;
-    Ok(command.arg(option(alloc, "input"))?)
-}
-
-fn build_command<'a>(alloc: Global) -> Result<Command<'a>, NoMemory> {
-    Ok(
-        command(alloc, "build")
-            .arg(word(alloc, "IMAGE"))?
-            .arg(file_words(alloc))?,
-    )
-}
-
-fn run_command<'a>(alloc: Global) -> Result<Command<'a>, NoMemory> {
-    with_run_options(alloc, command(alloc, "run").arg(word(alloc, "IMAGE"))?)
-}
-
-fn exec_command<'a>(alloc: Global) -> Result<Command<'a>, NoMemory> {
-    with_run_options(alloc, command(alloc, "exec").arg(file_words(alloc))?)
-}
-
-fn whole_command<'a>(alloc: Global) -> Result<Command<'a>, NoMemory> {
-    let build = build_command(alloc)?;
-    let run = run_command(alloc)?;
-    let exec = exec_command(alloc)?;
-    let dump = command(alloc, "dump").arg(word(alloc, "IMAGE"))?;
-    let bench = command(alloc, "bench").arg(word(alloc, "N"))?;
-    let whole = command(alloc, "m3c")
-        .no_binary_name(true)
-        .disable_help_subcommand(true)
-        .subcommand_required(true)
-        .subcommand(build)?
-        .subcommand(run)?;
-    Ok(whole.subcommand(exec)?.subcommand(dump)?.subcommand(bench)?)
-}
-
-/// Whether a name that is given isn't empty.
-fn is_named(name: Option<&str>) -> bool {
-    match name {
-        Some(name) => !name.is_empty(),
-        None => true,
+/// The name that an option gives, if it is given. None exactly where the name is empty.
+#[tactic(auto, using(crate::proofs::Found::first_in_rows))]
+fn given_name<'a>(matches: &ArgMatches<'a>, option: &str) -> Option<Option<&'a str>>
+    ensures { option_map name_of result ≡ given_name (first_of option.now (rows_in matches.now)) }
+{
+    match matches.get_str(option) {
+        Some("") => None,
+        name => Some(name),
     }
 }
 
 /// A word that must stand there, and isn't empty.
-fn name_of<'a>(matches: &ArgMatches<'a>, name: &str) -> Option<&'a str> {
-    let word = matches.get_str(name)?;
+#[tactic(auto, using(crate::proofs::Found::first_in_rows))]
+fn word_of<'a>(matches: &ArgMatches<'a>, id: &str) -> Option<&'a str>
+    ensures { name_of result ≡ word_in id.now (rows_in matches.now) }
+{
+    let word = matches.get_str(id)?;
     if word.is_empty() { None } else { Some(word) }
 }
 
+/// Whether none of some words is empty.
+fn are_named(words: &[&str]) -> bool
+    ensures { result ≡ list_all (λ word. is_named word.now) words.now }
+{
+    words.iter().all(|word| !word.is_empty())
+}
+
 /// Whether some words can be the names of the FILEs.
-fn are_files(words: &[&str]) -> bool {
-    for word in words {
-        if word.is_empty() {
-            return false;
-        }
-    }
-    words.len() <= MOST_FILES
+fn are_files(words: &[&str]) -> bool
+    ensures { result ≡ (nat_le (length words.now) most_files
+        && list_all (λ word. is_named word.now) words.now) }
+{
+    words.len() <= MOST_FILES && are_named(words)
 }
 
-/// The FILE words. None where there are too many, or one is empty.
-fn files_of<'a>(alloc: Global, matches: &ArgMatches<'a>) -> Result<Option<Vec<&'a str>>, NoMemory> {
-    let mut files = Vec::new(alloc);
-    if let Some(words) = matches.get_strs("FILE") {
-        if !are_files(words) {
-            return Ok(None);
-        }
-        files.extend_from_slice(words)?;
+/// The FILE words. None exactly where there are too many, or one is empty.
+fn files_of<'a>(alloc: Global, matches: &ArgMatches<'a>) -> Result<Option<Vec<&'a str>>, NoMemory>
+    ensures { IfOk result (λ files. option_map (λ names. map (λ w. w.now) names.items) files
+        ≡ files_in (rows_in matches.now)) }
+{
+    let Some(words) = matches.get_strs("FILE") else {
+        return Ok(None);
+    };
+    if !are_files(words) {
+        return Ok(None);
     }
-    Ok(Some(files))
+    Ok(Some(Vec::from_slice(alloc, words)?))
 }
 
-/// The options of a run. None where one isn't in its range, or a name is empty.
-fn run_options<'a>(matches: &ArgMatches<'a>) -> Option<RunOptions<'a>> {
-    let switches = matches.get_str("switches");
-    let input = matches.get_str("input");
-    if !is_named(switches) || !is_named(input) {
-        return None;
-    }
+/// The options of a run. None exactly where one isn't in its range, or a name is empty.
+fn run_options<'a>(matches: &ArgMatches<'a>) -> Option<RunOptions<'a>>
+    ensures { option_map options_of result ≡ options_in (rows_in matches.now) }
+{
     Some(RunOptions {
-        switches,
-        input,
+        switches: given_name(matches, "switches")?,
+        input: given_name(matches, "input")?,
         limits: limits_of(matches)?,
     })
 }
@@ -159,8 +114,11 @@ fn run_options<'a>(matches: &ArgMatches<'a>) -> Option<RunOptions<'a>> {
 fn build_request<'a>(
     alloc: Global,
     matches: &ArgMatches<'a>,
-) -> Result<Option<Request<'a>>, NoMemory> {
-    match (name_of(matches, "IMAGE"), files_of(alloc, matches)?) {
+) -> Result<Option<Request<'a>>, NoMemory>
+    ensures { IfOk result (λ request. option_map order_of request
+        ≡ build_in (rows_in matches.now)) }
+{
+    match (word_of(matches, "IMAGE"), files_of(alloc, matches)?) {
         (Some(image), Some(files)) => Ok(Some(Request::Build { image, files })),
         _ => Ok(None),
     }
@@ -169,67 +127,79 @@ fn build_request<'a>(
 fn exec_request<'a>(
     alloc: Global,
     matches: &ArgMatches<'a>,
-) -> Result<Option<Request<'a>>, NoMemory> {
-    match (run_options(matches), files_of(alloc, matches)?) {
-        (Some(options), Some(files)) => Ok(Some(Request::Exec { files, options })),
+) -> Result<Option<Request<'a>>, NoMemory>
+    ensures { IfOk result (λ request. option_map order_of request
+        ≡ exec_in (rows_in matches.now)) }
+{
+    match (files_of(alloc, matches)?, run_options(matches)) {
+        (Some(files), Some(options)) => Ok(Some(Request::Exec { files, options })),
         _ => Ok(None),
     }
 }
 
-fn run_request<'a>(matches: &ArgMatches<'a>) -> Option<Request<'a>> {
+fn run_request<'a>(matches: &ArgMatches<'a>) -> Option<Request<'a>>
+    ensures { option_map order_of result ≡ run_in (rows_in matches.now) }
+{
     Some(Request::Run {
-        image: name_of(matches, "IMAGE")?,
+        image: word_of(matches, "IMAGE")?,
         options: run_options(matches)?,
     })
 }
 
-fn dump_request<'a>(matches: &ArgMatches<'a>) -> Option<Request<'a>> {
+fn dump_request<'a>(matches: &ArgMatches<'a>) -> Option<Request<'a>>
+    ensures { option_map order_of result ≡ dump_in (rows_in matches.now) }
+{
     Some(Request::Dump {
-        image: name_of(matches, "IMAGE")?,
+        image: word_of(matches, "IMAGE")?,
     })
 }
 
-fn bench_request<'a>(matches: &ArgMatches<'a>) -> Option<Request<'a>> {
+#[tactic(auto, using(crate::proofs::Found::first_in_rows))]
+fn bench_request<'a>(matches: &ArgMatches<'a>) -> Option<Request<'a>>
+    ensures { option_map order_of result ≡ bench_in (rows_in matches.now) }
+{
     Some(Request::Bench {
-        number: number_in(matches.get_str("N")?.as_bytes())?,
+        number: number_in(matches.get_str("N")?)?,
     })
 }
 
+/// What a command asks for with what was found of its words and options.
 fn request_of<'a>(
     alloc: Global,
+    command: &str,
     matches: &ArgMatches<'a>,
-) -> Result<Option<Request<'a>>, NoMemory> {
-    if let Some(build) = matches.subcommand_matches("build") {
-        return build_request(alloc, build);
-    }
-    if let Some(exec) = matches.subcommand_matches("exec") {
-        return exec_request(alloc, exec);
-    }
-    if let Some(run) = matches.subcommand_matches("run") {
-        return Ok(run_request(run));
-    }
-    if let Some(dump) = matches.subcommand_matches("dump") {
-        return Ok(dump_request(dump));
-    }
-    match matches.subcommand_matches("bench") {
-        Some(bench) => Ok(bench_request(bench)),
-        None => Ok(None),
+) -> Result<Option<Request<'a>>, NoMemory>
+    ensures { IfOk result (λ request. option_map order_of request
+        ≡ order_in command.now (rows_in matches.now)) }
+{
+    match command {
+        "build" => build_request(alloc, matches),
+        "run" => Ok(run_request(matches)),
+        "exec" => exec_request(alloc, matches),
+        "dump" => Ok(dump_request(matches)),
+        "bench" => Ok(bench_request(matches)),
+        _ => Ok(None),
     }
 }
 
-fn is_want_of_memory(error: &Error) -> bool {
-    error.kind() == ErrorKind::OutOfMemory
+fn is_want_of_memory(error: &Error) -> bool
+    ensures { IsTrue result ↔ (kind_of error.now ≡ ErrorKind.OutOfMemory) }
+{
+    matches!(error.kind(), ErrorKind::OutOfMemory)
 }
 
 /// What the words ask for, which are those of the command line without the program's name. None
 /// exactly where they are no command line, an option or a number is out of its range, a name is
 /// empty, or there are more than `MOST_FILES` FILE words.
-pub fn read_words<'a>(
-    alloc: Global,
-    words: &'a [&'a str],
-) -> Result<Option<Request<'a>>, NoMemory> {
+pub fn read_words<'a>(alloc: Global, words: &'a [&'a str]) -> Result<Option<Request<'a>>, NoMemory>
+    ensures { IfOk result (λ request. option_map order_of request
+        ≡ asked (map (λ w. w.now) words.entry.now)) }
+{
     match whole_command(alloc)?.try_get_matches_from(words) {
-        Ok(matches) => request_of(alloc, &matches),
+        Ok(matches) => match matches.subcommand() {
+            Some((command, found)) => request_of(alloc, command, found),
+            None => Ok(None),
+        },
         Err(error) => {
             if is_want_of_memory(&error) {
                 Err(NoMemory)

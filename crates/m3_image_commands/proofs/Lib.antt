@@ -2,3 +2,4 @@ pub mod TellLemmas
 pub mod LineLemmas
 pub mod FetchLemmas
 pub mod RunLemmas
+pub mod CompleteLemmas

@@ -1,3 +1,4 @@
 pub mod Statuses
 pub mod Reports
 pub mod ImageCommands
+pub mod Complete

@@ -1,2 +1,3 @@
 pub mod SourceLemmas
 pub mod OrderLemmas
+pub mod UsageLemmas

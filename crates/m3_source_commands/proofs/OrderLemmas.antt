@@ -17,7 +17,9 @@ use Rattle.m3_image_commands.specs.declared.answers.Refusal.{Refusal}
 use Rattle.m3_image_commands.specs.Statuses.{Shelving, Putting, StoresNothing, StoresFront, PutsNothing, RefusesBy, Fetches, IsGiven, LacksMemory, LacksOutput}
 use Rattle.m3_image_commands.proofs.FetchLemmas.{Follows, Rises, joined}
 use Rattle.m3_image_commands.specs.ImageCommands.{ImageAnswer, image_refused, ended, RunsImage, IsNoSchedule, by_schedule, on_input}
-use Rattle.m3_source_commands.specs.Orders.{Order, Fulfils}
+use Rattle.m3_command_line.specs.declared.limits.Limits.{Limits}
+use Rattle.m3_command_line.specs.Ranges.{AreUsual, AreOfBench}
+use Rattle.m3_source_commands.specs.Orders.{Order, Fulfils, bench_setting, setting_of, usual_setting}
 use Rattle.m3_source_commands.specs.SourceCommands.{OfFiles, RefusesSources, Stores, BuildAnswer, not_built, stored, Builds, ExecAnswer, not_run, no_schedule, run_ended, ExecsTexts, OfExec, Execs}
 
 pub never_both : {A E : Type 0} (r : Result A E) → IsOk r → IsErr r → ⊥
@@ -124,9 +126,15 @@ pub same_run : (limits : Setting) (schedule schedule' : List Entry) (input input
 same_run limits schedule schedule' input input' e f =
     subst (λ (x : List ℕ). by_schedule (on_input limits input) schedule ≡ by_schedule (on_input limits x) schedule') f (ap (λ (x : List Entry). by_schedule (on_input limits input) x) e)
 
--- limits of a run that doesn't come
-pub no_limits : Setting
-no_limits = record { points = 0; heap = 0; stack = 0; threads = 0; schedule = []; input = [] }
+-- the limits of a run without options, and those of `bench`
+abbrev of_numbers : ℕ → ℕ → ℕ → ℕ → Setting
+of_numbers points heap stack threads = record { points = points; heap = heap; stack = stack; threads = threads; schedule = []; input = [] }
+
+pub usual_limits : (limits : Limits) → AreUsual limits → setting_of limits ≡ usual_setting
+usual_limits limits usual = λ i. of_numbers (usual.0 i) (usual.1 i) (usual.2 i) (usual.3 i)
+
+pub bench_limits : (limits : Limits) → AreOfBench limits → setting_of limits ≡ bench_setting
+bench_limits limits bench = λ i. of_numbers (bench.0 i) (bench.1 i) (bench.2 i) (bench.3 i)
 
 -- the same bytes before and after
 given_now : (a b : Option Files) (name : Option (List ℕ)) (text : List ℕ) → a ≡ b → IsGiven a name text → IsGiven b name text
@@ -146,13 +154,14 @@ module _ (shelf : Shelving) (out : Putting) (files : List (List ℕ)) (switches 
   pub execs_unfetched : {A : Type 0} (r : Refusal) → PutsNothing out → Fetches {A = A} shelf (OfExec shelf.held.0 files switches input) (Err r) → Execs shelf out files switches input limits image (Err r)
   execs_unfetched r p f = record { held = f.held; answer = tt; refusal = inl (f.unfetched, p) }
 
--- without switches and input
-pub execs_plain : (image : List ℕ) (out : Putting) (result : Result Answer Refusal) (text bytes : List ℕ) (told : Bool) (limits : Setting) → text ≡ [] → bytes ≡ [] → told ≡ false
-    → ExecsTexts image text (IsSchedule text) (on_input limits bytes) told out result → ExecsTexts image [] (IsSchedule []) (on_input limits []) false out result
-execs_plain image out result text bytes told limits e b t h =
-    subst (λ (x : Bool). ExecsTexts image [] (IsSchedule []) (on_input limits []) x out result) t
+-- without options
+pub execs_plain : (image : List ℕ) (out : Putting) (result : Result Answer Refusal) (text bytes : List ℕ) (told : Bool) (limits usual : Setting) → text ≡ [] → bytes ≡ [] → told ≡ false → limits ≡ usual
+    → ExecsTexts image text (IsSchedule text) (on_input limits bytes) told out result → ExecsTexts image [] (IsSchedule []) (on_input usual []) false out result
+execs_plain image out result text bytes told limits usual e b t l h =
+    subst (λ (s : Setting). ExecsTexts image [] (IsSchedule []) (on_input s []) false out result) l
+    (subst (λ (x : Bool). ExecsTexts image [] (IsSchedule []) (on_input limits []) x out result) t
     (subst (λ (x : List ℕ). ExecsTexts image x (IsSchedule x) (on_input limits []) told out result) e
-    (subst (λ (x : List ℕ). ExecsTexts image text (IsSchedule text) (on_input limits x) told out result) b h))
+    (subst (λ (x : List ℕ). ExecsTexts image text (IsSchedule text) (on_input limits x) told out result) b h)))
 
 -- the files as they were handed on
 pub builds_of : (shelf : Shelving) (name : List ℕ) (files given : List (List ℕ)) (image : List ℕ) (result : Result Answer Refusal) → given ≡ files → Builds shelf name given image result → Builds shelf name files image result

@@ -9,6 +9,7 @@ use Rattle.m3_image_commands.specs.declared.answers.Refusal.{Refusal}
 use Rattle.m3_image_commands.specs.Statuses.{Shelving, Putting, StoresNothing, StoresUnder, StoresFront, PutsNothing, IsGiven, OfOptions, Unfetched, LacksMemory, LacksOutput, Cuts, Refuses}
 use Rattle.m3_base.specs.declared.outcomes.Entry.{Entry}
 use Rattle.m3_base.specs.Schedules.{IsSchedule}
+use Rattle.m3_workload.specs.Schedules.{schedule_of}
 use Rattle.m3_image_commands.specs.Reports.{Setting, Ended}
 use Rattle.m3_image_commands.specs.ImageCommands.{IsNoSchedule, RefusesSwitches, by_schedule, on_input}
 
@@ -69,9 +70,9 @@ Builds shelf name files image result =
 
 -- ---- exec and bench
 
--- any schedule
-abbrev pub IsAny : List Entry → Type 0
-IsAny schedule = Unit {0}
+-- the schedule of a workload
+abbrev pub IsOfNumber : ℕ → List Entry → Type 0
+IsOfNumber number schedule = schedule ≡ schedule_of number
 
 -- the sources break a rule; the switches are no schedule; or the run of the sources' image by a schedule ended
 pub data ExecAnswer (image switches : List ℕ) (MayRunBy : List Entry → Type 0) (setting : Setting) (tells : Bool) (out : Putting) : ℕ → List ℕ → Type 0 where

@@ -1,15 +1,15 @@
 //! The commands.
 ghost use Rattle.std.specs.Prelude.{◌≡◌, false, [], None, Result, IfOk, IfErr, IsOk, is_some, map};
+ghost use Rattle.m3_command_line.specs.Ranges.{AreUsual};
 ghost use Rattle.std.specs.Option.{option_map};
 ghost use Rattle.m3_image.specs.Images.{read_of};
 ghost use Rattle.m3_image_commands.specs.declared.answers.Answer.{Answer as AnswerValue};
 ghost use Rattle.m3_image_commands.specs.declared.answers.Refusal.{Refusal as RefusalValue};
 ghost use Rattle.m3_image_commands.specs.Statuses.{LacksMemory, LacksOutput, Tells};
 ghost use Rattle.m3_base.specs.Schedules.{IsSchedule};
-ghost use Rattle.m3_image_commands.specs.Reports.{Setting};
 ghost use Rattle.m3_image_commands.specs.ImageCommands.{on_input};
-ghost use Rattle.m3_source_commands.specs.SourceCommands.{Builds, Execs, ExecsTexts, IsAny, RefusesSources, Stores};
-ghost use Rattle.m3_source_commands.specs.Orders.{Fulfils, Commands, order_of, setting_of};
+ghost use Rattle.m3_source_commands.specs.SourceCommands.{Builds, Execs, ExecsTexts, IsOfNumber, RefusesSources, Stores};
+ghost use Rattle.m3_source_commands.specs.Orders.{Fulfils, Commands, bench_setting, order_of, setting_of, usual_setting};
 
 use crate::compiling::compile;
 use crate::sources::{Sources, fetch_sources, views_of, views_of_bytes};
@@ -161,7 +161,8 @@ fn exec_sources<'a, O: Sink>(
 
 /// The options of a run where none was given.
 fn no_options() -> RunOptions<'static>
-    ensures { result.switches ≡ None }
+    ensures switches { result.switches ≡ None }
+    ensures limits { AreUsual result.limits }
 {
     RunOptions {
         switches: None,
@@ -189,7 +190,7 @@ fn exec_one<O: Sink>(
     out: &mut O,
     image: &mut Vec<u8>,
 ) -> Result<Answer, Refusal<'static>>
-    ensures { (limits : Setting) × ExecsTexts image.new.items [] (IsSchedule []) (on_input limits []) false (record {
+    ensures { ExecsTexts image.new.items [] (IsSchedule []) usual_setting false (record {
       taken = (O.taken out.old, O.taken out.new);
       faults = (O.faults out.old, O.faults out.new);
     }) result }
@@ -212,7 +213,7 @@ pub fn exec_text<O: Sink, E: Sink>(
     err: &mut E,
     image: &mut Vec<u8>,
 ) -> u8
-    ensures { (answer : Result AnswerValue RefusalValue) × (limits : Setting) × ExecsTexts image.new.items [] (IsSchedule []) (on_input limits []) false (record {
+    ensures { (answer : Result AnswerValue RefusalValue) × ExecsTexts image.new.items [] (IsSchedule []) usual_setting false (record {
       taken = (O.taken out.old, O.taken out.new);
       faults = (O.faults out.old, O.faults out.new);
     }) answer
@@ -232,7 +233,7 @@ fn bench<O: Sink>(
     out: &mut O,
     image: &mut Vec<u8>,
 ) -> Result<Answer, Refusal<'static>>
-    ensures { (limits : Setting) × ExecsTexts image.new.items [] IsAny (on_input limits []) false (record {
+    ensures { ExecsTexts image.new.items [] (IsOfNumber number) bench_setting false (record {
       taken = (O.taken out.old, O.taken out.new);
       faults = (O.faults out.old, O.faults out.new);
     }) result }
@@ -300,7 +301,7 @@ pub fn command<F: Shelf, O: Sink, E: Sink>(
     image: &mut Vec<u8>,
 ) -> u8
     requires { image.old.items ≡ [] }
-    ensures { Commands (record {
+    ensures { Commands (map (λ word. word.now) words.entry.now) (record {
       held = (F.held shelf.old, F.held shelf.new);
       faults = (F.faults shelf.old, F.faults shelf.new);
       store_faults = (F.store_faults shelf.old, F.store_faults shelf.new);

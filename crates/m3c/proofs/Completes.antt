@@ -1,6 +1,7 @@
 -- Completeness follows from the table.
-use Rattle.std.proofs.Common.{◌≡◌, ℕ, ◌<◌, ◌≤◌, ◌==◌, ◌||◌, Bool, true, false, List, length, Option, None, Some, refl, sym, ap, ◌∙◌, subst, inl, inr, ◌⊎◌, arith}
-use Rattle.std.specs.Prelude.{IfSome, IsSomeAnd}
+use Rattle.std.proofs.Common.{◌≡◌, ℕ, ◌<◌, ◌≤◌, ◌==◌, ◌||◌, Bool, true, false, List, [], ◌∷◌, length, codes, Option, None, Some, refl, sym, ap, ◌∙◌, subst, inl, inr, ◌⊎◌, arith}
+use Rattle.std.specs.Prelude.{IfSome, IsSomeAnd, IsTrue, Result}
+use Rattle.std.specs.List.{list_any}
 use Rattle.std.specs.FinMap.{get}
 use Rattle.std.proofs.lemmas.Bool.{false≢true}
 use Rattle.std.proofs.lemmas.Bool.Decides.{nat_tests}
@@ -10,9 +11,16 @@ use Rattle.m3_base.specs.declared.outcomes.Outcome.TheVariants.{Done, Fault}
 use Rattle.m3_ports.specs.Files.{Files, IsNotHeld, IsHeldOver}
 use Rattle.m3_build.specs.Terms.{Term, outcome_of}
 use Rattle.m3_build.specs.PlainForm.{IsPlain}
-use Rattle.m3_image_commands.specs.Statuses.{CountRose}
-use Rattle.m3_source_commands.specs.Orders.{Commands}
-use Rattle.m3c.specs.Command.{Call, IsSilent, IsRead, Ran, Answers, AnswersOther, of_words, of_text, IsOther, end_status, Promises, file_cap}
+use Rattle.m3_command_line.specs.Orders.{exec}
+use Rattle.m3_command_line.specs.Asked.{usual_options}
+use Rattle.m3_image_commands.specs.declared.answers.Answer.{Answer}
+use Rattle.m3_image_commands.specs.declared.answers.Refusal.{Refusal}
+use Rattle.m3_image_commands.specs.Statuses.{CountRose, Tells, Took}
+use Rattle.m3_source_commands.specs.Orders.{Commands, Fulfils}
+use Rattle.m3_source_commands.proofs.UsageLemmas.{never_usage}
+use Rattle.m3c.specs.Command.{Call, IsSilent, IsRead, Ran, Answers, AnswersOther, IsComplete, NotPlainText, of_words, of_text, IsOther, end_status, file_of, Promises, file_cap}
+use Rattle.m3c.proofs.Rows.{row_no_memory, row_write_fault}
+use Rattle.m3c.proofs.ByWords.{dump_of, exec_dumps_none, exec_runs_none, exec_words, run_of, usage_never, usage_of}
 
 or_parts : (a b : Bool) → (a || b) ≡ true → (a ≡ true) ⊎ (b ≡ true)
 or_parts true b e = inl refl
@@ -92,11 +100,22 @@ module _ (call : Call) (status : ℕ) (table : Answers call status) (files : Fil
       split : (a b : Bool) → (a ≡ true → Complete) → (b ≡ true → Complete) → (a || b) ≡ true → Complete
       split a b x y e = elim (or_parts a b e) [ inl t ↦ x t | inr t ↦ y t ]
 
-pub promised : (call : Call) (status : ℕ) → Answers call status → Promises call status
-promised call status table = record {
-  table = inl table;
-  complete = λ files name text puts f h g short p a b c. complete call status table files name text puts f h g short p a b c;
-}
+-- each status of the table is another than that of words that ask for nothing
+known_other : (call : Call) (status : ℕ) → Answers call status → status ≡ 2 → ⊥
+known_other call status table e =
+    let known : IsTrue (list_any (λ s. s == 2) (0 ∷ 3 ∷ 4 ∷ 5 ∷ 6 ∷ 7 ∷ 10 ∷ [])) = subst (λ (n : ℕ). IsTrue (list_any (λ s. s == n) (0 ∷ 3 ∷ 4 ∷ 5 ∷ 6 ∷ 7 ∷ 10 ∷ []))) e table.known in
+    false≢true known
+
+pub promised : (call : Call) (status : ℕ) (name : List ℕ) → file_of call.words ≡ Some name → Answers call status → Promises call status
+promised call status name named table =
+    let asks = exec_words call.words name named in
+    record {
+      table = inl table;
+      usage = usage_never call status _ asks (known_other call status table);
+      complete = λ files name text puts f h g short p a b c. complete call status table files name text puts f h g short p a b c;
+      run_complete = exec_runs_none call status _ _ asks;
+      dump_complete = exec_dumps_none call status _ _ asks;
+    }
 
 -- another command says nothing of the plain form
 not_plain : (call : Call) (files : Files) (name text : List ℕ) (puts : List Term) → call.file ≡ Some name → call.shelf.held.0 ≡ Some files → get files name ≡ Some text → IsPlain text puts → IsOther call.file call.shelf.held.0 → ⊥
@@ -107,13 +126,37 @@ not_plain call files name text puts f h g p (inr n) =
 
 is_other : (call : Call) (status : ℕ) → AnswersOther call status → IsOther call.file call.shelf.held.0
 is_other call status (of_words s none commands) = inl none
-is_other call status (of_text name limits s result named text carried told) = inr text
+is_other call status (of_text name s result named text carried told) = inr text
 
-pub other_promised : (call : Call) (status : ℕ) → AnswersOther call status → Promises call status
-other_promised call status answers = record {
-  table = inr answers;
-  complete = λ files name text puts f h g short p a b c. absurd (not_plain call files name text puts f h g p (is_other call status answers));
-}
+other_complete : (call : Call) (status : ℕ) → AnswersOther call status → IsComplete call status
+other_complete call status answers files name text puts f h g short p a b c = absurd (not_plain call files name text puts f h g p (is_other call status answers))
 
-pub words_promised : (call : Call) (status : ℕ) → call.file ≡ None → Commands call.shelf call.out call.err call.image status → Promises call status
-words_promised call status none commands = other_promised call status (of_words status none commands)
+pub text_promised_by : (call : Call) (status : ℕ) (name : List ℕ) (result : Result Answer Refusal) → file_of call.words ≡ Some name → call.file ≡ Some name → NotPlainText call.file call.shelf.held.0
+    → Fulfils (exec (name ∷ []) usual_options) call.shelf call.out call.image result → Tells call.err result status → Promises call status
+text_promised_by call status name result words named text carried told =
+    let asks = exec_words call.words name words in
+    let answers : AnswersOther call status = of_text name status result named text carried told in
+    record {
+      table = inr answers;
+      usage = usage_never call status _ asks (λ e. never_usage (exec (name ∷ []) usual_options) call.shelf call.out call.err call.image result status carried told e);
+      complete = other_complete call status answers;
+      run_complete = exec_runs_none call status _ _ asks;
+      dump_complete = exec_dumps_none call status _ _ asks;
+    }
+
+pub words_promised : (call : Call) (status : ℕ) → call.file ≡ None → Commands call.words call.shelf call.out call.err call.image status → Promises call status
+words_promised call status none commands =
+    let answers : AnswersOther call status = of_words status none commands in
+    record {
+      table = inr answers;
+      usage = usage_of call status commands;
+      complete = other_complete call status answers;
+      run_complete = run_of call status commands;
+      dump_complete = dump_of call status commands;
+    }
+
+-- memory ran out before anything was done
+pub memory_promised : (call : Call) (status : ℕ) (name : List ℕ) → file_of call.words ≡ Some name → IsSilent call → ((status ≡ 5) × Took call.err.taken (codes "out of memory\n")) ⊎ ((status ≡ 4) × CountRose call.err.faults)
+    → Promises call status
+memory_promised call status name named silent (inl t) = promised call status name named (subst (λ (s : ℕ). Answers call s) (sym t.0) (row_no_memory call (silent, t.1)))
+memory_promised call status name named silent (inr t) = promised call status name named (subst (λ (s : ℕ). Answers call s) (sym t.0) (row_write_fault call (inr t.1)))

@@ -152,20 +152,20 @@ says_on line text err e t = subst (λ l. Took err l) (same_line line text e) t
     same_line : (line text : List ℕ) → Some line ≡ Some ([] ++ text) → line ≡ text
     same_line line text e = cc
 
-abbrev pub told : Call → Option (List ℕ) → Option (List ℕ) × Option (List ℕ) → ℕ × ℕ → List ℕ → Call
-told a file err err_faults image = record a { file = file; err = record { taken = err; faults = err_faults }; image = image }
+abbrev pub told : Call → List (List ℕ) → Option (List ℕ) → Option (List ℕ) × Option (List ℕ) → ℕ × ℕ → List ℕ → Call
+told a words file err err_faults image = record a { words = words; file = file; err = record { taken = err; faults = err_faults }; image = image }
 
-module _ (a : Call) (line : List ℕ) (file : Option (List ℕ)) (err : Option (List ℕ) × Option (List ℕ)) (err_faults : ℕ × ℕ) (image : List ℕ) (same : file ≡ a.file) (from : a.err.taken ≡ (Some [], Some line)) (none : a.err.faults ≡ (0, 0)) (took : Took err line) where
+module _ (a : Call) (line : List ℕ) (words : List (List ℕ)) (file : Option (List ℕ)) (err : Option (List ℕ) × Option (List ℕ)) (err_faults : ℕ × ℕ) (image : List ℕ) (same : file ≡ a.file) (from : a.err.taken ≡ (Some [], Some line)) (none : a.err.faults ≡ (0, 0)) (took : Took err line) where
   say : (text : List ℕ) → Took a.err.taken text → Took err text
   say text t = says_on line text err (subst (λ e. Took e text) from t) took
 
-  refuse_on : (cause : List ℕ) (Holds : List ℕ → Type 0) → Refuses a cause Holds → Refuses (told a file err err_faults image) cause Holds
+  refuse_on : (cause : List ℕ) (Holds : List ℕ → Type 0) → Refuses a cause Holds → Refuses (told a words file err err_faults image) cause Holds
   refuse_on cause Holds r = record { name = r.name; named = same ∙ r.named; holds = r.holds; silent = r.silent; says = say _ r.says }
 
-  read_on : (name text : List ℕ) → IsRead a name text → IsRead (told a file err err_faults image) name text
+  read_on : (name text : List ℕ) → IsRead a name text → IsRead (told a words file err err_faults image) name text
   read_on name text r = record { named = same ∙ r.named; short = r.short; held = r.held }
 
-  ran_on : (outcome : Outcome) → Ran a outcome → Ran (told a file err err_faults image) outcome
+  ran_on : (outcome : Outcome) → Ran a outcome → Ran (told a words file err err_faults image) outcome
   ran_on outcome r = record {
     name = r.name;
     text = r.text;
@@ -192,7 +192,7 @@ module _ (a : Call) (line : List ℕ) (file : Option (List ℕ)) (err : Option (
   out_rose (inl r) = r
   out_rose (inr r) = absurd (none_rose r)
 
-  pub answers_on : (status : ℕ) → Answers a status → Answers (told a file err err_faults image) status
+  pub answers_on : (status : ℕ) → Answers a status → Answers (told a words file err err_faults image) status
   answers_on status r = record {
     known = r.known;
     done = λ e. ran_on Done (r.done e);
@@ -205,8 +205,8 @@ module _ (a : Call) (line : List ℕ) (file : Option (List ℕ)) (err : Option (
   }
 
 -- the command's last step: the line goes to err, or the put fails
-pub told_or_failed : (a : Call) (line : List ℕ) (file : Option (List ℕ)) (err : Option (List ℕ) × Option (List ℕ)) (err_faults : ℕ × ℕ) (image : List ℕ) (status result : ℕ) (line' : List ℕ) → file ≡ a.file → a.err.taken ≡ (Some [], Some line) → a.err.faults ≡ (0, 0) → line' ≡ line → Answers a status → ((result ≡ status) × Took err line') ⊎ ((result ≡ 4) × CountRose err_faults) → Answers (told a file err err_faults image) result
-told_or_failed a line file err err_faults image status result line' same from none l answers (inl t) =
-    subst (λ s. Answers (told a file err err_faults image) s) (sym t.0) (answers_on a line file err err_faults image same from none (subst (λ x. Took err x) l t.1) status answers)
-told_or_failed a line file err err_faults image status result line' same from none l answers (inr f) =
-    subst (λ s. Answers (told a file err err_faults image) s) (sym f.0) (row_write_fault (told a file err err_faults image) (inr f.1))
+pub told_or_failed : (a : Call) (line : List ℕ) (words : List (List ℕ)) (file : Option (List ℕ)) (err : Option (List ℕ) × Option (List ℕ)) (err_faults : ℕ × ℕ) (image : List ℕ) (status result : ℕ) (line' : List ℕ) → file ≡ a.file → a.err.taken ≡ (Some [], Some line) → a.err.faults ≡ (0, 0) → line' ≡ line → Answers a status → ((result ≡ status) × Took err line') ⊎ ((result ≡ 4) × CountRose err_faults) → Answers (told a words file err err_faults image) result
+told_or_failed a line words file err err_faults image status result line' same from none l answers (inl t) =
+    subst (λ s. Answers (told a words file err err_faults image) s) (sym t.0) (answers_on a line words file err err_faults image same from none (subst (λ x. Took err x) l t.1) status answers)
+told_or_failed a line words file err err_faults image status result line' same from none l answers (inr f) =
+    subst (λ s. Answers (told a words file err err_faults image) s) (sym f.0) (row_write_fault (told a words file err err_faults image) (inr f.1))

@@ -1,6 +1,6 @@
 -- What the command answers: a row for each status, over what the words say, what the shelf tells that it
 -- holds, which counts rose, and what the sinks took.
-use Rattle.std.specs.Prelude.{ℕ, ◌≡◌, ◌≤◌, ◌==◌, ◌&&◌, ◌⊎◌, Bool, false, not, if◌then◌else◌, Option, None, Some, IfSome, Result, List, [], ◌∷◌, ◌++◌, length, codes, decimal, IsTrue}
+use Rattle.std.specs.Prelude.{ℕ, ◌≡◌, ◌≤◌, ◌==◌, ◌&&◌, ◌⊎◌, Bool, false, not, if◌then◌else◌, Option, None, Some, IfSome, is_some, Result, Ok, List, [], ◌∷◌, ◌++◌, length, codes, decimal, IsTrue}
 use Rattle.std.specs.List.{list_any}
 use Rattle.std.specs.Str.{bytes_eq}
 use Rattle.std.specs.FinMap.{get}
@@ -9,16 +9,24 @@ use Rattle.m3_base.specs.declared.outcomes.Outcome.{Outcome}
 use Rattle.m3_base.specs.declared.outcomes.Outcome.TheVariants.{Done, Fault}
 use Rattle.m3_base.specs.Faults.{name_of_fault}
 use Rattle.m3_ports.specs.Files.{Files, IsNotHeld, IsHeldOver}
+use Rattle.m3_base.specs.declared.outcomes.Entry.{Entry}
+use Rattle.m3_image.specs.Images.{read_of}
+use Rattle.m3_sections.specs.Parts.{Image}
+use Rattle.m3_dump.specs.Texts.{IsDump}
 use Rattle.m3_isa.specs.declared.instructions.Instr.{Instr}
 use Rattle.m3_build.specs.Terms.{Term, output_of, points_of, outcome_of}
 use Rattle.m3_build.specs.PlainForm.{IsPlain}
 use Rattle.m3_build.specs.Machine.{Puts}
 use Rattle.m3_image_commands.specs.declared.answers.Answer.{Answer}
 use Rattle.m3_image_commands.specs.declared.answers.Refusal.{Refusal}
-use Rattle.m3_image_commands.specs.Statuses.{Shelving, Putting, Tells}
+use Rattle.m3_image_commands.specs.Statuses.{Shelving, Putting, Tells, image_cap}
 pub use Rattle.m3_image_commands.specs.Statuses.{CountRose, Took}
-use Rattle.m3_image_commands.specs.Reports.{Setting}
-use Rattle.m3_source_commands.specs.Orders.{exec, Fulfils, Commands}
+use Rattle.m3_image_commands.specs.Reports.{Setting, Ended}
+use Rattle.m3_image_commands.specs.ImageCommands.{by_schedule, on_input}
+use Rattle.m3_image_commands.specs.Complete.{IsHeld, IsReady}
+use Rattle.m3_command_line.specs.Orders.{Options, run, exec, dump}
+use Rattle.m3_command_line.specs.Asked.{asked, usual_options}
+use Rattle.m3_source_commands.specs.Orders.{Fulfils, Commands, within}
 
 -- ---- the words
 
@@ -40,9 +48,10 @@ file_cap = 1048576
 
 -- ---- what happened outside
 
--- the file that the words name, what happened on the shelf and in the sinks, and the bytes that the command
--- leaves as its image
+-- the words, the file that they name where they are exec FILE, what happened on the shelf and in the sinks, and the
+-- bytes that the command leaves as its image
 pub record Call : Type 0 where
+  pub words : List (List ℕ)
   pub file : Option (List ℕ)
   pub shelf : Shelving
   pub out : Putting
@@ -141,11 +150,53 @@ IsComplete call status =
 
 -- any other command than exec FILE; or exec FILE with a text that isn't in the plain form
 pub data AnswersOther (call : Call) : ℕ → Type 0 where
-  of_words : (status : ℕ) → call.file ≡ None → Commands call.shelf call.out call.err call.image status → AnswersOther call status
-  of_text : (name : List ℕ) (limits : Setting) (status : ℕ) (result : Result Answer Refusal) → call.file ≡ Some name → NotPlainText call.file call.shelf.held.0
-      → Fulfils (exec (name ∷ []) None None limits) call.shelf call.out call.image result → Tells call.err result status → AnswersOther call status
+  of_words : (status : ℕ) → call.file ≡ None → Commands call.words call.shelf call.out call.err call.image status → AnswersOther call status
+  of_text : (name : List ℕ) (status : ℕ) (result : Result Answer Refusal) → call.file ≡ Some name → NotPlainText call.file call.shelf.held.0
+      → Fulfils (exec (name ∷ []) usual_options) call.shelf call.out call.image result → Tells call.err result status → AnswersOther call status
 
--- the table, and completeness
+-- ---- every command
+
+-- status 2 comes exactly by the words: only where they ask for nothing, and there always, unless memory runs out or err
+-- fails
+pub record UsageByWords (call : Call) (status : ℕ) : Type 0 where
+  pub only : status ≡ 2 → asked call.words ≡ None
+  pub always : asked call.words ≡ None → (status ≡ 2) ⊎ ((status ≡ 5) ⊎ ((status ≡ 4) × CountRose call.err.faults))
+
+-- no count of faults rises
+pub record IsCalm (call : Call) : Type 0 where
+  pub shelf : ¬ CountRose call.shelf.faults
+  pub out : ¬ CountRose call.out.faults
+  pub err : ¬ CountRose call.err.faults
+
+-- the run of the image ended: the status is that of its outcome, and err took the line
+abbrev pub RanImage : Call → Image → Setting → Bool → ℕ → Type 0
+RanImage call i setting tells status = (line : List ℕ) × Ended i setting tells call.out status line × Took call.err.taken line
+
+-- the text of the image was put, and nothing on err
+abbrev pub DumpedImage : Call → Image → ℕ → Type 0
+DumpedImage call i status = (text : List ℕ) × (status ≡ 0) × IsDump i text × Took call.out.taken text × Took call.err.taken []
+
+-- memory ran out before any output
+abbrev pub RanOut : Call → ℕ → Type 0
+RanOut call status = (status ≡ 5) × IsSilent call
+
+-- completeness of `run`: an image that is held within its cap, with switches that are a schedule, is run to its end
+abbrev pub IsRunComplete : Call → ℕ → Type 0
+IsRunComplete call status =
+    (name : List ℕ) (options : Options) (i : Image) (schedule : List Entry) (given : List ℕ) → asked call.words ≡ Some (run name options)
+    → IsReady call.shelf.held.0 name options.switches options.input i schedule given → IsCalm call
+    → RanImage call i (by_schedule (on_input (within options.bounds) given) schedule) (is_some options.switches) status ⊎ RanOut call status
+
+-- and of `dump`
+abbrev pub IsDumpComplete : Call → ℕ → Type 0
+IsDumpComplete call status =
+    (name : List ℕ) (i : Image) (bytes : List ℕ) → asked call.words ≡ Some (dump name) → IsHeld call.shelf.held.0 name image_cap bytes → read_of bytes ≡ Ok i → IsCalm call
+    → DumpedImage call i status ⊎ RanOut call status
+
+-- the table, the words, and completeness
 pub record Promises (call : Call) (status : ℕ) : Type 0 where
   pub table : Answers call status ⊎ AnswersOther call status
+  pub usage : UsageByWords call status
   pub complete : IsComplete call status
+  pub run_complete : IsRunComplete call status
+  pub dump_complete : IsDumpComplete call status

@@ -51,6 +51,7 @@ pub fn m3c<F: Shelf, O: Sink, E: Sink>(
 ) -> u8
     requires { image.old.items ≡ [] }
     ensures promises { Promises (record {
+      words = map string_bytes words.items;
       file = file_of (map string_bytes words.items);
       shelf = record {
         held = (F.held shelf.old, F.held shelf.new);
@@ -66,9 +67,10 @@ pub fn m3c<F: Shelf, O: Sink, E: Sink>(
     ensures held { (file_of (map string_bytes words.items) ≡ None) ⊎ (F.held shelf.new ≡ F.held shelf.old) }
     ensures image { (image.new.items ≡ []) ⊎ IsOther (file_of (map string_bytes words.items)) (F.held shelf.old) }
 {
-    match file_word(words.as_slice()) {
+    let texts = words.as_slice();
+    match file_word(texts) {
         Some(name) => exec_file(alloc, name, shelf, out, err, image),
-        None => other_command(alloc, words.as_slice(), shelf, out, err, image),
+        None => other_command(alloc, texts, shelf, out, err, image),
     }
 }
 
@@ -82,7 +84,7 @@ fn other_command<F: Shelf, O: Sink, E: Sink>(
     image: &mut Vec<u8>,
 ) -> u8
     requires { image.old.items ≡ [] }
-    ensures { Commands (record {
+    ensures { Commands (map string_bytes words.now) (record {
       held = (F.held shelf.old, F.held shelf.new);
       faults = (F.faults shelf.old, F.faults shelf.new);
       store_faults = (F.store_faults shelf.old, F.store_faults shelf.new);
@@ -103,7 +105,9 @@ fn other_command<F: Shelf, O: Sink, E: Sink>(
 }
 
 // The words as the commands take them.
-fn texts_of<'w>(alloc: Global, words: &'w [String]) -> Result<Vec<&'w str>, NoMemory> {
+fn texts_of<'w>(alloc: Global, words: &'w [String]) -> Result<Vec<&'w str>, NoMemory>
+    ensures { IfOk result (λ texts. map (λ text. text.now) texts.items ≡ map string_bytes words.now) }
+{
     let mut texts = Vec::new(alloc);
     for word in words {
         texts.push(word.as_str())?;
@@ -121,8 +125,9 @@ fn exec_file<F: Shelf, O: Sink, E: Sink>(
     image: &mut Vec<u8>,
 ) -> u8
     requires { image.old.items ≡ [] }
-    ensures promises { Promises (record {
-      file = Some name.now;
+    ensures promises { (words : List (List ℕ)) → file_of words ≡ Some name.now → Promises (record {
+      words = words;
+      file = file_of words;
       shelf = record {
         held = (F.held shelf.old, F.held shelf.new);
         faults = (F.faults shelf.old, F.faults shelf.new);
@@ -191,6 +196,7 @@ fn execute<F: Shelf, O: Sink>(
     requires empty { line.old.items ≡ [] }
     requires room { length name.now + 128 ≤ vec_capacity line.old }
     ensures answers { MatchResult result (λ status. Answers (record {
+      words = [];
       file = Some name.now;
       shelf = record {
         held = (F.held shelf.old, F.held shelf.new);

@@ -1,0 +1,4 @@
+pub mod Grammars
+pub mod Found
+pub mod Readings
+pub mod PlainExec
