@@ -2,11 +2,9 @@ use crate::given::{built, integer_given, ordinal_given, type_given};
 use m3_assigning::{value_given, with_check};
 use m3_base::{NoMemory, Pos};
 use m3_chains::{finished, is_writable};
-use m3_core::{
-    BuiltinCall, Chain, Conversion, CoreExpr, CoreStmt, Prefix, PrefixOperator, Routine,
-};
+use m3_core::{BuiltinCall, Chain, Conversion, CoreExpr, Prefix, PrefixOperator, Routine};
 use m3_operand_types::{are_same, base_of, is_ordinal, share_base};
-use m3_operands::{Checker, Given, Thing, Valued};
+use m3_operands::{Change, Checker, Given, Thing, Valued};
 use m3_types::TypeId;
 
 /// ABS of an integer (rule 68).
@@ -178,7 +176,7 @@ fn changed<'a>(
     target: &'a Chain<'a>,
     amount: Option<Valued<'a>>,
 ) -> Result<Thing<'a>, NoMemory> {
-    let statement = CoreStmt::Change {
+    let change = Change {
         pos,
         is_decrement,
         target,
@@ -187,5 +185,5 @@ fn changed<'a>(
             None => None,
         },
     };
-    Ok(Thing::Change(pos, checker.box_up(statement)?))
+    Ok(Thing::Change(checker.box_up(change)?))
 }

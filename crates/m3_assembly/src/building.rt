@@ -35,27 +35,32 @@ fn program_parts<'a>(
     let mut kept = Vec::new(arena);
     kept.push(Storage::of(alloc, core)?)?;
     match into_bump_slice(kept) {
-        [storage, ..] => parts_in(alloc, storage),
+        [storage, ..] => parts_in(alloc, core, storage),
         [] => Err(NoMemory),
     }
 }
 
-fn parts_in<'a>(alloc: Global, storage: &'a Storage<'a>) -> Result<ImageParts, NoMemory> {
-    let constants = Constants::of(alloc, storage)?;
+fn parts_in<'a>(
+    alloc: Global,
+    core: &Core,
+    storage: &'a Storage<'a>,
+) -> Result<ImageParts, NoMemory> {
+    let constants = Constants::of(alloc, core.texts, storage)?;
     let mut places = Places::new(alloc);
-    let code = code_of(alloc, storage, &constants, &mut places)?;
-    parts_of(alloc, storage, constants.words, code, &places)
+    let code = code_of(alloc, core, storage, &constants, &mut places)?;
+    parts_of(alloc, core, storage, constants.words, code, &places)
 }
 
 fn parts_of(
     alloc: Global,
+    core: &Core,
     storage: &Storage,
     constants: Vec<u64>,
     code: Code,
     places: &Places,
 ) -> Result<ImageParts, NoMemory> {
     let tables = table_section(alloc, &code.rows)?;
-    let variables = var_parts(alloc, storage, &code.spans)?;
+    let variables = var_parts(alloc, core, storage, &code.spans)?;
     let Code {
         code,
         procs,
@@ -68,8 +73,8 @@ fn parts_of(
         types: type_parts(alloc, storage)?,
         globals: global_part(alloc, storage)?,
         constants,
-        places: place_part(alloc, storage.core, places)?,
-        exceptions: exception_names(alloc, storage.core)?,
+        places: place_part(alloc, core, places)?,
+        exceptions: exception_names(alloc, core)?,
         tables,
         variables: Some(variables),
     })

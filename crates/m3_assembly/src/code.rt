@@ -1,6 +1,7 @@
 use bumpalo::Bump;
 use m3_alloc::allocate;
 use m3_base::{NoMemory, place_number};
+use m3_core::Core;
 use m3_derive::derive;
 use m3_emit::{Links, Part, Places, SpanPart, emit};
 use m3_image_parts::Constants;
@@ -132,13 +133,14 @@ struct Compiled {
 
 fn compile<'s>(
     alloc: Global,
+    core: &Core,
     storage: &'s Storage<'s>,
     constants: &Constants,
     places: &mut Places,
     number: u32,
 ) -> Result<Compiled, NoMemory> {
     let arena = Bump::new(alloc);
-    let proc = lower_proc(alloc, &arena, storage, number)?;
+    let proc = lower_proc(alloc, &arena, core, storage, number)?;
     let derived = derive(alloc, &arena, &proc)?;
     let placed = allocate(alloc, &derived)?;
     let links = Links {
@@ -155,16 +157,17 @@ fn compile<'s>(
 /// The code of all procedures of a program.
 pub fn code_of<'s>(
     alloc: Global,
+    core: &Core,
     storage: &'s Storage<'s>,
     constants: &Constants,
     places: &mut Places,
 ) -> Result<Code, NoMemory> {
     let mut code = Code::new(alloc);
-    code.add_start(alloc, storage.core.order)?;
+    code.add_start(alloc, core.order)?;
     code.add_thread(alloc)?;
-    for number in 0..storage.core.procs.len() {
+    for number in 0..core.procs.len() {
         let number = place_number(number)?;
-        code.add_proc(compile(alloc, storage, constants, places, number)?)?;
+        code.add_proc(compile(alloc, core, storage, constants, places, number)?)?;
     }
     Ok(code)
 }

@@ -8,7 +8,7 @@ use m3_core::{Chain, Conversion, CoreExpr, CoreStmt};
 use m3_exprs::{call_actuals, expression, given, operand};
 use m3_operand_names::thing_named;
 use m3_operand_types::is_open;
-use m3_operands::{Checker, Thing, Valued};
+use m3_operands::{Change, Checker, Thing, Valued};
 use m3_syntax::{Actual, Decl, Expr, Init, VarDecl};
 use m3_types::TypeId;
 
@@ -184,11 +184,20 @@ pub fn call_statement<'a>(
             Ok(Some(CoreStmt::Call { pos, call }))
         }
         Thing::Builtin(call) => Ok(Some(CoreStmt::Builtin { pos, call: &**call })),
-        Thing::Change(_, statement) => Ok(Some(**statement)),
+        Thing::Change(change) => Ok(Some(change_statement(&change))),
         _ => {
             checker.note(pos, 70);
             Ok(None)
         }
+    }
+}
+
+fn change_statement<'a>(change: &Change<'a>) -> CoreStmt<'a> {
+    CoreStmt::Change {
+        pos: change.pos,
+        is_decrement: change.is_decrement,
+        target: change.target,
+        amount: change.amount,
     }
 }
 
@@ -199,7 +208,7 @@ pub fn eval<'a>(
     value: &Expr<'a>,
 ) -> Result<Option<CoreStmt<'a>>, NoMemory> {
     let thing = operand(checker, value)?;
-    if let Thing::Call(_) | Thing::Builtin(_) | Thing::Change(_, _) = thing {
+    if let Thing::Call(_) | Thing::Builtin(_) | Thing::Change(_) = thing {
         checker.note(pos, 82);
         return Ok(None);
     }

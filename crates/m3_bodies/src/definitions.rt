@@ -26,9 +26,13 @@ pub struct Heading<'a> {
     pub end: Pos,
 }
 
+/// The procedures that were checked, each with its number.
+pub type Procedures<'a> = Vec<(u32, ProcDef<'a>)>;
+
 /// Adds a checked procedure.
 pub fn define<'a>(
-    checker: &mut Checker<'_, 'a>,
+    checker: &Checker<'_, 'a>,
+    procedures: &mut Procedures<'a>,
     body: Body<'a>,
     heading: &Heading<'a>,
     block: CoreStmt<'a>,
@@ -57,7 +61,7 @@ pub fn define<'a>(
         end: heading.end,
         is_module: false,
     };
-    checker.procedures.push((number, definition))?;
+    procedures.push((number, definition))?;
     Ok(())
 }
 

@@ -6,5 +6,5 @@ mod definitions;
 mod variables;
 
 pub use bodies::{Body, NewVariable};
-pub use definitions::{Heading, define, known};
+pub use definitions::{Heading, Procedures, define, known};
 pub use variables::{bound_variable, declare_formals, declare_locals};

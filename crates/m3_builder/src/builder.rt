@@ -79,16 +79,12 @@ impl<'m, 's> Builder<'m, 's> {
         storage: &'s Storage<'s>,
         number: u32,
     ) -> Builder<'m, 's> {
-        let level = match storage.proc(number) {
-            Some(proc) => proc.level,
-            None => 0,
-        };
         Builder {
             alloc,
             arena,
             storage,
             number,
-            level,
+            level: storage.level(number),
             blocks: Vec::new(alloc),
             temps: Vec::new(alloc),
             slots: Vec::new(alloc),

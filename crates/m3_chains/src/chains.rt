@@ -201,8 +201,8 @@ pub fn value_of<'a>(
             checker.note(call.pos, 61);
             Ok(None)
         }
-        Thing::Change(at, _) => {
-            checker.note(*at, 61);
+        Thing::Change(change) => {
+            checker.note(change.pos, 61);
             Ok(None)
         }
         _ => {

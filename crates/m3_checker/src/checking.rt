@@ -63,11 +63,12 @@ fn check_all<'a>(
     sources: &[Source<'a>],
 ) -> Result<Lists<'a>, Refused> {
     declare_globals(checker, &linked.units)?;
-    check_units(checker, doubtful, &linked.units)?;
+    let mut procedures = Vec::new(checker.alloc);
+    check_units(checker, &mut procedures, doubtful, &linked.units)?;
     checker.least.check()?;
     let refused = checker.declared.basic.refused;
     give_up(&mut checker.declared.types, refused);
-    Ok(list_all(checker, linked, sources)?)
+    Ok(list_all(checker, linked, procedures.as_slice(), sources)?)
 }
 
 /// The graph of types of a checker that is done with it.

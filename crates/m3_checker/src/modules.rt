@@ -1,7 +1,7 @@
 use bumpalo::collections::into_bump_slice;
 use m3_assignments::initial_values;
 use m3_base::NoMemory;
-use m3_bodies::Body;
+use m3_bodies::{Body, Procedures};
 use m3_core::{CoreStmt, ProcDef};
 use m3_operands::Checker;
 use m3_stmts::statements;
@@ -11,6 +11,7 @@ use m3_types::{Formal, Raises, TypeNode};
 /// Checks a module's body.
 pub fn check_module<'a>(
     checker: &mut Checker<'_, 'a>,
+    procedures: &mut Procedures<'a>,
     unit: &Unit<'a>,
     block: &Block<'a>,
 ) -> Result<(), NoMemory> {
@@ -18,17 +19,19 @@ pub fn check_module<'a>(
         return Ok(());
     };
     let mut body = Body::new(checker, number, None);
-    let checked = module_block(checker, &mut body, block)?;
-    define_module(checker, body, unit, block, checked)
+    let checked = module_block(checker, &mut body, procedures, block)?;
+    procedures.push((number, module_of(checker, body, unit, block, checked)?))?;
+    Ok(())
 }
 
 fn module_block<'a>(
     checker: &mut Checker<'_, 'a>,
     body: &mut Body<'a>,
+    procedures: &mut Procedures<'a>,
     block: &Block<'a>,
 ) -> Result<CoreStmt<'a>, NoMemory> {
     let initial = initial_values(checker, block.declarations)?;
-    let statements = statements(checker, body, block.body)?;
+    let statements = statements(checker, body, procedures, block.body)?;
     Ok(CoreStmt::Block {
         pos: block.pos,
         variables: no_variables(),
@@ -45,21 +48,20 @@ fn no_formals<'a>() -> &'a [Formal<'a>] {
     &[]
 }
 
-/// Adds the body of a module to the procedures.
-fn define_module<'a>(
+/// The body of a module as a procedure.
+fn module_of<'a>(
     checker: &mut Checker<'_, 'a>,
     body: Body<'a>,
     unit: &Unit<'a>,
     block: &Block<'a>,
     checked: CoreStmt<'a>,
-) -> Result<(), NoMemory> {
+) -> Result<ProcDef<'a>, NoMemory> {
     let Body {
         formals,
         locals,
-        number,
         ..
     } = body;
-    let definition = ProcDef {
+    Ok(ProcDef {
         name: unit.name.text,
         unit: checker.unit,
         kind: checker
@@ -77,7 +79,5 @@ fn define_module<'a>(
         name_pos: unit.name.pos,
         end: block.end,
         is_module: true,
-    };
-    checker.procedures.push((number, definition))?;
-    Ok(())
+    })
 }

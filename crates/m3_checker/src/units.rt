@@ -1,6 +1,7 @@
 use crate::modules::check_module;
 use m3_assignments::initial_value;
 use m3_base::{NoMemory, Refused, place_number};
+use m3_bodies::Procedures;
 use m3_declarer::Doubtful;
 use m3_exprs::expression;
 use m3_listing::is_given;
@@ -10,9 +11,10 @@ use m3_syntax::{Decl, Unit, UnitKind, VarDecl};
 use m3_type_names::judge_declaration;
 
 /// Checks the doubtful expressions of declarations, and the expressions and statements of all
-/// units.
+/// units, and lists the procedures.
 pub fn check_units<'a>(
     checker: &mut Checker<'_, 'a>,
+    procedures: &mut Procedures<'a>,
     doubtful: &[Doubtful<'a>],
     units: &[Unit<'a>],
 ) -> Result<(), NoMemory> {
@@ -24,7 +26,7 @@ pub fn check_units<'a>(
         checker.unit = place_number(place)?;
         checker.level = 0;
         if is_given(checker, place) {
-            check_unit(checker, unit)?;
+            check_unit(checker, procedures, unit)?;
         }
     }
     Ok(())
@@ -43,14 +45,18 @@ fn check_constants<'a>(
     Ok(())
 }
 
-fn check_unit<'a>(checker: &mut Checker<'_, 'a>, unit: &Unit<'a>) -> Result<(), NoMemory> {
+fn check_unit<'a>(
+    checker: &mut Checker<'_, 'a>,
+    procedures: &mut Procedures<'a>,
+    unit: &Unit<'a>,
+) -> Result<(), NoMemory> {
     for declaration in unit.declarations() {
         judge_declaration(checker, declaration);
-        check_procedure(checker, None, declaration)?;
+        check_procedure(checker, procedures, None, declaration)?;
     }
     match unit.kind {
         UnitKind::Interface { .. } => check_interface(checker, unit),
-        UnitKind::Module { block, .. } => check_module(checker, unit, &**block),
+        UnitKind::Module { block, .. } => check_module(checker, procedures, unit, &**block),
         _ => Ok(()),
     }
 }

@@ -1,11 +1,25 @@
-//! Tries the checker on the tables that the arguments name: first the file of a prelude, then
-//! tables of pieces, and those of whole programs, whose names end in `programs.txt`. Cases that
-//! come out otherwise are shown.
+//! Tries what reads, links, declares and checks programs on the tables of cases that the arguments
+//! name: first the file of a prelude, then the tables. The folder of a table says what is tried.
+//! Cases that come out otherwise are shown.
+//!
+//! - linking: rules of units, generics and names, scopes, numbers of tokens. A case gives `ok`;
+//!   the least refusal as `FILE:LINE:COLUMN: rule N`; `order` and the places of the modules in the
+//!   order of their bodies; `units` and their number; or `at`, the place of a name, and the place
+//!   of its declaration or `none`.
+//! - declaring: types and constants. A case gives `ok`, the least refusal, or
+//!   `doubtful FILE:LINE:COLUMN` with the first constant that breaks a rule of expressions.
+//! - checking: tables of pieces in the prelude, and those of whole programs, whose names end in
+//!   `programs.txt`.
 #![tactic(auto)]
 
 mod checking;
+mod declaring;
+mod linking;
+mod questions;
 
 use checking::Checking;
+use declaring::Declaring;
+use linking::Linking;
 use m3_trial::{try_file, try_pieces};
 use std::rt::{Env, Files};
 use std::{env, fs, io};
@@ -27,6 +41,12 @@ fn run(rt: &(impl Print + Env + Files + AllocGlobal)) -> io::Result<()> {
 
 /// Tries a table, and shows how many cases it has.
 fn try_table(rt: &(impl Print + Files + AllocGlobal), prelude: &str, name: &str) -> io::Result<()> {
+    if name.starts_with("linking/") {
+        return try_file(rt, &Linking, name);
+    }
+    if name.starts_with("declaring/") {
+        return try_file(rt, &Declaring, name);
+    }
     if name.ends_with("programs.txt") {
         return try_file(rt, &Checking, name);
     }

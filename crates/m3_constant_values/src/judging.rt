@@ -1,6 +1,6 @@
 use m3_base::NoMemory;
 use m3_core::Value;
-use m3_declarer::{Declarer, Doubtful, Promise};
+use m3_declarer::{Declarer, Doubtful, Doubts, Promise};
 use m3_early_types::{converted, fits};
 use m3_evaluate::expression;
 use m3_syntax::Expr;
@@ -10,6 +10,7 @@ use m3_worth::{Known, Need, Worth};
 /// What an expression is worth.
 pub fn worth_of<'a>(
     declarer: &mut Declarer<'_, 'a>,
+    doubts: &mut Doubts<'a>,
     value: &'a Expr<'a>,
     is_constant: bool,
 ) -> Result<Option<Worth<'a>>, NoMemory> {
@@ -18,7 +19,7 @@ pub fn worth_of<'a>(
     declarer.eval.flaw = None;
     declarer.eval.assumed.clear();
     let worth = expression(&mut declarer.eval, value)?;
-    assume(declarer, value)?;
+    assume(declarer, doubts, value)?;
     if declarer.eval.lacks.len() > lacking {
         return Ok(None);
     }
@@ -32,7 +33,7 @@ pub fn worth_of<'a>(
         _ => {
             if is_constant {
                 let unit = declarer.eval.unit;
-                declarer.doubts.push(Doubtful { unit, value })?;
+                doubts.doubts.push(Doubtful { unit, value })?;
             }
             Ok(None)
         }
@@ -40,10 +41,14 @@ pub fn worth_of<'a>(
 }
 
 /// Keeps what the judging of an expression assumed.
-fn assume<'a>(declarer: &mut Declarer<'_, 'a>, value: &'a Expr<'a>) -> Result<(), NoMemory> {
+fn assume<'a>(
+    declarer: &mut Declarer<'_, 'a>,
+    doubts: &mut Doubts<'a>,
+    value: &'a Expr<'a>,
+) -> Result<(), NoMemory> {
     for assumed in &declarer.eval.assumed {
         let assumed = *assumed;
-        declarer.assumed.push(Promise { assumed, value })?;
+        doubts.assumed.push(Promise { assumed, value })?;
     }
     declarer.eval.assumed.clear();
     Ok(())
@@ -52,9 +57,10 @@ fn assume<'a>(declarer: &mut Declarer<'_, 'a>, value: &'a Expr<'a>) -> Result<()
 /// The type and the value of a constant expression (rules 40 to 43).
 pub fn typed_constant<'a>(
     declarer: &mut Declarer<'_, 'a>,
+    doubts: &mut Doubts<'a>,
     value: &'a Expr<'a>,
 ) -> Result<Option<(TypeId, Value<'a>)>, NoMemory> {
-    let Some(worth) = worth_of(declarer, value, true)? else {
+    let Some(worth) = worth_of(declarer, doubts, value, true)? else {
         return Ok(None);
     };
     match worth.value {
@@ -69,10 +75,11 @@ pub fn typed_constant<'a>(
 /// The value of a constant expression as one of a type (rules 43 and 44).
 pub fn constant_of<'a>(
     declarer: &mut Declarer<'_, 'a>,
+    doubts: &mut Doubts<'a>,
     value: &'a Expr<'a>,
     to: TypeId,
 ) -> Result<Option<Value<'a>>, NoMemory> {
-    let Some((kind, known)) = typed_constant(declarer, value)? else {
+    let Some((kind, known)) = typed_constant(declarer, doubts, value)? else {
         return Ok(None);
     };
     if was_refused(declarer, to) {
@@ -80,7 +87,7 @@ pub fn constant_of<'a>(
     }
     let pos = value.pos();
     let fits = fits(&mut declarer.eval, pos, kind, to, true)?;
-    assume(declarer, value)?;
+    assume(declarer, doubts, value)?;
     if !declarer.has_all() {
         return Ok(None);
     }

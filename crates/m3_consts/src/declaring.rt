@@ -2,13 +2,12 @@ use crate::judging::judge_all;
 use bumpalo::Bump;
 use m3_base::{NoMemory, Refused};
 use m3_declared::{Basic, Declared};
-use m3_declarer::{Declarer, Doubtful};
+use m3_declarer::{Declarer, Doubtful, Trees};
 use m3_defining::{define_all, name_all};
 use m3_gather::gather;
 use m3_reserving::reserve_all;
 use m3_scopes::Linked;
 use m3_settle::settle_all;
-use m3_syntax::Unit;
 use m3_types::{TypeGraph, TypeNode};
 use m3_worth::Evaluator;
 use std::alloc::Global;
@@ -51,23 +50,24 @@ pub fn declare<'a>(
     let declared = Declared::new(alloc, types, basic);
     let eval = Evaluator::new(alloc, arena, &linked.program, declared);
     let gathered = gather(alloc, linked)?;
-    let mut declarer = Declarer::new(alloc, eval, &linked.declarations, gathered);
-    work_out(&mut declarer, &linked.units)?;
+    let mut trees = Trees::new(alloc, &linked.declarations, gathered);
+    let mut declarer = Declarer::new(alloc, eval);
+    work_out(&mut declarer, &mut trees)?;
     let eval = declarer.eval;
-    let doubtful = declarer.doubtful;
+    let doubts = trees.doubts;
     Ok(Declarations {
         declared: eval.declared,
-        doubtful,
+        doubtful: doubts.doubtful,
     })
 }
 
 /// Works out all types and constants of a program, and judges them.
-fn work_out<'a>(declarer: &mut Declarer<'_, 'a>, units: &[Unit<'a>]) -> Result<(), Refused> {
-    reserve_all(declarer, units)?;
-    name_all(declarer)?;
-    define_all(declarer)?;
-    settle_all(declarer)?;
-    judge_all(declarer, units)?;
+fn work_out<'a>(declarer: &mut Declarer<'_, 'a>, trees: &mut Trees<'_, 'a>) -> Result<(), Refused> {
+    reserve_all(declarer, trees)?;
+    name_all(declarer, trees)?;
+    define_all(declarer, trees)?;
+    settle_all(declarer, trees)?;
+    judge_all(declarer, trees)?;
     declarer.least.check()?;
     Ok(())
 }

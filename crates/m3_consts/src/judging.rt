@@ -1,63 +1,78 @@
-use m3_base::{NoMemory, Pos, place_number};
+use m3_base::{NoMemory, Pos};
 use m3_constant_values::worth_of;
 use m3_declaration_rules::{judge_arguments, judge_bodies, judge_brands};
 use m3_declared::Constant;
-use m3_declarer::{Declarer, Doubtful, Promise};
+use m3_declarer::{Declarer, Doubtful, Doubts, Promise, Trees};
 use m3_early_types::{assignability, converted};
 use m3_gathered::LabelAt;
 use m3_method_rules::judge_methods;
 use m3_recursive_types::judge_recursion;
 use m3_reveals::judge_reveals;
+use m3_scopes::{Entity, EntityKind};
 use m3_subtype::Assign;
-use m3_syntax::{Decl, Expr, Init, Unit, VarDecl};
+use m3_syntax::{Expr, Init};
 use m3_type_rules::judge_parts;
 use m3_types::TypeId;
-use m3_worth::{Known, Worth};
+use m3_worth::{Assumed, Known, Worth};
 
 /// Judges what takes all types and constants.
-pub fn judge_all<'a>(declarer: &mut Declarer<'_, 'a>, units: &[Unit<'a>]) -> Result<(), NoMemory> {
+pub fn judge_all<'a>(
+    declarer: &mut Declarer<'_, 'a>,
+    trees: &mut Trees<'_, 'a>,
+) -> Result<(), NoMemory> {
     judge_recursion(declarer)?;
-    judge_parts(declarer)?;
-    judge_methods(declarer)?;
-    judge_reveals(declarer)?;
-    judge_promises(declarer)?;
-    judge_arguments(declarer)?;
+    judge_parts(declarer, trees)?;
+    judge_methods(declarer, trees.gathered.types.as_slice())?;
+    judge_reveals(declarer, trees.declarations)?;
+    judge_promises(declarer, &mut trees.doubts)?;
+    judge_arguments(declarer, trees)?;
     judge_brands(declarer)?;
-    judge_bodies(declarer)?;
-    judge_interface_variables(declarer, units)?;
-    tell_labels(declarer)
+    judge_bodies(declarer, trees)?;
+    judge_interface_variables(declarer, trees)?;
+    tell_labels(
+        declarer,
+        &mut trees.doubts,
+        trees.gathered.labels.as_slice(),
+    )
 }
 
 /// Judges what was assumed while types were worked out: rule 44 where a place wants another type.
-fn judge_promises<'a>(declarer: &mut Declarer<'_, 'a>) -> Result<(), NoMemory> {
-    for place in 0..declarer.promises.len() {
-        if let Some(promise) = declarer.promises.get(place).copied() {
-            judge_promise(declarer, &promise)?;
+fn judge_promises<'a>(
+    declarer: &mut Declarer<'_, 'a>,
+    doubts: &mut Doubts<'a>,
+) -> Result<(), NoMemory> {
+    for promise in &doubts.promises {
+        if !is_kept(declarer, &promise.assumed)? {
+            refuse_promise(declarer, &mut doubts.doubtful, promise)?;
         }
     }
     Ok(())
 }
 
-fn judge_promise<'a>(
-    declarer: &mut Declarer<'_, 'a>,
-    promise: &Promise<'a>,
-) -> Result<(), NoMemory> {
-    let assumed = promise.assumed;
+/// Whether what was assumed holds.
+fn is_kept(declarer: &mut Declarer<'_, '_>, assumed: &Assumed) -> Result<bool, NoMemory> {
     if declarer.is_refused(assumed.from) || declarer.is_refused(assumed.to) {
-        return Ok(());
+        return Ok(true);
     }
     declarer.eval.unit = assumed.unit;
     let mut fits = assignability(&declarer.eval, assumed.from, assumed.to)? != Assign::No;
     if assumed.either && !fits {
         fits = assignability(&declarer.eval, assumed.to, assumed.from)? != Assign::No;
     }
-    if fits {
-        return Ok(());
-    }
+    Ok(fits)
+}
+
+/// Refuses a promise that isn't kept, or keeps its expression as a doubtful one.
+fn refuse_promise<'a>(
+    declarer: &mut Declarer<'_, 'a>,
+    doubtful: &mut Vec<Doubtful<'a>>,
+    promise: &Promise<'a>,
+) -> Result<(), NoMemory> {
+    let assumed = &promise.assumed;
     if assumed.is_wanted {
         declarer.note(assumed.unit, assumed.pos, 44);
     } else {
-        declarer.doubtful.push(Doubtful {
+        doubtful.push(Doubtful {
             unit: assumed.unit,
             value: promise.value,
         })?;
@@ -68,62 +83,42 @@ fn judge_promise<'a>(
 /// The initial values of interface variables: each is a constant (rule 49 at the variable).
 fn judge_interface_variables<'a>(
     declarer: &mut Declarer<'_, 'a>,
-    units: &[Unit<'a>],
+    trees: &mut Trees<'_, 'a>,
 ) -> Result<(), NoMemory> {
-    for (place, unit) in units.iter().enumerate() {
-        if is_interface(declarer, place) {
-            declarer.eval.unit = place_number(place)?;
-            judge_declarations(declarer, unit.declarations())?;
+    let program = declarer.eval.program;
+    for entity in program.binds.entities() {
+        if is_interface_variable(declarer, entity) {
+            if let Some(value) = initial_value(trees, entity) {
+                declarer.eval.unit = entity.unit;
+                judge_initial(declarer, &mut trees.doubts, entity.pos, value)?;
+            }
         }
     }
     Ok(())
 }
 
-fn is_interface<'a>(declarer: &Declarer<'_, 'a>, unit: usize) -> bool {
-    match declarer.eval.program.infos.get(unit) {
+/// Whether an entity is a variable that an interface declares.
+fn is_interface_variable<'a>(declarer: &Declarer<'_, 'a>, entity: &Entity<'a>) -> bool {
+    if entity.kind != EntityKind::Variable || !entity.is_outermost {
+        return false;
+    }
+    match declarer.eval.program.infos.get(entity.unit as usize) {
         Some(info) => info.is_interface,
         None => false,
     }
 }
 
-fn judge_declarations<'a>(
-    declarer: &mut Declarer<'_, 'a>,
-    declarations: &'a [Decl<'a>],
-) -> Result<(), NoMemory> {
-    for declaration in declarations {
-        if let Decl::Var { variables, .. } = declaration {
-            judge_rows(declarer, variables)?;
-        }
+/// The initial value that a declaration gives a variable.
+fn initial_value<'a>(trees: &Trees<'_, 'a>, variable: &Entity<'a>) -> Option<&'a Expr<'a>> {
+    match trees.init_of(variable)? {
+        Init::Typed(_, value) => *value,
+        Init::Untyped(value) => Some(*value),
     }
-    Ok(())
-}
-
-fn judge_rows<'a>(
-    declarer: &mut Declarer<'_, 'a>,
-    variables: &'a [VarDecl<'a>],
-) -> Result<(), NoMemory> {
-    for row in variables {
-        judge_row(declarer, row)?;
-    }
-    Ok(())
-}
-
-fn judge_row<'a>(declarer: &mut Declarer<'_, 'a>, row: &'a VarDecl<'a>) -> Result<(), NoMemory> {
-    let value = match row.init {
-        Init::Typed(_, value) => value,
-        Init::Untyped(value) => Some(value),
-    };
-    let Some(value) = value else {
-        return Ok(());
-    };
-    for name in row.names {
-        judge_initial(declarer, name.pos, value)?;
-    }
-    Ok(())
 }
 
 fn judge_initial<'a>(
     declarer: &mut Declarer<'_, 'a>,
+    doubts: &mut Doubts<'a>,
     name: Pos,
     value: &'a Expr<'a>,
 ) -> Result<(), NoMemory> {
@@ -143,8 +138,8 @@ fn judge_initial<'a>(
         return Ok(());
     }
     declarer.reasons.clear();
-    declarer.doubts.clear();
-    let worth = worth_of(declarer, value, false)?;
+    doubts.doubts.clear();
+    let worth = worth_of(declarer, doubts, value, false)?;
     let Some(worth) = worth else {
         return Ok(());
     };
@@ -185,18 +180,24 @@ fn keep_initial<'a>(
 }
 
 /// The values of the labels of CASE that are constant.
-fn tell_labels<'a>(declarer: &mut Declarer<'_, 'a>) -> Result<(), NoMemory> {
-    for place in 0..declarer.gathered.labels.len() {
-        if let Some(label) = declarer.gathered.labels.get(place).copied() {
-            tell_label(declarer, label)?;
-        }
+fn tell_labels<'a>(
+    declarer: &mut Declarer<'_, 'a>,
+    doubts: &mut Doubts<'a>,
+    labels: &[LabelAt<'a>],
+) -> Result<(), NoMemory> {
+    for label in labels {
+        tell_label(declarer, doubts, label)?;
     }
     Ok(())
 }
 
-fn tell_label<'a>(declarer: &mut Declarer<'_, 'a>, label: LabelAt<'a>) -> Result<(), NoMemory> {
+fn tell_label<'a>(
+    declarer: &mut Declarer<'_, 'a>,
+    doubts: &mut Doubts<'a>,
+    label: &LabelAt<'a>,
+) -> Result<(), NoMemory> {
     declarer.eval.unit = label.unit;
-    let Some(worth) = worth_of(declarer, label.value, false)? else {
+    let Some(worth) = worth_of(declarer, doubts, label.value, false)? else {
         return Ok(());
     };
     match worth.value {

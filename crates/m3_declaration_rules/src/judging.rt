@@ -1,16 +1,23 @@
 use crate::wideness::{Words, new_words, words_of};
-use m3_base::{NoMemory, place_number};
-use m3_declarer::Declarer;
+use m3_base::{NoMemory, Pos, place_number};
+use m3_declarer::{Declarer, Trees};
 use m3_early_types::is_subtype;
 use m3_scopes::{Declaration, Entity, EntityId, EntityKind};
 
 /// Rule 49 on the arguments of exceptions.
-pub fn judge_arguments<'a>(declarer: &mut Declarer<'_, 'a>) -> Result<(), NoMemory> {
+pub fn judge_arguments<'a>(
+    declarer: &mut Declarer<'_, 'a>,
+    trees: &Trees<'_, 'a>,
+) -> Result<(), NoMemory> {
     let program = declarer.eval.program;
     let mut words = new_words(declarer);
     for (place, entity) in program.binds.entities().iter().enumerate() {
         let id = EntityId(place_number(place)?);
-        judge_argument(declarer, &mut words, id, entity)?;
+        if entity.kind == EntityKind::Exception {
+            if let Some(exp) = trees.argument_of(entity) {
+                judge_argument(declarer, &mut words, id, entity.unit, exp.pos())?;
+            }
+        }
     }
     Ok(())
 }
@@ -20,17 +27,14 @@ fn judge_argument<'a>(
     declarer: &mut Declarer<'_, 'a>,
     words: &mut Words,
     id: EntityId,
-    entity: &Entity<'a>,
+    unit: u32,
+    pos: Pos,
 ) -> Result<(), NoMemory> {
-    let (EntityKind::Exception, Some(kind), Some(exp)) = (
-        entity.kind,
-        declarer.eval.declared.kind_of(id),
-        declarer.argument_of(entity),
-    ) else {
+    let Some(kind) = declarer.eval.declared.kind_of(id) else {
         return Ok(());
     };
     if !declarer.is_refused(kind) && words_of(declarer, words, kind)? > 1 {
-        declarer.note(entity.unit, exp.pos(), 49);
+        declarer.note(unit, pos, 49);
     }
     Ok(())
 }
@@ -53,32 +57,41 @@ pub fn judge_brands<'a>(declarer: &mut Declarer<'_, 'a>) -> Result<(), NoMemory>
 }
 
 /// Rule 49 on the bodies of the heads of interfaces.
-pub fn judge_bodies<'a>(declarer: &mut Declarer<'_, 'a>) -> Result<(), NoMemory> {
-    for place in 0..declarer.eval.program.binds.entities().len() {
-        let head = EntityId(place_number(place)?);
-        let Some(entity) = declarer.eval.program.binds.entity(head) else {
-            return Ok(());
-        };
-        if let Some(body) = entity.body {
-            judge_body(declarer, head, body)?;
+pub fn judge_bodies<'a>(
+    declarer: &mut Declarer<'_, 'a>,
+    trees: &Trees<'_, 'a>,
+) -> Result<(), NoMemory> {
+    let program = declarer.eval.program;
+    for (place, head) in program.binds.entities().iter().enumerate() {
+        let id = EntityId(place_number(place)?);
+        if let Some(body) = head.body {
+            if let Some(pos) = place_of_body(trees, program.binds.entity(body)) {
+                judge_body(declarer, id, body, pos)?;
+            }
         }
     }
     Ok(())
+}
+
+/// The place where the declaration of a procedure's body begins.
+fn place_of_body<'a>(trees: &Trees<'_, 'a>, body: Option<Entity<'a>>) -> Option<Pos> {
+    match trees.declaration(&body?)? {
+        Declaration::Procedure { pos, .. } => Some(*pos),
+        _ => None,
+    }
 }
 
 fn judge_body<'a>(
     declarer: &mut Declarer<'_, 'a>,
     head: EntityId,
     body: EntityId,
+    pos: Pos,
 ) -> Result<(), NoMemory> {
     let (Some(wanted), Some(kind), Some(entity)) = (
         declarer.eval.declared.kind_of(head),
         declarer.eval.declared.kind_of(body),
         declarer.eval.program.binds.entity(body),
     ) else {
-        return Ok(());
-    };
-    let Some(Declaration::Procedure { pos, .. }) = declarer.declaration(&entity) else {
         return Ok(());
     };
     if declarer.is_refused(wanted) || declarer.is_refused(kind) {

@@ -1,33 +1,22 @@
 use m3_base::{Least, NoMemory, Pos, Refusal};
 use m3_core::{Value, ValueId};
 use m3_early_names::type_of;
-use m3_gathered::Gathered;
-use m3_scopes::{Declaration, Entity, EntityId};
-use m3_syntax::{Expr, Init, Signature, TypeExp};
+use m3_scopes::EntityId;
+use m3_syntax::TypeExp;
 use m3_types::{ConstId, TypeId, TypeNode};
-use m3_worth::{Assumed, Evaluator, Need, Reason};
+use m3_worth::{Evaluator, Need, Reason};
 use std::alloc::Global;
 use std::collections::HashMap;
 
 const PHASE: u8 = 5;
 
-/// How a type is written whose definition may take constants.
-#[derive(Clone, Copy)]
-pub enum Written<'a> {
-    Type(&'a TypeExp<'a>),
-    /// A part of an object type, by its place.
-    Part(&'a TypeExp<'a>, u32),
-    Signature(&'a Signature<'a>),
-}
-
-/// A type whose definition is a task: its unit, how it is written, and where rule 46 is reported:
-/// at its name, or where it has none at its first token.
-#[derive(Clone, Copy)]
-pub struct Plan<'a> {
+/// A type whose definition is a task: its unit, and where rule 46 is reported: at its name, or
+/// where it has none at its first token. How it is written stands among the trees.
+#[derive(Clone, Copy, Debug)]
+pub struct Plan {
     pub unit: u32,
     pub pos: Pos,
     pub is_named: bool,
-    pub written: Written<'a>,
 }
 
 /// A brand text, with the unit's number and the place of its expression.
@@ -53,40 +42,20 @@ pub struct MethodValue<'a> {
     pub procedure: Option<TypeId>,
 }
 
-/// A constant expression of a declaration that breaks a rule of expressions, with its unit.
-#[derive(Clone, Copy)]
-pub struct Doubtful<'a> {
-    pub unit: u32,
-    pub value: &'a Expr<'a>,
-}
-
-/// What an expression assumes, with the expression.
-#[derive(Clone, Copy)]
-pub struct Promise<'a> {
-    pub assumed: Assumed,
-    pub value: &'a Expr<'a>,
-}
-
-/// What declares the types and constants of a program.
+/// What declares the types and constants of a program. The trees of its text stand beside it
+/// (`Trees`), since most of what takes it doesn't look at them.
 #[derive(Drop)]
 pub struct Declarer<'p, 'a> {
     pub eval: Evaluator<'p, 'a>,
-    /// What declares the entities, by its places in this list.
-    pub declarations: &'p [Declaration<'a>],
-    pub gathered: Gathered<'a>,
     pub least: Least,
-    pub plans: HashMap<TypeId, Plan<'a>>,
+    pub plans: HashMap<TypeId, Plan>,
     /// The types that have a plan, in the order in which they were reserved.
     pub planned: Vec<TypeId>,
     /// What the task that is done notes; it counts when nothing lacks.
     pub reasons: Vec<Reason>,
-    pub doubts: Vec<Doubtful<'a>>,
-    pub assumed: Vec<Promise<'a>>,
     pub new_brands: Vec<BrandAt<'a>>,
     pub new_values: Vec<MethodValue<'a>>,
-    /// What was noted so far. The doubtful expressions are to be judged with those of bodies.
-    pub doubtful: Vec<Doubtful<'a>>,
-    pub promises: Vec<Promise<'a>>,
+    /// What was noted so far.
     pub brands: Vec<BrandAt<'a>>,
     pub values: Vec<MethodValue<'a>>,
     /// Whether the definitions of all types were worked out.
@@ -102,26 +71,15 @@ pub struct Declarer<'p, 'a> {
 }
 
 impl<'p, 'a> Declarer<'p, 'a> {
-    pub fn new(
-        alloc: Global,
-        eval: Evaluator<'p, 'a>,
-        declarations: &'p [Declaration<'a>],
-        gathered: Gathered<'a>,
-    ) -> Declarer<'p, 'a> {
+    pub fn new(alloc: Global, eval: Evaluator<'p, 'a>) -> Declarer<'p, 'a> {
         Declarer {
             eval,
-            declarations,
-            gathered,
             least: Least::new(),
             plans: HashMap::new(alloc),
             planned: Vec::new(alloc),
             reasons: Vec::new(alloc),
-            doubts: Vec::new(alloc),
-            assumed: Vec::new(alloc),
             new_brands: Vec::new(alloc),
             new_values: Vec::new(alloc),
-            doubtful: Vec::new(alloc),
-            promises: Vec::new(alloc),
             brands: Vec::new(alloc),
             values: Vec::new(alloc),
             has_definitions: false,
@@ -217,27 +175,6 @@ impl<'a> Declarer<'_, 'a> {
     pub fn set(&mut self, kind: TypeId, node: TypeNode<'a>) {
         if self.eval.declared.types.is_reserved(kind) {
             self.eval.declared.types.set(kind, node);
-        }
-    }
-
-    /// What declares an entity.
-    pub fn declaration(&self, entity: &Entity<'a>) -> Option<Declaration<'a>> {
-        self.declarations.get(entity.declaration? as usize).copied()
-    }
-
-    /// The type and the value that the declaration of a variable or formal gives it.
-    pub fn init_of(&self, entity: &Entity<'a>) -> Option<&'a Init<'a>> {
-        match self.declaration(entity)? {
-            Declaration::Variable(init) | Declaration::Formal { init, .. } => Some(init),
-            _ => None,
-        }
-    }
-
-    /// The type of an exception's argument.
-    pub fn argument_of(&self, entity: &Entity<'a>) -> Option<&'a TypeExp<'a>> {
-        match self.declaration(entity)? {
-            Declaration::Exception(exception) => exception.argument,
-            _ => None,
         }
     }
 }

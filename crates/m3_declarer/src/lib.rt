@@ -3,5 +3,9 @@
 #![tactic(auto)]
 
 mod declarer;
+mod doubts;
+mod trees;
 
-pub use declarer::{BrandAt, Declarer, Doubtful, MethodValue, Plan, Promise, Written};
+pub use declarer::{BrandAt, Declarer, MethodValue, Plan};
+pub use doubts::{Doubtful, Doubts, Promise};
+pub use trees::{Trees, Writings, Written};

@@ -1,7 +1,7 @@
 use crate::naming::type_declaration;
 use bumpalo::collections::into_bump_slice;
 use m3_base::{NoMemory, place_number};
-use m3_declarer::Declarer;
+use m3_declarer::{Declarer, Trees};
 use m3_early_names::{is_built_in, type_of};
 use m3_gathered::TypeAt;
 use m3_scopes::{Entity, EntityId, EntityKind};
@@ -9,20 +9,22 @@ use m3_syntax::{Init, Name, TypeExp};
 use m3_types::{Secret, TypeId, TypeNode};
 
 /// Defines what no constant decides.
-pub fn define_all(declarer: &mut Declarer<'_, '_>) -> Result<(), NoMemory> {
-    for place in 0..declarer.gathered.types.len() {
-        if let Some(written) = declarer.gathered.types.get(place).copied() {
-            define(declarer, written)?;
-        }
+pub fn define_all<'a>(
+    declarer: &mut Declarer<'_, 'a>,
+    trees: &Trees<'_, 'a>,
+) -> Result<(), NoMemory> {
+    for written in &trees.gathered.types {
+        define(declarer, written)?;
     }
-    for place in 0..declarer.eval.program.binds.entities().len() {
+    let program = declarer.eval.program;
+    for (place, entity) in program.binds.entities().iter().enumerate() {
         let id = EntityId(place_number(place)?);
-        define_entity(declarer, id)?;
+        define_entity(declarer, trees, id, entity)?;
     }
     Ok(())
 }
 
-fn define<'a>(declarer: &mut Declarer<'_, 'a>, written: TypeAt<'a>) -> Result<(), NoMemory> {
+fn define<'a>(declarer: &mut Declarer<'_, 'a>, written: &TypeAt<'a>) -> Result<(), NoMemory> {
     declarer.eval.unit = written.unit;
     let Some(kind) = type_of(&declarer.eval, written.kind) else {
         return Ok(());
@@ -79,42 +81,50 @@ fn define_array<'a>(
     Ok(())
 }
 
-fn define_entity(declarer: &mut Declarer<'_, '_>, id: EntityId) -> Result<(), NoMemory> {
-    let Some(entity) = declarer.eval.program.binds.entity(id) else {
-        return Ok(());
-    };
-    declarer.eval.unit = entity.unit;
+/// The type that the declaration of a variable, a formal or an exception gives.
+fn given_type<'a>(trees: &Trees<'_, 'a>, entity: &Entity<'a>) -> Option<&'a TypeExp<'a>> {
     match entity.kind {
-        EntityKind::Opaque => {
-            define_opaque(declarer, id, &entity);
-            Ok(())
-        }
-        EntityKind::Variable | EntityKind::Formal => match declarer.init_of(&entity) {
-            Some(Init::Typed(kind, _)) => {
-                let kind = declarer.kind_of(kind);
-                declarer.eval.declared.give_kind(id, kind)
-            }
-            _ => Ok(()),
+        EntityKind::Variable | EntityKind::Formal => match trees.init_of(entity) {
+            Some(Init::Typed(kind, _)) => Some(*kind),
+            _ => None,
         },
-        EntityKind::Exception => match declarer.argument_of(&entity) {
-            Some(kind) => {
-                let kind = declarer.kind_of(kind);
-                declarer.eval.declared.give_kind(id, kind)
-            }
-            None => Ok(()),
-        },
-        _ => Ok(()),
+        EntityKind::Exception => trees.argument_of(entity),
+        _ => None,
     }
 }
 
-fn define_opaque<'a>(declarer: &mut Declarer<'_, 'a>, id: EntityId, entity: &Entity<'a>) {
-    let (Some(kind), Some(declared)) = (
-        declarer.eval.declared.type_named(id),
-        type_declaration(declarer, id),
-    ) else {
+fn define_entity<'a>(
+    declarer: &mut Declarer<'_, 'a>,
+    trees: &Trees<'_, 'a>,
+    id: EntityId,
+    entity: &Entity<'a>,
+) -> Result<(), NoMemory> {
+    declarer.eval.unit = entity.unit;
+    if entity.kind == EntityKind::Opaque {
+        if let Some(declared) = type_declaration(trees, entity) {
+            define_opaque(declarer, id, entity, declared.kind);
+        }
+        return Ok(());
+    }
+    match given_type(trees, entity) {
+        Some(written) => {
+            let kind = declarer.kind_of(written);
+            declarer.eval.declared.give_kind(id, kind)
+        }
+        None => Ok(()),
+    }
+}
+
+fn define_opaque<'a>(
+    declarer: &mut Declarer<'_, 'a>,
+    id: EntityId,
+    entity: &Entity<'a>,
+    bound: &TypeExp<'a>,
+) {
+    let Some(kind) = declarer.eval.declared.type_named(id) else {
         return;
     };
-    let bound = declarer.kind_of(declared.kind);
+    let bound = declarer.kind_of(bound);
     let secret = if !is_built_in(&declarer.eval, entity) {
         Secret::Revealed
     } else if entity.name == b"T".as_slice() {

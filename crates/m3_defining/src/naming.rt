@@ -1,6 +1,6 @@
 use indexmap::IndexSet;
 use m3_base::{NoMemory, Pos, place_number};
-use m3_declarer::Declarer;
+use m3_declarer::{Declarer, Trees};
 use m3_early_names::{entity_named, type_of_entity};
 use m3_scopes::{Declaration, Entity, EntityId, EntityKind};
 use m3_syntax::{Qualid, TypeDecl, TypeExp, TypeName};
@@ -22,11 +22,14 @@ enum Step {
 }
 
 /// Gives each type's name the type that it stands for. Names for each other break rule 46.
-pub fn name_all(declarer: &mut Declarer<'_, '_>) -> Result<(), NoMemory> {
+pub fn name_all<'a>(
+    declarer: &mut Declarer<'_, 'a>,
+    trees: &Trees<'_, 'a>,
+) -> Result<(), NoMemory> {
     name_opaque(declarer)?;
     for place in 0..declarer.eval.program.binds.entities().len() {
         let id = EntityId(place_number(place)?);
-        name_type(declarer, id)?;
+        name_type(declarer, trees, id)?;
     }
     Ok(())
 }
@@ -44,10 +47,12 @@ fn name_opaque(declarer: &mut Declarer<'_, '_>) -> Result<(), NoMemory> {
 }
 
 /// The declaration of a type's name.
-pub fn type_declaration<'a>(declarer: &Declarer<'_, 'a>, id: EntityId) -> Option<&'a TypeDecl<'a>> {
-    let entity = declarer.eval.program.binds.entity(id)?;
-    match declarer.declaration(&entity)? {
-        Declaration::Type(declared) => Some(declared),
+pub fn type_declaration<'a>(
+    trees: &Trees<'_, 'a>,
+    entity: &Entity<'a>,
+) -> Option<&'a TypeDecl<'a>> {
+    match trees.declaration(entity)? {
+        Declaration::Type(declared) => Some(*declared),
         _ => None,
     }
 }
@@ -74,9 +79,13 @@ fn leads_to<'a>(declarer: &Declarer<'_, 'a>, unit: u32, declared: &'a TypeDecl<'
 }
 
 /// Names a type, and the types whose names lead from it to what it stands for.
-fn name_type(declarer: &mut Declarer<'_, '_>, id: EntityId) -> Result<(), NoMemory> {
+fn name_type<'a>(
+    declarer: &mut Declarer<'_, 'a>,
+    trees: &Trees<'_, 'a>,
+    id: EntityId,
+) -> Result<(), NoMemory> {
     let mut path = IndexSet::new(declarer.eval.alloc);
-    let kind = follow(declarer, &mut path, id)?;
+    let kind = follow(declarer, trees, &mut path, id)?;
     name_path(declarer, &path, kind)
 }
 
@@ -92,15 +101,16 @@ fn name_path(
 }
 
 /// What a type's name stands for; the names on the way are added to the path.
-fn follow(
-    declarer: &mut Declarer<'_, '_>,
+fn follow<'a>(
+    declarer: &mut Declarer<'_, 'a>,
+    trees: &Trees<'_, 'a>,
     path: &mut IndexSet<EntityId>,
     id: EntityId,
 ) -> Result<TypeId, NoMemory> {
     let refused = declarer.eval.declared.basic.refused;
     let mut at = id;
     'names: for _ in 0..u64::MAX {
-        match take_step(declarer, path, at)? {
+        match take_step(declarer, trees, path, at)? {
             Step::Found(kind) => return Ok(kind.unwrap_or(refused)),
             Step::Next(next) => at = next,
         }
@@ -108,8 +118,9 @@ fn follow(
     Ok(refused)
 }
 
-fn take_step(
-    declarer: &mut Declarer<'_, '_>,
+fn take_step<'a>(
+    declarer: &mut Declarer<'_, 'a>,
+    trees: &Trees<'_, 'a>,
     path: &mut IndexSet<EntityId>,
     at: EntityId,
 ) -> Result<Step, NoMemory> {
@@ -127,14 +138,18 @@ fn take_step(
         return Ok(Step::Found(Some(declarer.eval.declared.basic.refused)));
     }
     path.insert(at)?;
-    Ok(step_from(declarer, at, &entity))
+    match type_declaration(trees, &entity) {
+        Some(declared) => Ok(step_from(declarer, &entity, declared)),
+        None => Ok(Step::Found(None)),
+    }
 }
 
 /// The step from the declaration of a type's name.
-fn step_from<'a>(declarer: &mut Declarer<'_, 'a>, at: EntityId, entity: &Entity<'a>) -> Step {
-    let Some(declared) = type_declaration(declarer, at) else {
-        return Step::Found(None);
-    };
+fn step_from<'a>(
+    declarer: &mut Declarer<'_, 'a>,
+    entity: &Entity<'a>,
+    declared: &'a TypeDecl<'a>,
+) -> Step {
     declarer.eval.unit = entity.unit;
     match leads_to(declarer, entity.unit, declared) {
         Leads::Kind(kind) => {

@@ -4,32 +4,32 @@ use m3_storage::{VarPlace, word_number, words_of_variable};
 
 /// The slots of variables: from the first to before the last.
 #[derive(Clone, Copy)]
-struct Range {
+pub struct SlotRange {
     first: u32,
     end: u32,
 }
 
-const NOTHING: Range = Range {
+const NOTHING: SlotRange = SlotRange {
     first: u32::MAX,
     end: 0,
 };
 
-impl Range {
-    fn with(self, other: Range) -> Range {
-        Range {
+impl SlotRange {
+    fn with(self, other: SlotRange) -> SlotRange {
+        SlotRange {
             first: self.first.min(other.first),
             end: self.end.max(other.end),
         }
     }
 }
 
-fn range_of(b: &Builder, variable: u32) -> Range {
-    let words = match b.storage.variable(b.number, variable) {
-        Some(def) => words_of_variable(&b.storage.core.types, def.kind),
+fn range_of(b: &Builder, variable: u32) -> SlotRange {
+    let words = match b.storage.kind_of_variable(b.number, variable) {
+        Some(kind) => words_of_variable(b.storage.types, kind),
         None => 0,
     };
     match b.storage.place(b.number, variable) {
-        VarPlace::Slots(first) if words > 0 => Range {
+        VarPlace::Slots(first) if words > 0 => SlotRange {
             first,
             end: first.saturating_add(word_number(words)),
         },
@@ -37,7 +37,7 @@ fn range_of(b: &Builder, variable: u32) -> Range {
     }
 }
 
-fn range_of_all(b: &Builder, variables: &[u32]) -> Range {
+fn range_of_all(b: &Builder, variables: &[u32]) -> SlotRange {
     let mut range = NOTHING;
     for variable in variables {
         range = range.with(range_of(b, *variable));
@@ -45,7 +45,12 @@ fn range_of_all(b: &Builder, variables: &[u32]) -> Range {
     range
 }
 
-fn clear_range<'m>(b: &mut Builder<'m, '_>, range: Range, rest: Pending<'m>) -> Pending<'m> {
+/// Clears the pointers in slots.
+pub fn clear_range<'m>(
+    b: &mut Builder<'m, '_>,
+    range: SlotRange,
+    rest: Pending<'m>,
+) -> Pending<'m> {
     if range.first < range.end {
         clear(b, range.first, range.end, rest)
     } else {
@@ -70,15 +75,21 @@ pub fn clear_inside<'m>(
     row: &[CoreStmt],
     rest: Pending<'m>,
 ) -> Pending<'m> {
-    if !b.has_slots() {
-        return rest;
-    }
-    let range = range_inside(b, row);
+    let range = slots_inside(b, row);
     clear_range(b, range, rest)
 }
 
+/// The slots of all variables inside statements.
+pub fn slots_inside(b: &Builder, row: &[CoreStmt]) -> SlotRange {
+    if b.has_slots() {
+        range_inside(b, row)
+    } else {
+        NOTHING
+    }
+}
+
 #[cycle(landings)]
-fn range_inside(b: &Builder, row: &[CoreStmt]) -> Range {
+fn range_inside(b: &Builder, row: &[CoreStmt]) -> SlotRange {
     let mut range = NOTHING;
     for s in row {
         range = range.with(inside_one(b, s));
@@ -87,7 +98,7 @@ fn range_inside(b: &Builder, row: &[CoreStmt]) -> Range {
 }
 
 #[cycle(landings)]
-fn inside_one(b: &Builder, s: &CoreStmt) -> Range {
+fn inside_one(b: &Builder, s: &CoreStmt) -> SlotRange {
     match s {
         CoreStmt::Block {
             variables,
@@ -119,7 +130,7 @@ fn inside_one(b: &Builder, s: &CoreStmt) -> Range {
 
 /// The slots inside a statement that may have an ELSE.
 #[cycle(landings)]
-fn inside_branches(b: &Builder, s: &CoreStmt) -> Range {
+fn inside_branches(b: &Builder, s: &CoreStmt) -> SlotRange {
     let (range, otherwise) = match s {
         CoreStmt::Case {
             branches,
@@ -154,7 +165,7 @@ fn inside_branches(b: &Builder, s: &CoreStmt) -> Range {
 }
 
 #[cycle(landings)]
-fn inside_cases(b: &Builder, branches: &[CaseBranch]) -> Range {
+fn inside_cases(b: &Builder, branches: &[CaseBranch]) -> SlotRange {
     let mut range = NOTHING;
     for branch in branches {
         range = range.with(range_inside(b, branch.body));
@@ -163,7 +174,7 @@ fn inside_cases(b: &Builder, branches: &[CaseBranch]) -> Range {
 }
 
 #[cycle(landings)]
-fn inside_arms(b: &Builder, arms: &[Arm]) -> Range {
+fn inside_arms(b: &Builder, arms: &[Arm]) -> SlotRange {
     let mut range = NOTHING;
     for arm in arms {
         range = range.with(range_inside(b, arm.body));
@@ -172,7 +183,7 @@ fn inside_arms(b: &Builder, arms: &[Arm]) -> Range {
 }
 
 #[cycle(landings)]
-fn inside_handlers(b: &Builder, handlers: &[Handler]) -> Range {
+fn inside_handlers(b: &Builder, handlers: &[Handler]) -> SlotRange {
     let mut range = NOTHING;
     for handler in handlers {
         range = range.with(range_inside(b, handler.body));
@@ -184,7 +195,7 @@ fn inside_handlers(b: &Builder, handlers: &[Handler]) -> Range {
 }
 
 #[cycle(landings)]
-fn inside_types(b: &Builder, branches: &[TypeBranch]) -> Range {
+fn inside_types(b: &Builder, branches: &[TypeBranch]) -> SlotRange {
     let mut range = NOTHING;
     for branch in branches {
         range = range.with(range_inside(b, branch.body));
@@ -195,7 +206,7 @@ fn inside_types(b: &Builder, branches: &[TypeBranch]) -> Range {
     range
 }
 
-fn bound(b: &Builder, bindings: &[WithBinding]) -> Range {
+fn bound(b: &Builder, bindings: &[WithBinding]) -> SlotRange {
     let mut range = NOTHING;
     for binding in bindings {
         range = range.with(range_of(b, binding.variable));

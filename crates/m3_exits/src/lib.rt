@@ -12,6 +12,6 @@ pub use exits::{Exits, Outcome, Returning};
 pub use finishing::{
     EXITED, NORMALLY, RAISED, RETURNED, dispatch, left_as, move_raised, overriding,
 };
-pub use landings::{clear_inside, clear_variables};
+pub use landings::{SlotRange, clear_inside, clear_range, clear_variables, slots_inside};
 pub use procs::{declare, ending, exits_of, first_moves, global_place, is_reference_word};
 pub use scopes::{defaults, place_of, showing, type_of};

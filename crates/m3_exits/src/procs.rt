@@ -2,10 +2,12 @@ use crate::exits::{Exits, Outcome, Returning};
 use crate::scopes::showing;
 use m3_base::FaultKind;
 use m3_builder::{Around, Builder, Location, Pending, Place, choice, kind_of_form};
-use m3_core::{ProcDef, VarDef, VarKind};
+use m3_core::VarKind;
 use m3_mid::{End, Kind, MemoryWord, MidOp, Operand, Raised, Relation};
 use m3_shapes::dims_of;
-use m3_storage::{Form, VarPlace, number_of, stores_result, word_number, words_of_variable};
+use m3_storage::{
+    Form, Head, VarPlace, stores_result, type_of_variable, word_number, words_of_variable,
+};
 use m3_types::TypeId;
 
 /// Whether the one word of a record or array is a reference.
@@ -24,26 +26,27 @@ pub fn is_reference_word(b: &mut Builder, kind: TypeId) -> bool {
 }
 
 /// What stands behind the body: a function's END is a fault.
-pub fn ending<'m>(b: &Builder<'m, '_>, proc: &ProcDef) -> Pending<'m> {
-    match proc.result {
-        Some(_) => b.fault(FaultKind::NoReturn, proc.end),
+pub fn ending<'m>(b: &Builder<'m, '_>, head: &Head) -> Pending<'m> {
+    match head.result {
+        Some(_) => b.fault(FaultKind::NoReturn, head.end),
         None => Pending::bare(b.alloc, End::Return { value: None }),
     }
 }
 
 /// The temporaries and slots of the variables, in the order of their places.
-pub fn declare(b: &mut Builder, proc: &ProcDef) {
-    let mut variable = 0u32;
-    for formal in proc.formals {
-        add_formal(b, variable, formal);
-        variable = variable.saturating_add(1);
+pub fn declare(b: &mut Builder, head: &Head) {
+    for variable in 0..head.formals {
+        if let Some(kind) = b.storage.kind_of_variable(b.number, variable) {
+            add_formal(b, variable, kind);
+        }
     }
-    if stores_result(&b.storage.core.types, proc) {
+    if stores_result(b.storage.types, head.result) {
         b.slot(Kind::Number, false);
     }
-    for local in proc.locals {
-        add_local(b, variable, local);
-        variable = variable.saturating_add(1);
+    for variable in head.formals..head.variables {
+        if let Some(kind) = b.storage.kind_of_variable(b.number, variable) {
+            add_local(b, variable, kind);
+        }
     }
     b.raised = Raised {
         exception: b.temp(Kind::Number),
@@ -52,9 +55,9 @@ pub fn declare(b: &mut Builder, proc: &ProcDef) {
     };
 }
 
-fn add_formal(b: &mut Builder, variable: u32, formal: &VarDef) {
+fn add_formal(b: &mut Builder, variable: u32, kind: VarKind) {
     let is_shared = b.storage.is_shared(b.number, variable);
-    match formal.kind {
+    match kind {
         VarKind::ByVar(t) | VarKind::ByReadonly(t) => {
             b.slot(Kind::Address, is_shared);
             b.slot(Kind::Tidy, is_shared);
@@ -73,7 +76,7 @@ fn add_formal(b: &mut Builder, variable: u32, formal: &VarDef) {
         }
     }
     if let VarPlace::Temps(_) = b.storage.place(b.number, variable) {
-        add_temps(b, formal);
+        add_temps(b, kind);
     }
 }
 
@@ -83,12 +86,12 @@ fn add_slots(b: &mut Builder, form: Form, is_shared: bool) {
     }
 }
 
-fn add_local(b: &mut Builder, variable: u32, local: &VarDef) {
+fn add_local(b: &mut Builder, variable: u32, kind: VarKind) {
     match b.storage.place(b.number, variable) {
-        VarPlace::Temps(_) => add_temps(b, local),
+        VarPlace::Temps(_) => add_temps(b, kind),
         VarPlace::Slots(_) => {
-            let t = b.storage.type_of(local);
-            match (local.kind, b.storage.form(t)) {
+            let t = type_of_variable(kind);
+            match (kind, b.storage.form(t)) {
                 (VarKind::Alias(_), _) | (_, Form::Open) => {
                     b.slot(Kind::Tidy, true);
                     b.slot(Kind::Number, true);
@@ -103,10 +106,10 @@ fn add_local(b: &mut Builder, variable: u32, local: &VarDef) {
     }
 }
 
-fn add_temps(b: &mut Builder, variable: &VarDef) {
-    let t = b.storage.type_of(variable);
+fn add_temps(b: &mut Builder, kind: VarKind) {
+    let t = type_of_variable(kind);
     let form = b.storage.form(t);
-    let is_alias = matches!(variable.kind, VarKind::Alias(_));
+    let is_alias = matches!(kind, VarKind::Alias(_));
     if is_alias || form == Form::Open {
         b.temp(Kind::Address);
         b.temp(Kind::Tidy);
@@ -121,12 +124,12 @@ fn add_temps(b: &mut Builder, variable: &VarDef) {
 }
 
 /// Loads the formals that temporaries keep.
-pub fn first_moves<'m>(b: &Builder<'m, '_>, proc: &ProcDef, rest: Pending<'m>) -> Pending<'m> {
+pub fn first_moves<'m>(b: &Builder<'m, '_>, head: &Head, rest: Pending<'m>) -> Pending<'m> {
     let mut code = rest;
     let mut slot = 0u32;
-    for (variable, formal) in proc.formals.iter().enumerate() {
-        let words = word_number(words_of_variable(&b.storage.core.types, formal.kind));
-        if let VarPlace::Temps(first) = b.storage.place(b.number, number_of(variable)) {
+    for variable in 0..head.formals {
+        let words = words_kept(b, variable);
+        if let VarPlace::Temps(first) = b.storage.place(b.number, variable) {
             for word in 0..words {
                 code = code.after(MidOp::Load {
                     to: first.wrapping_add(word),
@@ -139,10 +142,18 @@ pub fn first_moves<'m>(b: &Builder<'m, '_>, proc: &ProcDef, rest: Pending<'m>) -
     code
 }
 
+/// The words in which a variable is kept.
+fn words_kept(b: &Builder, variable: u32) -> u32 {
+    match b.storage.kind_of_variable(b.number, variable) {
+        Some(kind) => word_number(words_of_variable(b.storage.types, kind)),
+        None => 0,
+    }
+}
+
 /// The exits of a procedure's body.
-pub fn exits_of<'m>(b: &mut Builder<'m, '_>, proc: &ProcDef) -> Exits {
-    let outcome = outcome_of(b, proc);
-    let raised = left_by_exception(b, proc);
+pub fn exits_of<'m>(b: &mut Builder<'m, '_>, head: &Head) -> Exits {
+    let outcome = outcome_of(b, head.result);
+    let raised = left_by_exception(b, head);
     let exits = Exits {
         around: Around {
             scope: None,
@@ -153,16 +164,16 @@ pub fn exits_of<'m>(b: &mut Builder<'m, '_>, proc: &ProcDef) -> Exits {
         outcome,
     };
     let mut formals = Vec::new(b.alloc);
-    for variable in 0..proc.formals.len() {
-        if formals.push(number_of(variable)).is_err() {
+    for variable in 0..head.formals {
+        if formals.push(variable).is_err() {
             b.fail();
         }
     }
     showing(b, exits, formals.as_slice())
 }
 
-fn outcome_of(b: &mut Builder, proc: &ProcDef) -> Outcome {
-    let Some(kind) = proc.result else {
+fn outcome_of(b: &mut Builder, kind: Option<TypeId>) -> Outcome {
+    let Some(kind) = kind else {
         return Outcome::Nothing;
     };
     let form = b.storage.form(kind);
@@ -184,7 +195,7 @@ fn outcome_of(b: &mut Builder, proc: &ProcDef) -> Outcome {
 }
 
 /// The block that leaves the procedure by an exception, or faults where its heading lacks it.
-fn left_by_exception(b: &mut Builder, proc: &ProcDef) -> u32 {
+fn left_by_exception(b: &mut Builder, head: &Head) -> u32 {
     let travels = b.raised;
     let leaving = Pending::bare(
         b.alloc,
@@ -194,11 +205,11 @@ fn left_by_exception(b: &mut Builder, proc: &ProcDef) -> u32 {
             tidy: Operand::Temp(travels.tidy),
         },
     );
-    let Some(raises) = proc.raises else {
+    let Some(raises) = head.raises else {
         return b.seal(leaving);
     };
     let leave = b.seal(leaving);
-    let mut code = b.fault(FaultKind::Raises, proc.pos);
+    let mut code = b.fault(FaultKind::Raises, head.pos);
     for exception in raises.iter().rev() {
         let no = b.seal(code);
         code = choice(

@@ -2,7 +2,7 @@ use crate::exits::Exits;
 use m3_builder::{Builder, Location, Pending, Place};
 use m3_mid::{Held, Shown};
 use m3_shapes::store_default;
-use m3_storage::VarPlace;
+use m3_storage::{VarPlace, type_of_variable};
 use m3_types::TypeId;
 
 /// The exits of a scope in which more variables are shown.
@@ -36,8 +36,8 @@ pub fn place_of(b: &Builder, variable: u32) -> Place {
 
 /// The type of a variable of the own procedure.
 pub fn type_of(b: &Builder, variable: u32) -> Option<TypeId> {
-    match b.storage.variable(b.number, variable) {
-        Some(def) => Some(b.storage.type_of(def)),
+    match b.storage.kind_of_variable(b.number, variable) {
+        Some(kind) => Some(type_of_variable(kind)),
         None => None,
     }
 }

@@ -96,45 +96,16 @@ impl<'a> Expansion<'_, 'a> {
 
     /// Judges the head of an instance, and adds the unit unless its generic is unknown.
     fn instance(&mut self, arena: &'a Bump, unit: &Unit<'a>) -> Result<(), NoMemory> {
-        let Some(head) = self.head(unit.kind) else {
+        let Some(head) = head_of(&self.tables, &unit.kind) else {
             return Ok(());
         };
         self.judge_actuals(unit.pos.file, head.actuals);
-        match self.text(head.found) {
+        match text_at(self.units, head.found) {
             None => {
                 self.note(unit.pos.file, head.generic.pos, 15);
                 Ok(())
             }
-            Some(text) => self.write_out(arena, unit, &head, &text),
-        }
-    }
-
-    /// The head of an instance; none of any other unit.
-    fn head(&self, kind: UnitKind<'a>) -> Option<Head<'a>> {
-        match kind {
-            UnitKind::InterfaceInstance { generic, actuals } => Some(Head {
-                generic,
-                actuals,
-                found: self.tables.generic_interface(generic.text),
-            }),
-            UnitKind::ModuleInstance {
-                generic,
-                actuals,
-                ..
-            } => Some(Head {
-                generic,
-                actuals,
-                found: self.tables.generic_module(generic.text),
-            }),
-            _ => None,
-        }
-    }
-
-    /// The unit at a place that was found.
-    fn text(&self, found: Option<usize>) -> Option<Unit<'a>> {
-        match found {
-            Some(place) => self.units.get(place).copied(),
-            None => None,
+            Some(text) => self.write_out(arena, unit, &head, text),
         }
     }
 
@@ -146,15 +117,20 @@ impl<'a> Expansion<'_, 'a> {
         head: &Head<'a>,
         text: &Unit<'a>,
     ) -> Result<(), NoMemory> {
-        let formals = formals_of(text.kind);
+        let formals = formals_of(&text.kind);
         if formals.len() != head.actuals.len() {
             self.note(unit.pos.file, head.generic.pos, 16);
         }
         self.count(unit.pos, text.tokens);
         let imports = imports_of(arena, head.actuals, formals, text.imports())?;
+        let exports = exports_of(&unit.kind);
         self.expanded.push(Unit {
-            kind: written_out(unit.kind, text.kind, imports),
-            ..*unit
+            pos: unit.pos,
+            is_unsafe: unit.is_unsafe,
+            name: unit.name,
+            kind: written_out(&text.kind, exports, imports),
+            closing: unit.closing,
+            tokens: unit.tokens,
         })?;
         Ok(())
     }
@@ -172,37 +148,70 @@ impl<'a> Expansion<'_, 'a> {
     }
 }
 
+/// The head of an instance; none of any other unit.
+fn head_of<'a>(tables: &Tables<'a>, kind: &UnitKind<'a>) -> Option<Head<'a>> {
+    match kind {
+        UnitKind::InterfaceInstance { generic, actuals } => Some(Head {
+            generic: *generic,
+            actuals: *actuals,
+            found: tables.generic_interface(generic.text),
+        }),
+        UnitKind::ModuleInstance {
+            generic,
+            actuals,
+            ..
+        } => Some(Head {
+            generic: *generic,
+            actuals: *actuals,
+            found: tables.generic_module(generic.text),
+        }),
+        _ => None,
+    }
+}
+
+/// The unit at a place that was found.
+fn text_at<'u, 'a>(units: &'u [Unit<'a>], found: Option<usize>) -> Option<&'u Unit<'a>> {
+    match found {
+        Some(place) => units.get(place),
+        None => None,
+    }
+}
+
 /// The formals of a generic unit.
-fn formals_of<'a>(generic: UnitKind<'a>) -> &'a [Name<'a>] {
+fn formals_of<'a>(generic: &UnitKind<'a>) -> &'a [Name<'a>] {
     match generic {
         UnitKind::GenericInterface { formals, .. } | UnitKind::GenericModule { formals, .. } => {
-            formals
+            *formals
         }
         _ => &[],
     }
 }
 
+/// The exports that the head of an instance names.
+fn exports_of<'a>(head: &UnitKind<'a>) -> Option<&'a [Name<'a>]> {
+    match head {
+        UnitKind::ModuleInstance { exports, .. } => *exports,
+        _ => None,
+    }
+}
+
 /// What the unit of an instance is: its head's exports, these imports, and the text of its generic.
 fn written_out<'a>(
-    head: UnitKind<'a>,
-    generic: UnitKind<'a>,
+    generic: &UnitKind<'a>,
+    exports: Option<&'a [Name<'a>]>,
     imports: &'a [Import<'a>],
 ) -> UnitKind<'a> {
-    let exports = match head {
-        UnitKind::ModuleInstance { exports, .. } => exports,
-        _ => None,
-    };
     match generic {
         UnitKind::GenericInterface { declarations, .. } => UnitKind::Interface {
             imports,
-            declarations,
+            declarations: *declarations,
         },
         UnitKind::GenericModule { block, .. } => UnitKind::Module {
             exports,
             imports,
-            block,
+            block: *block,
         },
-        other => other,
+        other => *other,
     }
 }
 

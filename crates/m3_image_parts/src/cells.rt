@@ -61,7 +61,7 @@ fn type_part(
     kind: TypeId,
     number: u32,
 ) -> Result<TypePart, NoMemory> {
-    let types = &storage.core.types;
+    let types = storage.types;
     // a type has no number where it has no cells
     if !has_cell(types, kind) {
         return Err(gap());
@@ -96,10 +96,9 @@ fn word_number(words: u64) -> Result<u32, NoMemory> {
 /// The words of the global variables, and those that are pointers.
 pub fn global_part(alloc: Global, storage: &Storage) -> Result<GlobalPart, NoMemory> {
     let mut pointers = Vec::new(alloc);
-    for (place, global) in storage.core.globals.iter().enumerate() {
-        let start = storage.global(number_of(place));
-        let shape = storage.shape(alloc, storage.type_of(global))?;
-        pointers.extend_from_slice(&pointers_from(alloc, start, &shape.pointers)?)?;
+    for global in storage.globals() {
+        let shape = storage.shape(alloc, global.kind)?;
+        pointers.extend_from_slice(&pointers_from(alloc, global.word, &shape.pointers)?)?;
     }
     Ok(GlobalPart {
         words: storage.global_words,

@@ -28,14 +28,14 @@ enum Task {
 }
 
 impl Constants {
-    /// The constants of a program.
-    pub fn of(alloc: Global, storage: &Storage) -> Result<Constants, NoMemory> {
+    /// The constants of a program with these texts.
+    pub fn of(alloc: Global, texts: &[&[u8]], storage: &Storage) -> Result<Constants, NoMemory> {
         let mut constants = Constants {
             words: Vec::new(alloc),
             texts: Vec::new(alloc),
             values: Vec::new(alloc),
         };
-        for text in storage.core.texts {
+        for text in texts {
             constants.add_text(text)?;
         }
         constants.add_values(alloc, storage)?;
@@ -56,7 +56,7 @@ impl Constants {
     }
 
     fn add_values(&mut self, alloc: Global, storage: &Storage) -> Result<(), NoMemory> {
-        for place in 0..storage.core.values.len() {
+        for place in 0..storage.values.len() {
             let place = place_number(place)?;
             match written_kind(storage, place) {
                 Some(kind) => {
@@ -97,7 +97,7 @@ impl Constants {
         kind: TypeId,
         tasks: &mut Vec<Task>,
     ) -> Result<(), NoMemory> {
-        match storage.core.values.get(value.0 as usize) {
+        match storage.values.get(value.0 as usize) {
             Some(Value::Number(number)) => self.words.push(number.cast_unsigned())?,
             Some(Value::Text(text)) => {
                 let start = self.texts.get(*text as usize).copied().unwrap_or(0);

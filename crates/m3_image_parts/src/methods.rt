@@ -117,7 +117,7 @@ impl<'a> Tables<'a> {
 
 /// The number of the cells of an object type's parent.
 fn parent_number(storage: &Storage, kind: TypeId) -> Option<u32> {
-    let types = &storage.core.types;
+    let types = storage.types;
     match parent_of(types, kind) {
         Some(parent) => storage.cells.number(types, parent),
         None => None,
@@ -129,7 +129,7 @@ fn bound_to(storage: &Storage, default: Option<Initial>) -> u32 {
     let Some(default) = default else {
         return 0;
     };
-    match storage.core.values.get(default.source as usize) {
+    match storage.values.get(default.source as usize) {
         Some(Value::Procedure(procedure)) => code_of(*procedure),
         _ => constant_code(storage, default.value),
     }
@@ -140,7 +140,7 @@ fn code_of(procedure: u32) -> u32 {
 }
 
 fn constant_code(storage: &Storage, constant: ConstId) -> u32 {
-    match storage.core.types.graph.nodes.get(constant.0 as usize) {
+    match storage.types.graph.nodes.get(constant.0 as usize) {
         Some(TypeNode::Constant(ConstValue::Procedure(procedure))) => code_of(*procedure),
         _ => 0,
     }

@@ -1,17 +1,17 @@
 use crate::names::full_name;
 use m3_base::{Bytes, NoMemory, place_number};
-use m3_core::{ProcDef, VarDef};
+use m3_core::{Core, VarDef, VarKind};
 use m3_emit::SpanPart;
 use m3_image_writer::VarPart;
 use m3_objects::{Form, number_of};
-use m3_storage::{Storage, is_shown};
+use m3_storage::{Storage, is_shown, type_of_variable};
 use std::alloc::Global;
 
 /// The procedure of a global variable, in an image.
 const NO_PROCEDURE: u32 = u32::MAX;
 
-fn form_of(storage: &Storage, variable: &VarDef) -> u8 {
-    match storage.form(storage.type_of(variable)) {
+fn form_of(storage: &Storage, kind: VarKind) -> u8 {
+    match storage.form(type_of_variable(kind)) {
         Form::Reference => 1,
         Form::Number | Form::Numbers(_) | Form::Structure(_) | Form::Open => 0,
     }
@@ -21,15 +21,17 @@ fn form_of(storage: &Storage, variable: &VarDef) -> u8 {
 /// is shown of them at its points.
 pub fn var_parts(
     alloc: Global,
+    core: &Core,
     storage: &Storage,
     spans: &[Vec<SpanPart>],
 ) -> Result<Vec<VarPart>, NoMemory> {
     let mut parts = Vec::new(alloc);
-    add_globals(alloc, storage, &mut parts)?;
-    for (place, proc) in storage.core.procs.iter().enumerate() {
+    add_globals(alloc, core.globals, storage, &mut parts)?;
+    for (place, proc) in core.procs.iter().enumerate() {
         let first = parts.len();
         let number = place_number(place.saturating_add(2))?;
-        add_all(alloc, storage, number, proc, &mut parts)?;
+        add_all(alloc, storage, number, proc.formals, &mut parts)?;
+        add_all(alloc, storage, number, proc.locals, &mut parts)?;
         if let Some(spans) = spans.get(place) {
             add_spans(&mut parts, first, spans)?;
         }
@@ -37,14 +39,19 @@ pub fn var_parts(
     Ok(parts)
 }
 
-fn add_globals(alloc: Global, storage: &Storage, parts: &mut Vec<VarPart>) -> Result<(), NoMemory> {
-    for (place, global) in storage.core.globals.iter().enumerate() {
-        if is_shown(&storage.core.types, global) {
+fn add_globals(
+    alloc: Global,
+    globals: &[VarDef],
+    storage: &Storage,
+    parts: &mut Vec<VarPart>,
+) -> Result<(), NoMemory> {
+    for (place, global) in globals.iter().enumerate() {
+        if is_shown(storage.types, global.kind, global.role) {
             parts.push(VarPart {
                 proc: NO_PROCEDURE,
                 word: storage.global(number_of(place)),
                 name: full_name(alloc, global.unit, global.name)?,
-                form: form_of(storage, global),
+                form: form_of(storage, global.kind),
                 spans: Vec::new(alloc),
             })?;
         }
@@ -56,13 +63,10 @@ fn add_all(
     alloc: Global,
     storage: &Storage,
     number: u32,
-    proc: &ProcDef,
+    variables: &[VarDef],
     parts: &mut Vec<VarPart>,
 ) -> Result<(), NoMemory> {
-    for variable in proc.formals {
-        add_one(alloc, storage, number, variable, parts)?;
-    }
-    for variable in proc.locals {
+    for variable in variables {
         add_one(alloc, storage, number, variable, parts)?;
     }
     Ok(())
@@ -75,12 +79,12 @@ fn add_one(
     variable: &VarDef,
     parts: &mut Vec<VarPart>,
 ) -> Result<(), NoMemory> {
-    if is_shown(&storage.core.types, variable) {
+    if is_shown(storage.types, variable.kind, variable.role) {
         parts.push(VarPart {
             proc: number,
             word: 0,
             name: Bytes::of(alloc, variable.name)?,
-            form: form_of(storage, variable),
+            form: form_of(storage, variable.kind),
             spans: Vec::new(alloc),
         })?;
     }

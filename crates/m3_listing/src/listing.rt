@@ -10,16 +10,17 @@ use m3_operands::Checker;
 use m3_scopes::Linked;
 use m3_syntax::{Decl, Name, Unit};
 
-/// Lists what the checked program has.
+/// Lists what the checked program has, whose procedures are given with their numbers.
 pub fn list_all<'a>(
     checker: &mut Checker<'_, 'a>,
     linked: &Linked<'a>,
+    procedures: &[(u32, ProcDef<'a>)],
     sources: &[Source<'a>],
 ) -> Result<Lists<'a>, NoMemory> {
     let exceptions = list_exceptions(checker, &linked.units)?;
     let (globals, units) = list_globals(checker, &linked.units)?;
     Ok(Lists {
-        procs: list_procedures(checker)?,
+        procs: list_procedures(checker.arena, procedures)?,
         globals,
         units,
         written: list_types(checker, linked)?,
@@ -72,24 +73,27 @@ fn written_type<'a>(checker: &Checker<'_, 'a>, found: &TypeAt<'a>) -> Option<Wri
 }
 
 /// The procedures, by their numbers.
-fn list_procedures<'a>(checker: &Checker<'_, 'a>) -> Result<&'a [ProcDef<'a>], NoMemory> {
-    let mut places = vec![in checker.arena; None; checker.procedures.len()]?;
-    for (place, procedure) in checker.procedures.iter().enumerate() {
+fn list_procedures<'a>(
+    arena: &'a Bump,
+    checked: &[(u32, ProcDef<'a>)],
+) -> Result<&'a [ProcDef<'a>], NoMemory> {
+    let mut places = vec![in arena; None; checked.len()]?;
+    for (place, procedure) in checked.iter().enumerate() {
         if let Some(found) = places.get_mut(procedure.0 as usize) {
             *found = Some(place);
         }
     }
-    let mut procedures = Vec::new(checker.arena);
+    let mut procedures = Vec::new(arena);
     for place in &places {
-        if let Some(procedure) = procedure_at(checker, *place) {
+        if let Some(procedure) = procedure_at(checked, *place) {
             procedures.push(procedure)?;
         }
     }
     Ok(into_bump_slice(procedures))
 }
 
-fn procedure_at<'a>(checker: &Checker<'_, 'a>, place: Option<usize>) -> Option<ProcDef<'a>> {
-    match checker.procedures.get(place?) {
+fn procedure_at<'a>(checked: &[(u32, ProcDef<'a>)], place: Option<usize>) -> Option<ProcDef<'a>> {
+    match checked.get(place?) {
         Some(procedure) => Some(procedure.1),
         None => None,
     }

@@ -63,10 +63,7 @@ pub fn emit_method<'m>(
     rest: Pending<'m>,
 ) -> Pending<'m> {
     let signature = signature_of_method(b, owner, method);
-    let place = b
-        .storage
-        .objects
-        .method(&b.storage.core.types, owner, method);
+    let place = b.storage.objects.method(b.storage.types, owner, method);
     let object = before.word();
     let passed = plan_actuals(b, signature.formals, actuals, Some(object));
     let callee = Callee::Method(place);

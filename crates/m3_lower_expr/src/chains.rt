@@ -4,7 +4,9 @@ use m3_base::Pos;
 use m3_builder::{Around, Builder, Pending, Place, Value, cleared_value};
 use m3_core::{ArrayLimit, Base, Chain, CoreExpr, Step};
 use m3_plans::plan_chain;
-use m3_shapes::{check_index, check_subarray, indexed, known_distance, limit_of, subarray_address};
+use m3_shapes::{
+    check_index, check_subarray, index_of, indexed, known_distance, limit_of, subarray_address,
+};
 use m3_types::TypeId;
 use m3_variables::{
     emit_alias, emit_keep, emit_local, emit_read, emit_reference, kind_before, source,
@@ -126,14 +128,15 @@ fn emit_element<'m>(
     let Some(kind) = kind else {
         return rest;
     };
-    let is_known = known_distance(b, array, Some(kind), index).is_some();
+    let known = index_of(index);
+    let is_known = known_distance(b, array, Some(kind), known).is_some();
     let operand = source(b, index);
     let code = if is_known {
         rest
     } else {
         indexed(b, array, kind, operand, element, rest)
     };
-    let code = check_index(b, array, kind, index, operand, code);
+    let code = check_index(b, array, kind, known, operand, code);
     fetch(b, around, index, operand, code)
 }
 

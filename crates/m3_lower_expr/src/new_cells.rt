@@ -33,7 +33,7 @@ pub fn new_into<'m>(
     let counts = plan_sizes(b, sizes);
     let code = store_bindings(b, shown, cell, bindings, &values, code);
     let code = cell_defaults(b, shown, cell, counts.as_slice(), code);
-    let number = b.storage.cells.number(&b.storage.core.types, shown);
+    let number = b.storage.cells.number(b.storage.types, shown);
     let code = make(b, around, number, counts.as_slice(), cell, code);
     let code = emit_sizes(b, around, sizes, &counts, code);
     emit_bindings(b, around, bindings, &values, code)

@@ -77,7 +77,9 @@ fn emit_row<'m>(
             let right = value_at(&planned.rights, place);
             let result = value_at(&planned.results, place);
             let kinds = kinds_at(first, row, place);
-            code = operate(b, around, operation, kinds, left, right, result, code);
+            let operator = operation.operator;
+            let pos = operation.pos;
+            code = operate(b, around, operator, pos, kinds, left, right, result, code);
             code = check_text(operation, operation.right, right, code);
             code = emit_value(b, around, operation.right, right, code);
             if place == 0 {

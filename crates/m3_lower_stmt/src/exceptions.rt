@@ -2,8 +2,9 @@ use crate::statements::statements;
 use m3_builder::{Around, Builder, Pending, clear, store_word};
 use m3_core::{CoreStmt, Handler};
 use m3_exits::{
-    EXITED, Exits, NORMALLY, RAISED, RETURNED, Returning, clear_inside, clear_variables, dispatch,
-    is_reference_word, left_as, move_raised, overriding, place_of, showing, type_of,
+    EXITED, Exits, NORMALLY, RAISED, RETURNED, Returning, SlotRange, clear_range, clear_variables,
+    dispatch, is_reference_word, left_as, move_raised, overriding, place_of, showing, slots_inside,
+    type_of,
 };
 use m3_mid::{Kind, Operand, Raised};
 use m3_simple_stmts::test_exceptions;
@@ -26,23 +27,34 @@ pub fn try_except<'m>(
         return rest;
     };
     let join = b.seal(rest);
+    let slots = slots_inside(b, body);
     let last = match otherwise {
         Some(row) => {
             let code = b.goto(join);
             let code = statements(b, exits, row, code);
-            let code = clear_inside(b, body, code);
+            let code = clear_range(b, slots, code);
             Some(b.seal(code))
         }
         None => None,
     };
     let caught = catch(b, exits, handlers, last, join);
-    let caught = clear_inside(b, body, caught);
+    let caught = clear_range(b, slots, caught);
     let raised = b.reserve();
+    let inside = caught_at(exits, raised, last);
+    let first = b.slot_count();
+    let code = b.goto(join);
+    let code = statements(b, inside, body, code);
+    land(b, raised, first, caught);
+    code
+}
+
+/// The exits of the body of a TRY EXCEPT: the block where exceptions arrive, and that of the ELSE.
+fn caught_at(exits: Exits, raised: u32, last: Option<u32>) -> Exits {
     let around = Around {
         raised,
         ..exits.around
     };
-    let inside = match last {
+    match last {
         Some(block) => Exits {
             around,
             exit: block,
@@ -50,12 +62,7 @@ pub fn try_except<'m>(
             outcome: exits.outcome,
         },
         None => exits.showing(around),
-    };
-    let first = b.slot_count();
-    let code = b.goto(join);
-    let code = statements(b, inside, body, code);
-    land(b, raised, first, caught);
-    code
+    }
 }
 
 /// Makes the block where an exception arrives that leaves statements: what the slots that were
@@ -101,6 +108,12 @@ fn handle<'m>(b: &mut Builder<'m, '_>, exits: Exits, handler: &Handler, join: u3
     let inside = showing(b, exits, &[variable]);
     let body = clear_variables(b, &[variable], body);
     let code = statements(b, inside, handler.body, body);
+    let code = store_argument(b, variable, code);
+    b.seal(code)
+}
+
+/// Stores the argument of the exception in a variable.
+fn store_argument<'m>(b: &mut Builder<'m, '_>, variable: u32, rest: Pending<'m>) -> Pending<'m> {
     let is_tidy = match type_of(b, variable) {
         Some(kind) => is_reference_word(b, kind),
         None => false,
@@ -114,12 +127,11 @@ fn handle<'m>(b: &mut Builder<'m, '_>, exits: Exits, handler: &Handler, join: u3
         Some(kind) => b.storage.words(kind) == 1,
         None => false,
     };
-    let code = if has_word {
-        store_word(b, place_of(b, variable), 0, Operand::Temp(argument), code)
+    if has_word {
+        store_word(b, place_of(b, variable), 0, Operand::Temp(argument), rest)
     } else {
-        code
-    };
-    b.seal(code)
+        rest
+    }
 }
 
 /// TRY FINALLY: the last part runs once for each way out, and then goes on as the body was left.
@@ -133,26 +145,57 @@ pub fn try_finally<'m>(
     let CoreStmt::TryFinally { body, last, .. } = s else {
         return rest;
     };
-    let way = b.temp(Kind::Number);
-    let kept = Raised {
-        exception: b.temp(Kind::Number),
-        number: b.temp(Kind::Number),
-        tidy: b.temp(Kind::Tidy),
-    };
-    let code = dispatch(b, exits, way, kept, rest);
+    let slots = slots_inside(b, body);
+    let left = left_by(b);
+    let code = dispatch(b, exits, left.way, left.kept, rest);
     let leaving = overriding(b, exits);
     let code = statements(b, leaving, last, code);
     let finish = b.seal(code);
-    let normal = left_as(b, way, NORMALLY, finish);
-    let code = left_as(b, way, RAISED, finish);
-    let code = move_raised(b.raised, kept, code);
-    let caught = clear_inside(b, body, code);
+    let (inside, caught) = ways_out(b, exits, left, slots, finish);
+    let first = b.slot_count();
+    let normal = left_as(b, left.way, NORMALLY, finish);
+    let code = statements(b, inside, body, normal);
+    land(b, inside.around.raised, first, caught);
+    code
+}
+
+/// How the body of a TRY FINALLY is left: the temporary for the way, and those that keep an
+/// exception.
+#[derive(Clone, Copy)]
+struct Left {
+    way: u32,
+    kept: Raised,
+}
+
+fn left_by(b: &mut Builder) -> Left {
+    Left {
+        way: b.temp(Kind::Number),
+        kept: Raised {
+            exception: b.temp(Kind::Number),
+            number: b.temp(Kind::Number),
+            tidy: b.temp(Kind::Tidy),
+        },
+    }
+}
+
+/// The exits of the body of a TRY FINALLY: each notes its way, clears the slots of the body's
+/// variables, and goes on at a block. Beside them the code where exceptions arrive.
+fn ways_out<'m>(
+    b: &mut Builder<'m, '_>,
+    exits: Exits,
+    left: Left,
+    slots: SlotRange,
+    finish: u32,
+) -> (Exits, Pending<'m>) {
+    let code = left_as(b, left.way, RAISED, finish);
+    let code = move_raised(b.raised, left.kept, code);
+    let caught = clear_range(b, slots, code);
     let raised = b.reserve();
-    let code = left_as(b, way, EXITED, finish);
-    let code = clear_inside(b, body, code);
+    let code = left_as(b, left.way, EXITED, finish);
+    let code = clear_range(b, slots, code);
     let exit = b.seal(code);
-    let code = left_as(b, way, RETURNED, finish);
-    let code = clear_inside(b, body, code);
+    let code = left_as(b, left.way, RETURNED, finish);
+    let code = clear_range(b, slots, code);
     let returned = b.seal(code);
     let inside = Exits {
         around: Around {
@@ -166,8 +209,5 @@ pub fn try_finally<'m>(
         },
         outcome: exits.outcome,
     };
-    let first = b.slot_count();
-    let code = statements(b, inside, body, normal);
-    land(b, raised, first, caught);
-    code
+    (inside, caught)
 }

@@ -1,6 +1,6 @@
 use crate::statements::statements;
 use m3_builder::{Builder, Location, Pending, store_word};
-use m3_core::CoreStmt;
+use m3_core::{CoreExpr, CoreStmt};
 use m3_exits::{Exits, clear_inside, place_of, showing};
 use m3_lower_expr::condition;
 use m3_mid::{Kind, MidOp, Operand};
@@ -28,33 +28,59 @@ pub fn for_loop<'m>(
     };
     let after = clear_inside(b, body, rest);
     let exit = b.seal(after);
-    let head = b.reserve();
-    let place = place_of(b, *variable);
-    let index = match place.at {
-        Location::Temps(temp) => temp,
-        _ => b.temp(Kind::Number),
-    };
-    let course = Course {
-        index,
-        last: limit(b, last),
-        pace: pace_of(b, *step),
-        head,
-        exit,
-    };
+    let course = course_of(b, *variable, last, *step, exit);
     let inside = Exits {
         exit,
         ..showing(b, exits, &[*variable])
     };
-    let shown = b.shown(inside.around);
-    let turn = turned(b, course).after(MidOp::Point { shown });
+    let turn = turn_of(b, inside, course);
     let code = statements(b, inside, body, turn);
-    let code = match place.at {
-        Location::Temps(_) => code,
-        _ => store_word(b, place, 0, Operand::Temp(index), code),
-    };
-    b.set(head, code);
+    let code = store_index(b, *variable, course.index, code);
+    b.set(course.head, code);
     let code = first_test(b, course);
     begin(b, exits, course, first, last, *step, code)
+}
+
+/// What the turns of a FOR go by.
+fn course_of(
+    b: &mut Builder,
+    variable: u32,
+    last: &CoreExpr,
+    step: Option<&CoreExpr>,
+    exit: u32,
+) -> Course {
+    let head = b.reserve();
+    let index = match place_of(b, variable).at {
+        Location::Temps(temp) => temp,
+        _ => b.temp(Kind::Number),
+    };
+    Course {
+        index,
+        last: limit(b, last),
+        pace: pace_of(b, step),
+        head,
+        exit,
+    }
+}
+
+/// The end of a turn of a FOR, with its point.
+fn turn_of<'m>(b: &mut Builder<'m, '_>, inside: Exits, course: Course) -> Pending<'m> {
+    let shown = b.shown(inside.around);
+    turned(b, course).after(MidOp::Point { shown })
+}
+
+/// Gives the variable of a turn its value, where it isn't the index itself.
+fn store_index<'m>(
+    b: &mut Builder<'m, '_>,
+    variable: u32,
+    index: u32,
+    rest: Pending<'m>,
+) -> Pending<'m> {
+    let place = place_of(b, variable);
+    match place.at {
+        Location::Temps(_) => rest,
+        _ => store_word(b, place, 0, Operand::Temp(index), rest),
+    }
 }
 
 /// LOOP: the body with its point, for ever.

@@ -1,68 +1,90 @@
 use m3_base::{NoMemory, Pos};
 use m3_constant_values::{constant_of, typed_constant, worth_of};
+use m3_core::Value;
 use m3_declared::Constant;
-use m3_declarer::Declarer;
+use m3_declarer::{Declarer, Doubts, Trees};
 use m3_early_names::{entity_named, type_of};
 use m3_early_types::{base_of, share_base};
 use m3_gathered::Bound;
 use m3_scopes::{Declaration, Entity, EntityId, EntityKind};
-use m3_syntax::{Expr, Init, Qualid, Signature};
+use m3_syntax::{ConstDecl, Expr, Init, Qualid, Signature};
 use m3_types::{TypeId, TypeNode};
 
 /// Works out a named constant.
-pub fn make_constant<'a>(declarer: &mut Declarer<'_, 'a>, id: EntityId) -> Result<(), NoMemory> {
+pub fn make_constant<'a>(
+    declarer: &mut Declarer<'_, 'a>,
+    trees: &mut Trees<'_, 'a>,
+    id: EntityId,
+) -> Result<(), NoMemory> {
     let Some(entity) = declarer.eval.program.binds.entity(id) else {
         return Ok(());
     };
     declarer.eval.unit = entity.unit;
-    let Some(Declaration::Constant(declared)) = declarer.declaration(&entity) else {
+    let Some(Declaration::Constant(declared)) = trees.declaration(&entity) else {
         return Ok(());
     };
-    let found = match declared.kind {
-        None => typed_constant(declarer, declared.value)?,
-        Some(kind) => {
-            let kind = declarer.kind_of(kind);
-            match constant_of(declarer, declared.value, kind)? {
-                Some(value) => Some((kind, value)),
-                None => None,
-            }
+    let found = declared_constant(declarer, &mut trees.doubts, declared)?;
+    if let Some((kind, value)) = found {
+        if declarer.has_all() {
+            let value = declarer.eval.store(value)?;
+            let constant = Constant { kind, value };
+            declarer.eval.declared.give_constant(id, constant)?;
         }
-    };
-    if let (true, Some((kind, value))) = (declarer.has_all(), found) {
-        let value = declarer.eval.store(value)?;
-        declarer
-            .eval
-            .declared
-            .give_constant(id, Constant { kind, value })?;
     }
     Ok(())
 }
 
+/// The type and the value of a declared constant.
+fn declared_constant<'a>(
+    declarer: &mut Declarer<'_, 'a>,
+    doubts: &mut Doubts<'a>,
+    declared: &ConstDecl<'a>,
+) -> Result<Option<(TypeId, Value<'a>)>, NoMemory> {
+    let Some(kind) = declared.kind else {
+        return typed_constant(declarer, doubts, declared.value);
+    };
+    let kind = declarer.kind_of(kind);
+    match constant_of(declarer, doubts, declared.value, kind)? {
+        Some(value) => Ok(Some((kind, value))),
+        None => Ok(None),
+    }
+}
+
 /// Works out the type of a variable that names none.
-pub fn make_kind<'a>(declarer: &mut Declarer<'_, 'a>, id: EntityId) -> Result<(), NoMemory> {
+pub fn make_kind<'a>(
+    declarer: &mut Declarer<'_, 'a>,
+    trees: &mut Trees<'_, 'a>,
+    id: EntityId,
+) -> Result<(), NoMemory> {
     let Some(entity) = declarer.eval.program.binds.entity(id) else {
         return Ok(());
     };
     declarer.eval.unit = entity.unit;
     let kind = match entity.kind {
-        EntityKind::Formal => formal_kind(declarer, &entity)?,
-        EntityKind::Variable => match declarer.init_of(&entity) {
-            Some(Init::Untyped(value)) => value_kind(declarer, value)?,
+        EntityKind::Formal => formal_kind(declarer, trees.declaration(&entity), &entity)?,
+        EntityKind::Variable => match trees.init_of(&entity) {
+            Some(Init::Untyped(value)) => value_kind(declarer, &mut trees.doubts, value)?,
             _ => None,
         },
-        _ => bound_kind(declarer, id)?,
+        _ => match trees.gathered.bindings.get(&id).copied() {
+            Some(bound) => bound_kind(declarer, &mut trees.doubts, &bound)?,
+            None => None,
+        },
     };
-    if let (true, Some(kind)) = (declarer.has_all(), kind) {
-        declarer.eval.declared.give_kind(id, kind)?;
+    if let Some(kind) = kind {
+        if declarer.has_all() {
+            declarer.eval.declared.give_kind(id, kind)?;
+        }
     }
     Ok(())
 }
 
 fn value_kind<'a>(
     declarer: &mut Declarer<'_, 'a>,
+    doubts: &mut Doubts<'a>,
     value: &'a Expr<'a>,
 ) -> Result<Option<TypeId>, NoMemory> {
-    match worth_of(declarer, value, false)? {
+    match worth_of(declarer, doubts, value, false)? {
         Some(worth) => Ok(Some(worth.kind)),
         None => Ok(None),
     }
@@ -71,23 +93,37 @@ fn value_kind<'a>(
 /// The type of a name that a statement binds.
 fn bound_kind<'a>(
     declarer: &mut Declarer<'_, 'a>,
-    id: EntityId,
+    doubts: &mut Doubts<'a>,
+    bound: &Bound<'a>,
 ) -> Result<Option<TypeId>, NoMemory> {
-    match declarer.gathered.bindings.get(&id).copied() {
-        Some(Bound::Value(value)) => value_kind(declarer, value),
-        Some(Bound::Range(first, last)) => {
-            let from = value_kind(declarer, first)?;
-            let to = value_kind(declarer, last)?;
-            match (from, to) {
-                (Some(from), Some(to)) if share_base(&mut declarer.eval, from, to)? => {
-                    Ok(Some(base_of(&declarer.eval, from)))
-                }
-                _ => Ok(None),
-            }
+    match bound {
+        Bound::Value(value) => value_kind(declarer, doubts, value),
+        Bound::Range(first, last) => {
+            let from = value_kind(declarer, doubts, first)?;
+            let to = value_kind(declarer, doubts, last)?;
+            range_kind(declarer, from, to)
         }
-        Some(Bound::Exception(name)) => Ok(argument_kind(declarer, &name)),
-        Some(Bound::Type(kind)) => Ok(type_of(&declarer.eval, kind)),
-        None => Ok(None),
+        Bound::Exception(name) => Ok(argument_kind(declarer, name)),
+        Bound::Type(kind) => Ok(type_of(&declarer.eval, kind)),
+    }
+}
+
+/// The type of the variable of a FOR, by those of its bounds.
+fn range_kind(
+    declarer: &mut Declarer<'_, '_>,
+    from: Option<TypeId>,
+    to: Option<TypeId>,
+) -> Result<Option<TypeId>, NoMemory> {
+    let Some(from) = from else {
+        return Ok(None);
+    };
+    let Some(to) = to else {
+        return Ok(None);
+    };
+    if share_base(&mut declarer.eval, from, to)? {
+        Ok(Some(base_of(&declarer.eval, from)))
+    } else {
+        Ok(None)
     }
 }
 
@@ -99,6 +135,7 @@ fn argument_kind<'a>(declarer: &Declarer<'_, 'a>, name: &Qualid<'a>) -> Option<T
 /// The type of a formal of a procedure that its default gives.
 fn formal_kind<'a>(
     declarer: &mut Declarer<'_, 'a>,
+    declaration: Option<&Declaration<'a>>,
     entity: &Entity<'a>,
 ) -> Result<Option<TypeId>, NoMemory> {
     let Some(
@@ -107,11 +144,23 @@ fn formal_kind<'a>(
             signature,
             ..
         },
-    ) = declarer.declaration(entity)
+    ) = declaration
     else {
         return Ok(None);
     };
-    let Some(id) = declarer.eval.program.binds.at(entity.unit, procedure) else {
+    let place = formal_place(signature, entity.pos);
+    kind_at(declarer, entity.unit, *procedure, place)
+}
+
+/// The type of the formal at a place among those of the procedure whose name stands at a place of
+/// the text.
+fn kind_at(
+    declarer: &mut Declarer<'_, '_>,
+    unit: u32,
+    procedure: Pos,
+    place: Option<usize>,
+) -> Result<Option<TypeId>, NoMemory> {
+    let Some(id) = declarer.eval.program.binds.at(unit, procedure) else {
         return Ok(None);
     };
     let Some(kind) = declarer.eval.declared.kind_of(id) else {
@@ -120,7 +169,7 @@ fn formal_kind<'a>(
     let TypeNode::Procedure(formals, _, _) = declarer.eval.node(kind)? else {
         return Ok(None);
     };
-    match formal_place(signature, entity.pos) {
+    match place {
         Some(place) => match formals.get(place) {
             Some(formal) => Ok(Some(formal.kind)),
             None => Ok(None),

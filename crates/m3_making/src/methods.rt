@@ -3,31 +3,52 @@ use bumpalo::collections::into_bump_slice;
 use m3_base::NoMemory;
 use m3_constant_values::typed_constant;
 use m3_core::Value;
-use m3_declarer::{Declarer, MethodValue, Written};
+use m3_declarer::{Declarer, Doubts, MethodValue, Trees, Written};
 use m3_syntax::{Expr, Name, ObjectPart, TypeExp};
 use m3_type_parts::initial_of;
 use m3_types::{Method, Override, TypeId, TypeNode};
 
 /// Works out what is bound to the methods of an object type, and so its whole definition.
-pub fn make_methods<'a>(declarer: &mut Declarer<'_, 'a>, kind: TypeId) -> Result<(), NoMemory> {
-    let (Some(plan), Some(draft)) = (
-        declarer.plans.get(&kind).copied(),
-        declarer.eval.drafts.get(&kind).copied(),
-    ) else {
+pub fn make_methods<'a>(
+    declarer: &mut Declarer<'_, 'a>,
+    trees: &mut Trees<'_, 'a>,
+    kind: TypeId,
+) -> Result<(), NoMemory> {
+    let Some(plan) = declarer.plans.get(&kind).copied() else {
         return Ok(());
     };
-    let (
-        Written::Part(TypeExp::Object { parts, .. }, place),
-        TypeNode::Object(brand, parent, fields, methods, _),
-    ) = (plan.written, draft) else {
-        return Ok(());
-    };
-    let Some(part) = parts.get(place as usize) else {
+    let Some(part) = written_part(trees, kind) else {
         return Ok(());
     };
     declarer.eval.unit = plan.unit;
-    let methods = bound_methods(declarer, part, kind, methods)?;
-    let overrides = override_row(declarer, part, kind)?;
+    bind_methods(declarer, &mut trees.doubts, part, kind)
+}
+
+/// The part of an object type that is written for a type.
+fn written_part<'a>(trees: &Trees<'_, 'a>, kind: TypeId) -> Option<&'a ObjectPart<'a>> {
+    match trees.written.get(&kind)? {
+        Written::Part(TypeExp::Object { parts, .. }, place) => parts.get(*place as usize),
+        _ => None,
+    }
+}
+
+/// Defines an object type by its draft, with what is bound to its methods.
+fn bind_methods<'a>(
+    declarer: &mut Declarer<'_, 'a>,
+    doubts: &mut Doubts<'a>,
+    part: &'a ObjectPart<'a>,
+    kind: TypeId,
+) -> Result<(), NoMemory> {
+    let Some(TypeNode::Object(brand, parent, fields, methods, _)) = declarer
+        .eval
+        .drafts
+        .get(&kind)
+        .copied()
+    else {
+        return Ok(());
+    };
+    let methods = bound_methods(declarer, doubts, part, kind, methods)?;
+    let overrides = override_row(declarer, doubts, part, kind)?;
     if declarer.has_all() {
         declarer.set(
             kind,
@@ -39,6 +60,7 @@ pub fn make_methods<'a>(declarer: &mut Declarer<'_, 'a>, kind: TypeId) -> Result
 
 fn bound_methods<'a>(
     declarer: &mut Declarer<'_, 'a>,
+    doubts: &mut Doubts<'a>,
     part: &'a ObjectPart<'a>,
     kind: TypeId,
     methods: &'a [Method<'a>],
@@ -49,6 +71,7 @@ fn bound_methods<'a>(
             Some(default) => {
                 method_value(
                     declarer,
+                    doubts,
                     kind,
                     written.name,
                     Some(method.signature),
@@ -58,19 +81,24 @@ fn bound_methods<'a>(
             None => None,
         };
         let default = initial_of(declarer, value)?;
-        row.push(Method { default, ..*method })?;
+        row.push(Method {
+            name: method.name,
+            signature: method.signature,
+            default,
+        })?;
     }
     Ok(into_bump_slice(row))
 }
 
 fn override_row<'a>(
     declarer: &mut Declarer<'_, 'a>,
+    doubts: &mut Doubts<'a>,
     part: &'a ObjectPart<'a>,
     kind: TypeId,
 ) -> Result<&'a [Override<'a>], NoMemory> {
     let mut row: Vec<Override<'a>, &'a Bump> = Vec::new(declarer.eval.arena);
     for other in part.overrides {
-        let value = method_value(declarer, kind, other.name, None, other.value)?;
+        let value = method_value(declarer, doubts, kind, other.name, None, other.value)?;
         if let Some(initial) = initial_of(declarer, value)? {
             row.push(Override {
                 name: other.name.text,
@@ -84,21 +112,25 @@ fn override_row<'a>(
 /// What is bound to a method: a procedure or NIL (rule 44). Whether it fits is judged later.
 fn method_value<'a>(
     declarer: &mut Declarer<'_, 'a>,
+    doubts: &mut Doubts<'a>,
     object: TypeId,
     name: Name<'a>,
     signature: Option<TypeId>,
     value: &'a Expr<'a>,
 ) -> Result<Option<Value<'a>>, NoMemory> {
-    let constant = typed_constant(declarer, value)?;
-    let (procedure, found) = match constant {
-        Some((kind, Value::Procedure(number))) => (Some(kind), Some(Value::Procedure(number))),
-        Some((_, Value::Nil)) => (None, Some(Value::Nil)),
-        Some(_) => {
-            declarer.refuse(value.pos(), 44)?;
-            (None, None)
+    let constant = typed_constant(declarer, doubts, value)?;
+    let mut procedure = None;
+    let mut found = None;
+    if let Some((kind, known)) = constant {
+        match known {
+            Value::Procedure(_) => {
+                procedure = Some(kind);
+                found = Some(known);
+            }
+            Value::Nil => found = Some(known),
+            _ => declarer.refuse(value.pos(), 44)?,
         }
-        None => (None, None),
-    };
+    }
     declarer.new_values.push(MethodValue {
         unit: declarer.eval.unit,
         name: name.text,

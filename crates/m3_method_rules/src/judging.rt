@@ -28,8 +28,11 @@ impl Lines {
 }
 
 /// Rule 49 on the parents, methods and overrides of object types.
-pub fn judge_methods<'a>(declarer: &mut Declarer<'_, 'a>) -> Result<(), NoMemory> {
-    let orphans = orphans(declarer)?;
+pub fn judge_methods<'a>(
+    declarer: &mut Declarer<'_, 'a>,
+    types: &[TypeAt<'a>],
+) -> Result<(), NoMemory> {
+    let orphans = orphans(declarer, types)?;
     let mut lines = Lines {
         below: HashSet::new(declarer.eval.alloc),
     };
@@ -44,13 +47,14 @@ pub fn judge_methods<'a>(declarer: &mut Declarer<'_, 'a>) -> Result<(), NoMemory
 }
 
 /// The parts of object types whose parents are refused.
-fn orphans<'a>(declarer: &mut Declarer<'_, 'a>) -> Result<HashSet<TypeId>, NoMemory> {
+fn orphans<'a>(
+    declarer: &mut Declarer<'_, 'a>,
+    types: &[TypeAt<'a>],
+) -> Result<HashSet<TypeId>, NoMemory> {
     let mut orphans = HashSet::new(declarer.eval.alloc);
-    for place in 0..declarer.gathered.types.len() {
-        if let Some(written) = declarer.gathered.types.get(place).copied() {
-            if let Some(orphan) = judge_parent(declarer, written)? {
-                orphans.insert(orphan)?;
-            }
+    for written in types {
+        if let Some(orphan) = judge_parent(declarer, written)? {
+            orphans.insert(orphan)?;
         }
     }
     Ok(orphans)
@@ -60,7 +64,7 @@ fn orphans<'a>(declarer: &mut Declarer<'_, 'a>) -> Result<HashSet<TypeId>, NoMem
 /// given.
 fn judge_parent<'a>(
     declarer: &mut Declarer<'_, 'a>,
-    written: TypeAt<'a>,
+    written: &TypeAt<'a>,
 ) -> Result<Option<TypeId>, NoMemory> {
     let TypeExp::Object {
         parent: Some(name),

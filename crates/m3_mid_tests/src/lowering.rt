@@ -71,7 +71,7 @@ fn answer_in<'a>(
     let mut kept = Vec::new(arena);
     kept.push(Storage::of(alloc, core)?)?;
     match into_bump_slice(kept) {
-        [storage, ..] => answer_of(alloc, arena, storage, question),
+        [storage, ..] => answer_of(alloc, arena, core, storage, question),
         [] => Err(NoMemory),
     }
 }
@@ -79,17 +79,20 @@ fn answer_in<'a>(
 fn answer_of<'a>(
     alloc: Global,
     arena: &'a Bump,
+    core: &'a Core<'a>,
     storage: &'a Storage<'a>,
     question: Question<'_>,
 ) -> Result<String, NoMemory> {
     match question {
-        Question::Run { input, expected } => run_of(alloc, arena, storage, input, expected),
-        Question::Text { name, expected } => text_answer(alloc, arena, storage, name, expected),
+        Question::Run { input, expected } => run_of(alloc, arena, core, storage, input, expected),
+        Question::Text { name, expected } => text_answer(
+            alloc, arena, core, storage, name, expected,
+        ),
         Question::Order { name } => {
-            let code = code_of(alloc, arena, storage, name)?;
+            let code = code_of(alloc, arena, core, storage, name)?;
             tested(alloc, &code)
         }
-        Question::Validity => validity_of(alloc, arena, storage),
+        Question::Validity => validity_of(alloc, arena, core, storage),
     }
 }
 
@@ -97,14 +100,15 @@ fn answer_of<'a>(
 fn run_of<'a>(
     alloc: Global,
     arena: &'a Bump,
+    core: &'a Core<'a>,
     storage: &'a Storage<'a>,
     input: &[u8],
     expected: &[u8],
 ) -> Result<String, NoMemory> {
-    let procs = lower_all(alloc, arena, storage)?;
-    match first_wrong(alloc, arena, storage, procs)? {
+    let procs = lower_all(alloc, arena, core, storage)?;
+    match first_wrong(alloc, arena, core, storage, procs)? {
         Some(wrong) => Ok(wrong),
-        None => run_lowered(alloc, arena, storage, procs, input, expected),
+        None => run_lowered(alloc, arena, core, storage, procs, input, expected),
     }
 }
 
@@ -112,10 +116,11 @@ fn run_of<'a>(
 fn validity_of<'a>(
     alloc: Global,
     arena: &'a Bump,
+    core: &'a Core<'a>,
     storage: &'a Storage<'a>,
 ) -> Result<String, NoMemory> {
-    let procs = lower_all(alloc, arena, storage)?;
-    match first_wrong(alloc, arena, storage, procs)? {
+    let procs = lower_all(alloc, arena, core, storage)?;
+    match first_wrong(alloc, arena, core, storage, procs)? {
         Some(wrong) => Ok(wrong),
         None => Ok(String::from_str(alloc, "valid")?),
     }
@@ -125,15 +130,16 @@ fn validity_of<'a>(
 fn first_wrong<'a>(
     alloc: Global,
     arena: &'a Bump,
+    core: &'a Core<'a>,
     storage: &'a Storage<'a>,
     procs: &'a [Proc<'a>],
 ) -> Result<Option<String>, NoMemory> {
-    if let Some(broken) = first_broken(alloc, storage, procs)? {
+    if let Some(broken) = first_broken(alloc, core, storage, procs)? {
         return Ok(Some(broken));
     }
-    match first_large(alloc, arena, storage.core, procs)? {
+    match first_large(alloc, arena, core, procs)? {
         Some(large) => Ok(Some(large)),
-        None => too_large(alloc, arena, storage.core),
+        None => too_large(alloc, arena, core),
     }
 }
 
@@ -141,11 +147,12 @@ fn first_wrong<'a>(
 fn lower_all<'a>(
     alloc: Global,
     arena: &'a Bump,
+    core: &'a Core<'a>,
     storage: &'a Storage<'a>,
 ) -> Result<&'a [Proc<'a>], NoMemory> {
     let mut procs = Vec::new(arena);
-    for number in 0..storage.core.procs.len() {
-        procs.push(lower_proc(alloc, arena, storage, place_number(number)?)?)?;
+    for number in 0..core.procs.len() {
+        procs.push(lower_proc(alloc, arena, core, storage, place_number(number)?)?)?;
     }
     Ok(into_bump_slice(procs))
 }
@@ -164,22 +171,24 @@ fn number_of(core: &Core<'_>, name: &[u8]) -> usize {
 fn code_of<'a>(
     alloc: Global,
     arena: &'a Bump,
+    core: &'a Core<'a>,
     storage: &'a Storage<'a>,
     name: &str,
 ) -> Result<Proc<'a>, NoMemory> {
-    let number = place_number(number_of(storage.core, name.as_bytes()))?;
-    lower_proc(alloc, arena, storage, number)
+    let number = place_number(number_of(core, name.as_bytes()))?;
+    lower_proc(alloc, arena, core, storage, number)
 }
 
 /// `text NAME` where the procedure has the text that is expected, else the text that it has.
 fn text_answer<'a>(
     alloc: Global,
     arena: &'a Bump,
+    core: &'a Core<'a>,
     storage: &'a Storage<'a>,
     name: &str,
     expected: &[u8],
 ) -> Result<String, NoMemory> {
-    let code = code_of(alloc, arena, storage, name)?;
+    let code = code_of(alloc, arena, core, storage, name)?;
     let text = format!(in alloc; "{}", Text(&code))?;
     if text.as_bytes() == expected {
         Ok(format!(in alloc; "text {name}")?)

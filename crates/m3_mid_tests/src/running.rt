@@ -2,6 +2,7 @@ use crate::stops::stop_text;
 use bumpalo::Bump;
 use bumpalo::collections::into_bump_slice;
 use m3_base::{NoMemory, place_number};
+use m3_core::Core;
 use m3_image_parts::{Constants, type_parts};
 use m3_image_writer::TypePart;
 use m3_mid::Proc;
@@ -15,9 +16,9 @@ use std::alloc::Global;
 const STEPS: u64 = 200_000_000;
 
 /// For each procedure the words of its formals.
-fn formals_of(alloc: Global, storage: &Storage<'_>) -> Result<Vec<u32>, NoMemory> {
+fn formals_of(alloc: Global, core: &Core<'_>, storage: &Storage<'_>) -> Result<Vec<u32>, NoMemory> {
     let mut formals = Vec::new(alloc);
-    for number in 0..storage.core.procs.len() {
+    for number in 0..core.procs.len() {
         formals.push(storage.room(place_number(number)?).formals)?;
     }
     Ok(formals)
@@ -26,11 +27,11 @@ fn formals_of(alloc: Global, storage: &Storage<'_>) -> Result<Vec<u32>, NoMemory
 /// The first procedure of a program that isn't well formed, as its text; none where all are.
 pub fn first_broken(
     alloc: Global,
+    core: &Core<'_>,
     storage: &Storage<'_>,
     procs: &[Proc<'_>],
 ) -> Result<Option<String>, NoMemory> {
-    let core = storage.core;
-    let formals = formals_of(alloc, storage)?;
+    let formals = formals_of(alloc, core, storage)?;
     let parts = type_parts(alloc, storage)?;
     let around = Surroundings {
         formals: formals.as_slice(),
@@ -94,14 +95,15 @@ fn cell_types<'a>(arena: &'a Bump, parts: &[TypePart]) -> Result<&'a [CellType<'
 fn program_of<'a>(
     alloc: Global,
     arena: &'a Bump,
+    core: &'a Core<'a>,
     storage: &'a Storage<'a>,
     procs: &'a [Proc<'a>],
 ) -> Result<Program<'a>, NoMemory> {
     let parts = type_parts(alloc, storage)?;
-    let constants = Constants::of(alloc, storage)?;
+    let constants = Constants::of(alloc, core.texts, storage)?;
     Ok(Program {
         procs,
-        order: storage.core.order,
+        order: core.order,
         global_words: storage.global_words,
         types: cell_types(arena, parts.as_slice())?,
         constants: &*arena.try_alloc_slice_copy(constants.words.as_slice())?,
@@ -115,19 +117,20 @@ fn program_of<'a>(
 pub fn run_lowered<'a>(
     alloc: Global,
     arena: &'a Bump,
+    core: &'a Core<'a>,
     storage: &'a Storage<'a>,
     procs: &'a [Proc<'a>],
     input: &[u8],
     expected: &[u8],
 ) -> Result<String, NoMemory> {
-    let program = program_of(alloc, arena, storage, procs)?;
+    let program = program_of(alloc, arena, core, storage, procs)?;
     let input = &*arena.try_alloc_slice_copy(input)?;
     let Ending {
         stop,
         output,
         points,
     } = run(alloc, program, input, STEPS);
-    let stop = stop_text(alloc, storage.core, stop)?;
+    let stop = stop_text(alloc, core, stop)?;
     let mut answer = format!(in alloc; "{stop} points {points}")?;
     if output.as_slice() != expected {
         answer.push_str(", and puts ")?;

@@ -2,7 +2,7 @@ use crate::members::Member;
 use crate::things::Thing;
 use bumpalo::Bump;
 use m3_base::{Least, NoMemory, Pos, Refusal};
-use m3_core::{CoreExpr, ProcDef, Step};
+use m3_core::{CoreExpr, Step};
 use m3_declared::Declared;
 use m3_scopes::{EntityId, Program};
 use m3_syntax::Kept;
@@ -32,7 +32,8 @@ pub struct Variable {
     pub may_be_inner: bool,
 }
 
-/// What checks the expressions of a program: where it stands, what it knows, and what it noted.
+/// What checks the expressions of a program: where it stands, what it knows, and what it noted. No
+/// statement stands in it, so what takes it is cheap to prove.
 #[derive(Drop)]
 pub struct Checker<'p, 'a> {
     pub alloc: Global,
@@ -55,8 +56,6 @@ pub struct Checker<'p, 'a> {
     pub seen: HashMap<(u32, TypeId), TypeId>,
     /// The open array type of each element type that SUBARRAY met.
     pub open: HashMap<TypeId, TypeId>,
-    /// The procedures that were checked, each with its number.
-    pub procedures: Vec<(u32, ProcDef<'a>)>,
 }
 
 impl<'p, 'a> Checker<'p, 'a> {
@@ -80,7 +79,6 @@ impl<'p, 'a> Checker<'p, 'a> {
             listed: HashSet::new(alloc),
             seen: HashMap::new(alloc),
             open: HashMap::new(alloc),
-            procedures: Vec::new(alloc),
         }
     }
 

@@ -10,4 +10,4 @@ mod things;
 
 pub use checker::{Checker, Held, Variable};
 pub use members::{Found, Member};
-pub use things::{Draft, Given, Method, State, Thing, Valued};
+pub use things::{Change, Draft, Given, Method, State, Thing, Valued};

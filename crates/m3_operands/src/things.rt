@@ -1,5 +1,5 @@
 use m3_base::Pos;
-use m3_core::{Base, BuiltinCall, CoreExpr, CoreStmt};
+use m3_core::{Base, BuiltinCall, Chain, CoreExpr};
 use m3_scopes::{EntityId, Predeclared};
 use m3_syntax::{Kept, Name};
 use m3_types::TypeId;
@@ -73,6 +73,15 @@ pub struct Method<'a> {
     pub signature: TypeId,
 }
 
+/// INC or DEC: the place that it changes, and the amount where one is written.
+#[derive(Clone, Copy)]
+pub struct Change<'a> {
+    pub pos: Pos,
+    pub is_decrement: bool,
+    pub target: &'a Chain<'a>,
+    pub amount: Option<&'a CoreExpr<'a>>,
+}
+
 /// What an operand is.
 #[derive(Clone, Copy)]
 pub enum Thing<'a> {
@@ -92,8 +101,7 @@ pub enum Thing<'a> {
     /// A call without result.
     Call(Draft<'a>),
     Builtin(Kept<'a, BuiltinCall<'a>>),
-    /// INC or DEC.
-    Change(Pos, Kept<'a, CoreStmt<'a>>),
+    Change(Kept<'a, Change<'a>>),
 }
 
 /// An actual of a call or a part of a constructor: what it is, the place of its first token, its

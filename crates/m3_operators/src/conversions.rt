@@ -136,7 +136,7 @@ fn of_number<'m>(
     yes: u32,
     no: u32,
 ) -> Pending<'m> {
-    match b.storage.cells.number(&b.storage.core.types, kind) {
+    match b.storage.cells.number(b.storage.types, kind) {
         Some(number) => of_cell(b, cell, number, yes, no),
         None => b.goto(no),
     }

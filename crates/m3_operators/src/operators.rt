@@ -13,15 +13,15 @@ use m3_types::TypeId;
 pub fn operate<'m>(
     b: &mut Builder<'m, '_>,
     around: Around,
-    operation: &Operation,
+    operator: Operator,
+    pos: Pos,
     kinds: (Option<TypeId>, Option<TypeId>),
     left: Value,
     right: Value,
     target: Value,
     rest: Pending<'m>,
 ) -> Pending<'m> {
-    let pos = operation.pos;
-    match operation.operator {
+    match operator {
         Operator::Plus => arithmetic(CheckedOperator::Add, left, right, target, pos, rest),
         Operator::Minus => arithmetic(CheckedOperator::Subtract, left, right, target, pos, rest),
         Operator::Times => arithmetic(CheckedOperator::Multiply, left, right, target, pos, rest),
@@ -30,9 +30,7 @@ pub fn operate<'m>(
         Operator::Union
         | Operator::Difference
         | Operator::Intersection
-        | Operator::SymmetricDifference => {
-            combine_words(b, operation.operator, left, right, target, rest)
-        }
+        | Operator::SymmetricDifference => { combine_words(b, operator, left, right, target, rest) }
         Operator::Concatenate => rest.after(concatenated(b, around, left, right, target, pos)),
         Operator::In => member_into(b, kinds.1, left.word(), right, target.word(), rest),
         Operator::Compare(relation, compared) => {

@@ -100,7 +100,7 @@ pub fn action<'m>(
     rest: Pending<'m>,
 ) -> Pending<'m> {
     if let Some(service) = service_of(call.routine) {
-        return serve(b, around, call, service, operands, to, rest);
+        return serve(b, around, call.pos, service, operands, to, rest);
     }
     let x = operand_at(operands, 0);
     let y = operand_at(operands, 1);
@@ -114,7 +114,7 @@ pub fn action<'m>(
             valued(b, call, x, code)
         }
         _ => {
-            let code = computed(b, call, x, y, operands, target, rest);
+            let code = computed(b, call.routine, call.pos, x, y, target, rest);
             let shown = b.shown(around);
             let code = code.after(MidOp::Point { shown });
             check_byte_index(b, call, x, y, code)
@@ -210,25 +210,20 @@ fn word_operator(routine: Routine) -> Option<WordOperator> {
 /// A routine that computes from its operands alone, behind its point.
 fn computed<'m>(
     b: &mut Builder<'m, '_>,
-    call: &BuiltinCall,
+    routine: Routine,
+    pos: Pos,
     x: Operand,
     y: Operand,
-    operands: &[Operand],
     to: u32,
     rest: Pending<'m>,
 ) -> Pending<'m> {
-    if let Some(operator) = word_operator(call.routine) {
+    if let Some(operator) = word_operator(routine) {
         return rest.after(arith(to, operator, x, y));
     }
-    match call.routine {
-        Routine::WordNot => {
-            let x = operand_at(operands, 0);
-            rest.after(arith(to, WordOperator::Xor, x, Operand::Number(-1)))
-        }
-        Routine::WordDivide => {
-            rest.after(unsigned(CheckedOperator::DivUnsigned, x, y, to, call.pos))
-        }
-        Routine::WordMod => rest.after(unsigned(CheckedOperator::ModUnsigned, x, y, to, call.pos)),
+    match routine {
+        Routine::WordNot => rest.after(arith(to, WordOperator::Xor, x, Operand::Number(-1))),
+        Routine::WordDivide => rest.after(unsigned(CheckedOperator::DivUnsigned, x, y, to, pos)),
+        Routine::WordMod => rest.after(unsigned(CheckedOperator::ModUnsigned, x, y, to, pos)),
         Routine::WordLess => rest.after(comparison(Relation::LessUnsigned, x, y, to)),
         Routine::WordLessEqual => rest.after(comparison(Relation::LessEqualUnsigned, x, y, to)),
         Routine::WordGreater => rest.after(comparison(Relation::LessUnsigned, y, x, to)),

@@ -1,5 +1,6 @@
+use m3_base::Pos;
 use m3_builder::{Around, Builder, Pending, choice, set};
-use m3_core::{BuiltinCall, Routine};
+use m3_core::Routine;
 use m3_mid::{Kind, MidOp, Operand, Relation, Service};
 
 /// The service of the machine that a routine is.
@@ -48,7 +49,7 @@ fn kind_of_result(service: Service) -> Option<Kind> {
 pub fn serve<'m>(
     b: &mut Builder<'m, '_>,
     around: Around,
-    call: &BuiltinCall,
+    pos: Pos,
     service: Service,
     operands: &[Operand],
     to: Option<u32>,
@@ -76,7 +77,7 @@ pub fn serve<'m>(
         operands,
         to: result,
         raised,
-        pos: call.pos,
+        pos,
         shown,
     })
 }
@@ -102,7 +103,7 @@ fn alerted<'m>(
         })
         .after(MidOp::Number {
             to: travels.exception,
-            value: i64::from(b.storage.core.alerted).wrapping_add(1),
+            value: i64::from(b.storage.alerted).wrapping_add(1),
         });
     let raising = b.seal(raising);
     choice(

@@ -56,7 +56,7 @@ pub fn store_bindings<'m>(
 fn field_word(b: &Builder, made: TypeId, binding: &Binding) -> u64 {
     match binding.owner {
         Some(owner) => {
-            let types = &b.storage.core.types;
+            let types = b.storage.types;
             b.storage.objects.object_field(types, owner, binding.field)
         }
         None => match b.storage.node(made) {

@@ -1,5 +1,5 @@
-//! Where a program's files come from and where its output goes: shelves and sinks, in memory and over
-//! the system's files and streams.
+//! Where a program's files come from and where its output goes: shelves and sinks, in memory and
+//! over the system's files and streams.
 #![tactic(auto)]
 
 mod file_shelf;
@@ -8,8 +8,6 @@ mod memory_sink;
 mod shelves;
 mod sinks;
 mod std_sink;
-#[cfg(test)]
-mod tests;
 
 pub use file_shelf::FileShelf;
 pub use memory_shelf::MemShelf;

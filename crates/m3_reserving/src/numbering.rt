@@ -1,24 +1,25 @@
 use m3_base::{NoMemory, Pos, place_number};
 use m3_declarer::Declarer;
 use m3_fold::spelled;
+use m3_gathered::TextAt;
 use m3_scopes::{EntityId, EntityKind};
-use m3_syntax::{Unit, UnitKind};
 
 /// An entity of a unit, in the order of the text.
 type Ordered = (u32, Pos, EntityId);
 
 /// Gives each text literal its cell.
-pub fn number_texts(declarer: &mut Declarer<'_, '_>) -> Result<(), NoMemory> {
-    for place in 0..declarer.gathered.texts.len() {
-        if let Some(text) = declarer.gathered.texts.get(place).copied() {
-            let bytes = spelled(declarer.eval.arena, text.text)?;
-            let cell = place_number(declarer.eval.declared.texts.len())?;
-            declarer.eval.declared.texts.push(bytes)?;
-            declarer
-                .eval
-                .declared
-                .place_text(text.unit, text.pos, cell)?;
-        }
+pub fn number_texts<'a>(
+    declarer: &mut Declarer<'_, 'a>,
+    texts: &[TextAt<'a>],
+) -> Result<(), NoMemory> {
+    for text in texts {
+        let bytes = spelled(declarer.eval.arena, text.text)?;
+        let cell = place_number(declarer.eval.declared.texts.len())?;
+        declarer.eval.declared.texts.push(bytes)?;
+        declarer
+            .eval
+            .declared
+            .place_text(text.unit, text.pos, cell)?;
     }
     Ok(())
 }
@@ -55,17 +56,15 @@ pub fn number_exceptions(declarer: &mut Declarer<'_, '_>) -> Result<(), NoMemory
 
 /// Numbers the procedures with bodies and the bodies of modules, a module's behind the
 /// procedures of its unit, and each head with its body's number.
-pub fn number_procedures<'a>(
-    declarer: &mut Declarer<'_, 'a>,
-    units: &[Unit<'a>],
-) -> Result<(), NoMemory> {
+pub fn number_procedures(declarer: &mut Declarer<'_, '_>) -> Result<(), NoMemory> {
     let found = in_order(declarer, false)?;
     let mut next = 0usize;
     let mut modules = 0u32;
-    for (place, unit) in units.iter().enumerate() {
+    let program = declarer.eval.program;
+    for (place, info) in program.infos.iter().enumerate() {
         let here = place_number(place)?;
         next = number_unit(declarer, found.as_slice(), here, next, modules)?;
-        if let UnitKind::Module { .. } = unit.kind {
+        if !info.is_interface {
             let number = place_number(next)?.saturating_add(modules);
             declarer.eval.declared.number_module(here, number)?;
             modules = modules.saturating_add(1);

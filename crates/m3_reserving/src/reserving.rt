@@ -1,9 +1,9 @@
 use crate::numbering::{number_exceptions, number_procedures, number_texts};
 use m3_base::{NoMemory, Pos, place_number};
-use m3_declarer::{Declarer, Plan, Written};
+use m3_declarer::{Declarer, Plan, Trees, Writings, Written};
 use m3_gathered::TypeAt;
 use m3_scopes::{Declaration, Entity, EntityId, EntityKind};
-use m3_syntax::{ObjectPart, TypeExp, Unit};
+use m3_syntax::{ObjectPart, TypeExp};
 use m3_types::TypeId;
 use m3_worth::Need;
 
@@ -11,28 +11,21 @@ use m3_worth::Need;
 /// texts, procedures and exceptions.
 pub fn reserve_all<'a>(
     declarer: &mut Declarer<'_, 'a>,
-    units: &[Unit<'a>],
+    trees: &mut Trees<'_, 'a>,
 ) -> Result<(), NoMemory> {
     let refused = Need::Node(declarer.eval.declared.basic.refused);
     declarer.eval.settled.insert(refused)?;
-    number_texts(declarer)?;
+    number_texts(declarer, trees.gathered.texts.as_slice())?;
     number_exceptions(declarer)?;
-    number_procedures(declarer, units)?;
-    for place in 0..declarer.gathered.types.len() {
-        if let Some(written) = declarer.gathered.types.get(place).copied() {
-            reserve_type(declarer, written)?;
-        }
+    number_procedures(declarer)?;
+    for written in &trees.gathered.types {
+        reserve_type(declarer, &mut trees.written, written)?;
     }
-    reserve_procedures(declarer)
+    reserve_procedures(declarer, trees)
 }
 
 /// A place for a definition that is a task.
-fn plan_type<'a>(
-    declarer: &mut Declarer<'_, 'a>,
-    unit: u32,
-    pos: Pos,
-    written: Written<'a>,
-) -> Result<TypeId, NoMemory> {
+fn plan_type(declarer: &mut Declarer<'_, '_>, unit: u32, pos: Pos) -> Result<TypeId, NoMemory> {
     let kind = declarer.eval.declared.types.reserve()?;
     declarer.planned.push(kind)?;
     declarer.plans.insert(
@@ -41,37 +34,43 @@ fn plan_type<'a>(
             unit,
             pos,
             is_named: false,
-            written,
         },
     )?;
     Ok(kind)
 }
 
 /// A place for the definition of a type that has NIL.
-fn plan_nilable<'a>(
-    declarer: &mut Declarer<'_, 'a>,
-    unit: u32,
-    pos: Pos,
-    written: Written<'a>,
-) -> Result<TypeId, NoMemory> {
-    let kind = plan_type(declarer, unit, pos, written)?;
+fn plan_nilable(declarer: &mut Declarer<'_, '_>, unit: u32, pos: Pos) -> Result<TypeId, NoMemory> {
+    let kind = plan_type(declarer, unit, pos)?;
     declarer.eval.nilable.insert(kind)?;
     Ok(kind)
 }
 
-fn reserve_type<'a>(declarer: &mut Declarer<'_, 'a>, written: TypeAt<'a>) -> Result<(), NoMemory> {
+fn reserve_type<'a>(
+    declarer: &mut Declarer<'_, 'a>,
+    writings: &mut Writings<'a>,
+    written: &TypeAt<'a>,
+) -> Result<(), NoMemory> {
     let unit = written.unit;
     let exp = written.kind;
     let pos = exp.pos();
     let kind = match exp {
         TypeExp::Subrange { .. } | TypeExp::Record { .. } => {
-            plan_type(declarer, unit, pos, Written::Type(exp))?
+            let kind = plan_type(declarer, unit, pos)?;
+            writings.insert(kind, Written::Type(exp))?;
+            kind
         }
-        TypeExp::Ref { .. } => plan_nilable(declarer, unit, pos, Written::Type(exp))?,
+        TypeExp::Ref { .. } => {
+            let kind = plan_nilable(declarer, unit, pos)?;
+            writings.insert(kind, Written::Type(exp))?;
+            kind
+        }
         TypeExp::Procedure { signature, .. } => {
-            plan_nilable(declarer, unit, pos, Written::Signature(signature))?
+            let kind = plan_nilable(declarer, unit, pos)?;
+            writings.insert(kind, Written::Signature(signature))?;
+            kind
         }
-        TypeExp::Object { parts, .. } => reserve_parts(declarer, unit, exp, parts)?,
+        TypeExp::Object { parts, .. } => reserve_parts(declarer, writings, unit, exp, parts)?,
         TypeExp::Array { indexes, .. } => reserve_row(declarer, indexes.len().max(1))?,
         _ => declarer.eval.declared.types.reserve()?,
     };
@@ -90,6 +89,7 @@ fn reserve_row(declarer: &mut Declarer<'_, '_>, count: usize) -> Result<TypeId, 
 /// Places in a row for the parts of an object type; the last is given.
 fn reserve_parts<'a>(
     declarer: &mut Declarer<'_, 'a>,
+    writings: &mut Writings<'a>,
     unit: u32,
     exp: &'a TypeExp<'a>,
     parts: &'a [ObjectPart<'a>],
@@ -97,53 +97,54 @@ fn reserve_parts<'a>(
     let mut last = declarer.eval.declared.basic.refused;
     for place in 0..parts.len() {
         let number = place_number(place)?;
-        last = plan_nilable(declarer, unit, exp.pos(), Written::Part(exp, number))?;
+        last = plan_nilable(declarer, unit, exp.pos())?;
+        writings.insert(last, Written::Part(exp, number))?;
     }
     for part in parts {
-        reserve_methods(declarer, unit, part)?;
+        reserve_methods(declarer, writings, unit, part)?;
     }
     Ok(last)
 }
 
 fn reserve_methods<'a>(
     declarer: &mut Declarer<'_, 'a>,
+    writings: &mut Writings<'a>,
     unit: u32,
     part: &'a ObjectPart<'a>,
 ) -> Result<(), NoMemory> {
     for method in part.methods {
         let pos = method.name.pos;
-        let kind = plan_nilable(declarer, unit, pos, Written::Signature(&method.signature))?;
+        let kind = plan_nilable(declarer, unit, pos)?;
+        writings.insert(kind, Written::Signature(&method.signature))?;
         declarer.eval.declared.place_type(unit, pos, kind)?;
     }
     Ok(())
 }
 
-fn reserve_procedures(declarer: &mut Declarer<'_, '_>) -> Result<(), NoMemory> {
+fn reserve_procedures<'a>(
+    declarer: &mut Declarer<'_, 'a>,
+    trees: &mut Trees<'_, 'a>,
+) -> Result<(), NoMemory> {
     let program = declarer.eval.program;
     for (place, entity) in program.binds.entities().iter().enumerate() {
-        let id = EntityId(place_number(place)?);
-        reserve_procedure(declarer, id, entity)?;
+        if entity.kind == EntityKind::Procedure {
+            if let Some(Declaration::Procedure { signature, .. }) = trees.declaration(entity) {
+                let kind = reserve_procedure(declarer, place, entity)?;
+                trees.written.insert(kind, Written::Signature(signature))?;
+            }
+        }
     }
     Ok(())
 }
 
-/// A place for the type of a procedure; nothing for any other entity.
-fn reserve_procedure<'a>(
-    declarer: &mut Declarer<'_, 'a>,
-    id: EntityId,
-    entity: &Entity<'a>,
-) -> Result<(), NoMemory> {
-    if entity.kind != EntityKind::Procedure {
-        return Ok(());
-    }
-    let Some(Declaration::Procedure { signature, .. }) = declarer.declaration(entity) else {
-        return Ok(());
-    };
-    let kind = plan_nilable(
-        declarer,
-        entity.unit,
-        entity.pos,
-        Written::Signature(signature),
-    )?;
-    declarer.eval.declared.give_kind(id, kind)
+/// A place for the type of a procedure, by its place among the entities.
+fn reserve_procedure(
+    declarer: &mut Declarer<'_, '_>,
+    place: usize,
+    entity: &Entity<'_>,
+) -> Result<TypeId, NoMemory> {
+    let kind = plan_nilable(declarer, entity.unit, entity.pos)?;
+    let id = EntityId(place_number(place)?);
+    declarer.eval.declared.give_kind(id, kind)?;
+    Ok(kind)
 }

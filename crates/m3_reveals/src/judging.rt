@@ -1,14 +1,18 @@
 use crate::telling::{Told, all_told};
 use m3_base::NoMemory;
 use m3_declarer::Declarer;
+use m3_scopes::Declaration;
 use m3_types::{TypeId, TypeNode};
 
 /// A view in which no reveal applies.
 const NO_VIEW: u32 = u32::MAX - 1;
 
 /// Rule 45, reveal by reveal in the order of units and places.
-pub fn judge_reveals<'a>(declarer: &mut Declarer<'_, 'a>) -> Result<(), NoMemory> {
-    let mut told = all_told(declarer)?;
+pub fn judge_reveals<'a>(
+    declarer: &mut Declarer<'_, 'a>,
+    declarations: &[Declaration<'a>],
+) -> Result<(), NoMemory> {
+    let mut told = all_told(declarer, declarations)?;
     told.sort_by_key(|found: &Told| (found.opaque, found.unit, found.pos))?;
     let mut first = 0usize;
     for place in 0..told.len() {

@@ -3,6 +3,7 @@ use m3_base::{NoMemory, Pos, place_number};
 use m3_declarer::Declarer;
 use m3_early_names::type_of;
 use m3_scopes::{Declaration, Revealed};
+use m3_syntax::TypeExp;
 use m3_types::{Reveal, TypeGraph, TypeId, TypeNode};
 
 /// A revelation with its types.
@@ -16,17 +17,17 @@ pub struct Told {
 }
 
 /// A revelation with its types; none where one of them was refused.
-fn types_of<'a>(declarer: &mut Declarer<'_, 'a>, revealed: &Revealed) -> Option<Told> {
-    let declaration = declarer.declarations.get(revealed.declaration as usize);
-    let Some(Declaration::Reveal(written)) = declaration else {
-        return None;
-    };
+fn types_of<'a>(
+    declarer: &mut Declarer<'_, 'a>,
+    revealed: &Revealed,
+    written: &TypeExp<'a>,
+) -> Option<Told> {
     let opaque = declarer.eval.declared.type_named(revealed.opaque)?;
     let TypeNode::Opaque(_, _) = declarer.eval.definition(opaque) else {
         return None;
     };
     declarer.eval.unit = revealed.unit;
-    let kind = type_of(&declarer.eval, written.kind)?;
+    let kind = type_of(&declarer.eval, written)?;
     if kind == declarer.eval.declared.basic.refused {
         return None;
     }
@@ -39,12 +40,24 @@ fn types_of<'a>(declarer: &mut Declarer<'_, 'a>, revealed: &Revealed) -> Option<
     })
 }
 
+/// The type that a revelation gives an opaque type.
+fn revealing<'a>(declarations: &[Declaration<'a>], revealed: &Revealed) -> Option<&'a TypeExp<'a>> {
+    match declarations.get(revealed.declaration as usize) {
+        Some(Declaration::Reveal(written)) => Some(written.kind),
+        _ => None,
+    }
+}
+
 /// All revelations whose types weren't refused, in the order of units.
-pub fn all_told<'a>(declarer: &mut Declarer<'_, 'a>) -> Result<Vec<Told>, NoMemory> {
+pub fn all_told<'a>(
+    declarer: &mut Declarer<'_, 'a>,
+    declarations: &[Declaration<'a>],
+) -> Result<Vec<Told>, NoMemory> {
     let mut told = Vec::new(declarer.eval.alloc);
-    for place in 0..declarer.eval.program.reveals.len() {
-        if let Some(revealed) = declarer.eval.program.reveals.get(place).copied() {
-            if let Some(found) = types_of(declarer, &revealed) {
+    let program = declarer.eval.program;
+    for revealed in &program.reveals {
+        if let Some(written) = revealing(declarations, revealed) {
+            if let Some(found) = types_of(declarer, revealed, written) {
                 told.push(found)?;
             }
         }
@@ -55,8 +68,11 @@ pub fn all_told<'a>(declarer: &mut Declarer<'_, 'a>) -> Result<Vec<Told>, NoMemo
 
 /// Lists each reveal for the whole program and for each unit where it applies: its own, and if
 /// this is an interface those that import or export it.
-pub fn list_reveals<'a>(declarer: &mut Declarer<'_, 'a>) -> Result<(), NoMemory> {
-    let told = all_told(declarer)?;
+pub fn list_reveals<'a>(
+    declarer: &mut Declarer<'_, 'a>,
+    declarations: &[Declaration<'a>],
+) -> Result<(), NoMemory> {
+    let told = all_told(declarer, declarations)?;
     for found in &told {
         reveal(declarer, TypeGraph::WHOLE_PROGRAM, found)?;
     }
@@ -64,8 +80,11 @@ pub fn list_reveals<'a>(declarer: &mut Declarer<'_, 'a>) -> Result<(), NoMemory>
 }
 
 /// Notes each reveal where it applies, before the definitions of all types are there.
-pub fn note_reveals<'a>(declarer: &mut Declarer<'_, 'a>) -> Result<(), NoMemory> {
-    let told = all_told(declarer)?;
+pub fn note_reveals<'a>(
+    declarer: &mut Declarer<'_, 'a>,
+    declarations: &[Declaration<'a>],
+) -> Result<(), NoMemory> {
+    let told = all_told(declarer, declarations)?;
     list_in_views(declarer, &told)
 }
 

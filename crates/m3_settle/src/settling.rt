@@ -1,5 +1,5 @@
 use m3_base::{NoMemory, place_number};
-use m3_declarer::Declarer;
+use m3_declarer::{Declarer, Doubts, Trees};
 use m3_making::{make_constant, make_kind, make_methods, make_node};
 use m3_reveals::{list_reveals, note_reveals};
 use m3_scopes::{EntityId, EntityKind};
@@ -7,50 +7,65 @@ use m3_worth::Need;
 
 /// Does all tasks: the definitions of types, then with the reveals of opaque types the constants
 /// and the types of variables.
-pub fn settle_all<'a>(declarer: &mut Declarer<'_, 'a>) -> Result<(), NoMemory> {
-    note_reveals(declarer)?;
-    attempt_nodes(declarer)?;
-    settle_nodes(declarer)?;
-    settle_methods(declarer)?;
+pub fn settle_all<'a>(
+    declarer: &mut Declarer<'_, 'a>,
+    trees: &mut Trees<'_, 'a>,
+) -> Result<(), NoMemory> {
+    note_reveals(declarer, trees.declarations)?;
+    attempt_nodes(declarer, trees)?;
+    settle_nodes(declarer, trees)?;
+    settle_methods(declarer, trees)?;
     declarer.has_definitions = true;
-    list_reveals(declarer)?;
+    list_reveals(declarer, trees.declarations)?;
     declarer.eval.is_complete = true;
-    settle_names(declarer)
+    settle_names(declarer, trees)
 }
 
 /// Tries the definition of each type once; those that lack something are settled behind that.
-fn attempt_nodes<'a>(declarer: &mut Declarer<'_, 'a>) -> Result<(), NoMemory> {
+fn attempt_nodes<'a>(
+    declarer: &mut Declarer<'_, 'a>,
+    trees: &mut Trees<'_, 'a>,
+) -> Result<(), NoMemory> {
     for place in 0..declarer.planned.len() {
         if let Some(kind) = declarer.planned.get(place).copied() {
-            attempt(declarer, Need::Node(kind))?;
+            attempt(declarer, trees, Need::Node(kind))?;
         }
     }
     Ok(())
 }
 
-fn settle_nodes<'a>(declarer: &mut Declarer<'_, 'a>) -> Result<(), NoMemory> {
+fn settle_nodes<'a>(
+    declarer: &mut Declarer<'_, 'a>,
+    trees: &mut Trees<'_, 'a>,
+) -> Result<(), NoMemory> {
     for place in 0..declarer.planned.len() {
         if let Some(kind) = declarer.planned.get(place).copied() {
-            settle(declarer, Need::Node(kind))?;
+            settle(declarer, trees, Need::Node(kind))?;
         }
     }
     Ok(())
 }
 
-fn settle_methods<'a>(declarer: &mut Declarer<'_, 'a>) -> Result<(), NoMemory> {
+fn settle_methods<'a>(
+    declarer: &mut Declarer<'_, 'a>,
+    trees: &mut Trees<'_, 'a>,
+) -> Result<(), NoMemory> {
     for place in 0..declarer.eval.drafted.len() {
         if let Some(kind) = declarer.eval.drafted.get(place).copied() {
-            settle(declarer, Need::Methods(kind))?;
+            settle(declarer, trees, Need::Methods(kind))?;
         }
     }
     Ok(())
 }
 
-fn settle_names<'a>(declarer: &mut Declarer<'_, 'a>) -> Result<(), NoMemory> {
+fn settle_names<'a>(
+    declarer: &mut Declarer<'_, 'a>,
+    trees: &mut Trees<'_, 'a>,
+) -> Result<(), NoMemory> {
     for place in 0..declarer.eval.program.binds.entities().len() {
         let id = EntityId(place_number(place)?);
         if let Some(need) = need_of(declarer, id) {
-            settle(declarer, need)?;
+            settle(declarer, trees, need)?;
         }
     }
     Ok(())
@@ -70,14 +85,18 @@ fn need_of<'a>(declarer: &Declarer<'_, 'a>, id: EntityId) -> Option<Need> {
 }
 
 /// Does a task, and before it those that it lacks, over an explicit stack.
-fn settle<'a>(declarer: &mut Declarer<'_, 'a>, need: Need) -> Result<(), NoMemory> {
+fn settle<'a>(
+    declarer: &mut Declarer<'_, 'a>,
+    trees: &mut Trees<'_, 'a>,
+    need: Need,
+) -> Result<(), NoMemory> {
     let mut stack = Vec::new(declarer.eval.alloc);
     stack.push(need)?;
     'tasks: for _ in 0..u64::MAX {
         let Some(need) = stack.last().copied() else {
             break 'tasks;
         };
-        if declarer.eval.settled.contains(&need) || attempt(declarer, need)? {
+        if declarer.eval.settled.contains(&need) || attempt(declarer, trees, need)? {
             stack.pop();
             declarer.busy.remove(&need);
             continue 'tasks;
@@ -165,31 +184,51 @@ fn refuse_task<'a>(declarer: &mut Declarer<'_, 'a>, need: Need) {
 
 /// Tries a task once. Whether it is done; else it lacks what is listed, and what it kept is taken
 /// back.
-fn attempt<'a>(declarer: &mut Declarer<'_, 'a>, need: Need) -> Result<bool, NoMemory> {
-    declarer.eval.lacks.clear();
-    declarer.reasons.clear();
-    declarer.doubts.clear();
-    declarer.assumed.clear();
-    declarer.new_brands.clear();
-    declarer.new_values.clear();
+fn attempt<'a>(
+    declarer: &mut Declarer<'_, 'a>,
+    trees: &mut Trees<'_, 'a>,
+    need: Need,
+) -> Result<bool, NoMemory> {
+    forget_notes(declarer);
+    trees.doubts.doubts.clear();
+    trees.doubts.assumed.clear();
     let texts = declarer.eval.declared.texts.len();
     let values = declarer.eval.declared.values.len();
     let interned = declarer.intern_order.len();
-    match need {
-        Need::Constant(id) => make_constant(declarer, id)?,
-        Need::Kind(id) => make_kind(declarer, id)?,
-        Need::Node(kind) => make_node(declarer, kind)?,
-        Need::Methods(kind) => make_methods(declarer, kind)?,
-    }
+    make(declarer, trees, need)?;
     if !declarer.has_all() {
         declarer.eval.declared.texts.truncate(texts);
         declarer.eval.declared.values.truncate(values);
         forget_interned(declarer, interned);
         return Ok(false);
     }
+    note_reasons(declarer);
+    keep_doubts(&mut trees.doubts)?;
     keep_notes(declarer)?;
     declarer.eval.settled.insert(need)?;
     Ok(true)
+}
+
+/// Does a task as far as it can be done.
+fn make<'a>(
+    declarer: &mut Declarer<'_, 'a>,
+    trees: &mut Trees<'_, 'a>,
+    need: Need,
+) -> Result<(), NoMemory> {
+    match need {
+        Need::Constant(id) => make_constant(declarer, trees, id),
+        Need::Kind(id) => make_kind(declarer, trees, id),
+        Need::Node(kind) => make_node(declarer, trees, kind),
+        Need::Methods(kind) => make_methods(declarer, trees, kind),
+    }
+}
+
+/// Forgets what the task before noted.
+fn forget_notes(declarer: &mut Declarer<'_, '_>) {
+    declarer.eval.lacks.clear();
+    declarer.reasons.clear();
+    declarer.new_brands.clear();
+    declarer.new_values.clear();
 }
 
 /// Takes back the constants that were interned behind the first so many.
@@ -201,11 +240,14 @@ fn forget_interned<'a>(declarer: &mut Declarer<'_, 'a>, kept: usize) {
     }
 }
 
-/// Keeps what a task noted.
+/// Keeps what a task noted of constant expressions.
+fn keep_doubts(doubts: &mut Doubts<'_>) -> Result<(), NoMemory> {
+    keep_all(doubts.doubts.as_slice(), &mut doubts.doubtful)?;
+    keep_all(doubts.assumed.as_slice(), &mut doubts.promises)
+}
+
+/// Keeps the brands and the procedures of methods that a task noted.
 fn keep_notes<'a>(declarer: &mut Declarer<'_, 'a>) -> Result<(), NoMemory> {
-    note_reasons(declarer);
-    keep_all(declarer.doubts.as_slice(), &mut declarer.doubtful)?;
-    keep_all(declarer.assumed.as_slice(), &mut declarer.promises)?;
     keep_all(declarer.new_brands.as_slice(), &mut declarer.brands)?;
     keep_all(declarer.new_values.as_slice(), &mut declarer.values)
 }

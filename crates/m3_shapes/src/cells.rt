@@ -68,7 +68,7 @@ pub fn copy_into_cell<'m>(
     };
     let code = copy_row(b, to, from.without_sizes(), words, rest);
     let code = counting.put(code);
-    let number = b.storage.cells.number(&b.storage.core.types, kind);
+    let number = b.storage.cells.number(b.storage.types, kind);
     make(b, around, number, sizes.as_slice(), cell, code)
 }
 

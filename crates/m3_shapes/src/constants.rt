@@ -7,7 +7,7 @@ use m3_types::{TypeId, TypeNode};
 /// A word of a constant set: the bits of its members from 64 times the word on.
 pub fn set_word(b: &Builder, kind: TypeId, value: ValueId, word: u32) -> i64 {
     let start = first_member(b, kind).wrapping_add(i64::from(word).wrapping_mul(64));
-    let members = match b.storage.core.values.get(value.0 as usize) {
+    let members = match b.storage.values.get(value.0 as usize) {
         Some(Constant::Set(members)) => *members,
         Some(Constant::Number(number)) => return *number,
         _ => return 0,

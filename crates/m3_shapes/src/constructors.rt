@@ -12,7 +12,7 @@ pub fn plan_constant(b: &mut Builder, kind: TypeId, value: ValueId) -> Place {
     let mut at = Some(value);
     for _ in 0..dims {
         let (count, next) = match at {
-            Some(value) => match b.storage.core.values.get(value.0 as usize) {
+            Some(value) => match b.storage.values.get(value.0 as usize) {
                 Some(Constant::Array(elements, count)) => (*count, elements.first().copied()),
                 _ => (0, None),
             },
@@ -36,7 +36,7 @@ pub fn plan_open<'m>(b: &mut Builder<'m, '_>, element: TypeId, elements: &[CoreE
     let count = elements.len() as u64;
     b.size(Operand::Number(count.cast_signed()));
     let dims = dims_of(b, element);
-    let values = plan_rows(b, elements.first().copied(), dims, count);
+    let values = plan_rows(b, elements.first(), dims, count);
     let inner = inner_element(b, element, dims);
     let first = b.slot_count();
     for _ in 0..values {
@@ -52,7 +52,7 @@ pub fn plan_open<'m>(b: &mut Builder<'m, '_>, element: TypeId, elements: &[CoreE
 }
 
 /// Keeps the sizes of the rows of a constructor, and tells how many values all rows have.
-fn plan_rows<'m>(b: &mut Builder<'m, '_>, first: Option<CoreExpr>, dims: u32, count: u64) -> u64 {
+fn plan_rows(b: &mut Builder, first: Option<&CoreExpr>, dims: u32, count: u64) -> u64 {
     let mut values = count;
     let mut row = first;
     for _ in 0..dims {
@@ -66,12 +66,10 @@ fn plan_rows<'m>(b: &mut Builder<'m, '_>, first: Option<CoreExpr>, dims: u32, co
 
 /// The number of elements of a row that is an array constructor or a fixed array, and its first
 /// element.
-fn row_size<'e>(b: &Builder, row: Option<CoreExpr<'e>>) -> (u64, Option<CoreExpr<'e>>) {
+fn row_size<'e>(b: &Builder, row: Option<&'e CoreExpr<'e>>) -> (u64, Option<&'e CoreExpr<'e>>) {
     match row {
-        Some(CoreExpr::ArrayOf { elements, .. }) => {
-            (elements.len() as u64, elements.first().copied())
-        }
-        Some(e) => match kind_of(&e) {
+        Some(CoreExpr::ArrayOf { elements, .. }) => (elements.len() as u64, elements.first()),
+        Some(e) => match kind_of(e) {
             Some(kind) => match b.storage.node(kind) {
                 TypeNode::FixedArray(index, _) => (b.storage.members(index), None),
                 _ => (0, None),

@@ -65,18 +65,15 @@ pub fn store_object_defaults<'m>(
 ) -> Pending<'m> {
     let mut tasks = Vec::new(b.alloc);
     let mut at = Some(made);
-    for _ in 0..b.storage.core.types.graph.nodes.len() {
+    for _ in 0..b.storage.types.graph.nodes.len() {
         let Some(kind) = at else {
             break;
         };
         if let TypeNode::Object(_, _, fields, _, _) = b.storage.node(kind) {
-            let start = b
-                .storage
-                .objects
-                .object_field(&b.storage.core.types, kind, 0);
+            let start = b.storage.objects.object_field(b.storage.types, kind, 0);
             add_fields(b, &mut tasks, kind, fields, start);
         }
-        at = parent_of(&b.storage.core.types, kind);
+        at = parent_of(b.storage.types, kind);
     }
     let parts = parts_of(b, tasks);
     let place = Place {
@@ -222,7 +219,7 @@ fn store_constant<'m>(
     value: u32,
     rest: Pending<'m>,
 ) -> Pending<'m> {
-    match b.storage.core.values.get(value as usize) {
+    match b.storage.values.get(value as usize) {
         Some(Constant::Number(number)) => {
             store_word(b, place, 0, Operand::Number(*number), rest)
         }

@@ -8,12 +8,33 @@ use m3_core::{ArrayLimit, CoreExpr};
 use m3_mid::{Kind, MidOp, Operand, Relation, WordOperator};
 use m3_types::{TypeId, TypeNode};
 
+/// What is known of an index before its code is made: its place, its type, and its value where it
+/// is a number.
+#[derive(Clone, Copy)]
+pub struct Index {
+    pub pos: Pos,
+    pub kind: Option<TypeId>,
+    pub number: Option<i64>,
+}
+
+/// What is known of an index.
+pub fn index_of(e: &CoreExpr) -> Index {
+    Index {
+        pos: e.pos(),
+        kind: kind_of(e),
+        number: match e {
+            CoreExpr::Number { value, .. } => Some(*value),
+            _ => None,
+        },
+    }
+}
+
 /// Where an element of an array will be; at an index that is a number in range, without any code.
 pub fn plan_element<'m>(
     b: &mut Builder<'m, '_>,
     array: Place,
     kind: Option<TypeId>,
-    index: &CoreExpr,
+    index: Index,
 ) -> Place {
     if let Some(distance) = known_distance(b, array, kind, index) {
         return array.further(distance).without_sizes();
@@ -36,21 +57,19 @@ pub fn known_distance(
     b: &Builder,
     array: Place,
     kind: Option<TypeId>,
-    index: &CoreExpr,
+    index: Index,
 ) -> Option<u64> {
-    let CoreExpr::Number { value, .. } = index else {
-        return None;
-    };
+    let value = index.number?;
     match b.storage.node(kind?) {
         TypeNode::FixedArray(index, element) => {
             let (first, last) = b.storage.bounds(index);
-            if *value < first || *value > last {
+            if value < first || value > last {
                 return None;
             }
             let place = value.wrapping_sub(first).cast_unsigned();
             Some(place.wrapping_mul(b.storage.words(element)))
         }
-        TypeNode::OpenArray(element) if array.dims == 1 && *value >= 0 => {
+        TypeNode::OpenArray(element) if array.dims == 1 && value >= 0 => {
             Some(value.cast_unsigned().wrapping_mul(b.storage.words(element)))
         }
         _ => None,
@@ -62,11 +81,11 @@ pub fn check_index<'m>(
     b: &mut Builder<'m, '_>,
     array: Place,
     kind: TypeId,
-    index: &CoreExpr,
+    index: Index,
     operand: Operand,
     rest: Pending<'m>,
 ) -> Pending<'m> {
-    let pos = index.pos();
+    let pos = index.pos;
     match b.storage.node(kind) {
         TypeNode::FixedArray(indexes, _) => {
             let (first, last) = b.storage.bounds(indexes);
@@ -95,11 +114,11 @@ fn below(place: Operand, count: Operand, pos: Pos) -> MidOp<'static> {
 }
 
 /// Whether every value of an index is in an array's range.
-fn is_within(b: &Builder, index: &CoreExpr, first: i64, last: i64) -> bool {
-    if let CoreExpr::Number { value, .. } = index {
-        return first <= *value && *value <= last;
+fn is_within(b: &Builder, index: Index, first: i64, last: i64) -> bool {
+    if let Some(value) = index.number {
+        return first <= value && value <= last;
     }
-    match kind_of(index) {
+    match index.kind {
         Some(kind) => {
             let (least, most) = b.storage.bounds(kind);
             least <= most && first <= least && most <= last

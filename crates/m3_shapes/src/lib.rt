@@ -14,7 +14,8 @@ pub use constants::{code_of, constant_words, first_member, set_word};
 pub use constructors::{field_type, filled, plan_constant, plan_open, row_words};
 pub use defaults::store_default;
 pub use elements::{
-    check_index, check_subarray, indexed, known_distance, limit_of, plan_element, subarray_address,
+    Index, check_index, check_subarray, index_of, indexed, known_distance, limit_of, plan_element,
+    subarray_address,
 };
 pub use shapes::{
     Counting, check_equal, check_shape, dims_of, element_words, fitted, inner_element, new_sizes,

@@ -5,7 +5,7 @@ use m3_types::{TypeId, TypeNode};
 
 /// The open dimensions of a type.
 pub fn dims_of(b: &Builder, kind: TypeId) -> u32 {
-    m3_storage::open_dims(&b.storage.core.types, kind)
+    m3_storage::open_dims(b.storage.types, kind)
 }
 
 /// New temporaries for so many sizes, kept in a row.

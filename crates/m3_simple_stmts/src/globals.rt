@@ -1,5 +1,5 @@
-use m3_builder::{Around, Builder, Pending, Place, kind_of};
-use m3_core::{Chain, CoreExpr};
+use m3_builder::{Around, Builder, Location, Pending, Place, kind_of};
+use m3_core::{Chain, CoreExpr, VarDef};
 use m3_exits::{Exits, global_place};
 use m3_lower_expr::{emit_chain, emit_value};
 use m3_plans::{plan_chain, plan_value, store_value};
@@ -7,19 +7,27 @@ use m3_shapes::store_default;
 use m3_storage::number_of;
 
 /// Gives all global variables their defaults, and interface variables their constants.
-pub fn init_globals<'m>(b: &mut Builder<'m, '_>, around: Around, rest: Pending<'m>) -> Pending<'m> {
+pub fn init_globals<'m>(
+    b: &mut Builder<'m, '_>,
+    around: Around,
+    globals: &[VarDef],
+    rest: Pending<'m>,
+) -> Pending<'m> {
     let mut code = rest;
-    let core = b.storage.core;
-    for (variable, global) in core.globals.iter().enumerate().rev() {
+    for (variable, global) in globals.iter().enumerate().rev() {
         if let Some(initial) = global.initial {
             let place = global_place(b, number_of(variable));
             code = stored(b, around, initial, place, code);
         }
     }
-    for (variable, global) in core.globals.iter().enumerate().rev() {
-        let place = global_place(b, number_of(variable));
-        let kind = b.storage.type_of(global);
-        code = store_default(b, kind, place, true, code);
+    global_defaults(b, code)
+}
+
+fn global_defaults<'m>(b: &mut Builder<'m, '_>, rest: Pending<'m>) -> Pending<'m> {
+    let mut code = rest;
+    for global in b.storage.globals().iter().rev() {
+        let place = Place::plain(Location::Globals(global.word));
+        code = store_default(b, global.kind, place, true, code);
     }
     code
 }

@@ -1,7 +1,7 @@
 use crate::sequences::statements;
 use bumpalo::collections::into_bump_slice;
 use m3_base::NoMemory;
-use m3_bodies::Body;
+use m3_bodies::{Body, Procedures};
 use m3_branches::{all_ranges, branch_types, branch_variable, condition, ranges_at};
 use m3_core::{Arm, CaseBranch, CoreStmt, TypeBranch};
 use m3_exprs::expression;
@@ -13,6 +13,7 @@ use m3_syntax::Stmt;
 pub fn alternatives<'a>(
     checker: &mut Checker<'_, 'a>,
     body: &mut Body<'a>,
+    procedures: &mut Procedures<'a>,
     statement: &Stmt<'a>,
 ) -> Result<Option<CoreStmt<'a>>, NoMemory> {
     let Stmt::If {
@@ -26,7 +27,7 @@ pub fn alternatives<'a>(
     let mut checked = Vec::new(checker.arena);
     for arm in *arms {
         let value = condition(checker, arm.condition)?;
-        let row = statements(checker, body, arm.body)?;
+        let row = statements(checker, body, procedures, arm.body)?;
         if let Some(condition) = value {
             checked.push(Arm {
                 condition,
@@ -35,7 +36,7 @@ pub fn alternatives<'a>(
         }
     }
     let otherwise = match otherwise {
-        Some(row) => Some(statements(checker, body, row)?),
+        Some(row) => Some(statements(checker, body, procedures, row)?),
         None => None,
     };
     Ok(Some(CoreStmt::If {
@@ -50,6 +51,7 @@ pub fn alternatives<'a>(
 pub fn choice<'a>(
     checker: &mut Checker<'_, 'a>,
     body: &mut Body<'a>,
+    procedures: &mut Procedures<'a>,
     statement: &Stmt<'a>,
 ) -> Result<Option<CoreStmt<'a>>, NoMemory> {
     let Stmt::Case {
@@ -65,14 +67,14 @@ pub fn choice<'a>(
     let ranges = all_ranges(checker, branches, value)?;
     let mut checked = Vec::new(checker.arena);
     for (place, branch) in branches.iter().enumerate() {
-        let row = statements(checker, body, branch.body)?;
+        let row = statements(checker, body, procedures, branch.body)?;
         checked.push(CaseBranch {
             ranges: ranges_at(ranges, place),
             body: row,
         })?;
     }
     let otherwise = match otherwise {
-        Some(row) => Some(statements(checker, body, row)?),
+        Some(row) => Some(statements(checker, body, procedures, row)?),
         None => None,
     };
     match value {
@@ -91,6 +93,7 @@ pub fn choice<'a>(
 pub fn type_choice<'a>(
     checker: &mut Checker<'_, 'a>,
     body: &mut Body<'a>,
+    procedures: &mut Procedures<'a>,
     statement: &Stmt<'a>,
 ) -> Result<Option<CoreStmt<'a>>, NoMemory> {
     let Stmt::TypeCase {
@@ -113,7 +116,7 @@ pub fn type_choice<'a>(
             (types, branch.kinds.len()),
             value,
         )?;
-        let row = statements(checker, body, branch.body)?;
+        let row = statements(checker, body, procedures, branch.body)?;
         checked.push(TypeBranch {
             types,
             variable,
@@ -121,7 +124,7 @@ pub fn type_choice<'a>(
         })?;
     }
     let otherwise = match otherwise {
-        Some(row) => Some(statements(checker, body, row)?),
+        Some(row) => Some(statements(checker, body, procedures, row)?),
         None => None,
     };
     match value {

@@ -1,7 +1,7 @@
 use crate::sequences::statements;
 use bumpalo::collections::into_bump_slice;
 use m3_base::NoMemory;
-use m3_bodies::Body;
+use m3_bodies::{Body, Procedures};
 use m3_core::{CoreStmt, Handler};
 use m3_exceptions::handler_head;
 use m3_operands::Checker;
@@ -12,6 +12,7 @@ use m3_syntax::Stmt;
 pub fn attempt<'a>(
     checker: &mut Checker<'_, 'a>,
     body: &mut Body<'a>,
+    procedures: &mut Procedures<'a>,
     statement: &Stmt<'a>,
 ) -> Result<Option<CoreStmt<'a>>, NoMemory> {
     match statement {
@@ -20,15 +21,15 @@ pub fn attempt<'a>(
             body: row,
             last,
         } => {
-            let row = statements(checker, body, row)?;
-            let last = statements(checker, body, last)?;
+            let row = statements(checker, body, procedures, row)?;
+            let last = statements(checker, body, procedures, last)?;
             Ok(Some(CoreStmt::TryFinally {
                 pos: *pos,
                 body: row,
                 last,
             }))
         }
-        Stmt::TryExcept { .. } => handled(checker, body, statement),
+        Stmt::TryExcept { .. } => handled(checker, body, procedures, statement),
         _ => Ok(None),
     }
 }
@@ -38,6 +39,7 @@ pub fn attempt<'a>(
 fn handled<'a>(
     checker: &mut Checker<'_, 'a>,
     body: &mut Body<'a>,
+    procedures: &mut Procedures<'a>,
     statement: &Stmt<'a>,
 ) -> Result<Option<CoreStmt<'a>>, NoMemory> {
     let Stmt::TryExcept {
@@ -49,11 +51,11 @@ fn handled<'a>(
     else {
         return Ok(None);
     };
-    let row = statements(checker, body, row)?;
+    let row = statements(checker, body, procedures, row)?;
     let mut checked = Vec::new(checker.arena);
     for one in *handlers {
         let head = handler_head(checker, body, one.exceptions, one.argument)?;
-        let row = statements(checker, body, one.body)?;
+        let row = statements(checker, body, procedures, one.body)?;
         checked.push(Handler {
             exceptions: head.exceptions,
             variable: head.variable,
@@ -61,7 +63,7 @@ fn handled<'a>(
         })?;
     }
     let otherwise = match otherwise {
-        Some(row) => Some(statements(checker, body, row)?),
+        Some(row) => Some(statements(checker, body, procedures, row)?),
         None => None,
     };
     Ok(Some(CoreStmt::TryExcept {

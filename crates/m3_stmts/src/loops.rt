@@ -1,6 +1,6 @@
 use crate::sequences::statements;
 use m3_base::NoMemory;
-use m3_bodies::Body;
+use m3_bodies::{Body, Procedures};
 use m3_bound_names::{for_head, repeat_loop, while_loop};
 use m3_branches::condition;
 use m3_core::CoreStmt;
@@ -12,11 +12,12 @@ use m3_syntax::Stmt;
 fn turn<'a>(
     checker: &mut Checker<'_, 'a>,
     body: &mut Body<'a>,
+    procedures: &mut Procedures<'a>,
     row: &[Stmt<'a>],
 ) -> Result<&'a [CoreStmt<'a>], NoMemory> {
     let loops = body.loops;
     body.loops = loops.saturating_add(1);
-    let row = statements(checker, body, row)?;
+    let row = statements(checker, body, procedures, row)?;
     body.loops = loops;
     Ok(row)
 }
@@ -26,11 +27,12 @@ fn turn<'a>(
 pub fn plain_loop<'a>(
     checker: &mut Checker<'_, 'a>,
     body: &mut Body<'a>,
+    procedures: &mut Procedures<'a>,
     statement: &Stmt<'a>,
 ) -> Result<Option<CoreStmt<'a>>, NoMemory> {
     match statement {
         Stmt::Loop { pos, body: row } => {
-            let row = turn(checker, body, row)?;
+            let row = turn(checker, body, procedures, row)?;
             Ok(Some(CoreStmt::Loop {
                 pos: *pos,
                 body: row,
@@ -42,7 +44,7 @@ pub fn plain_loop<'a>(
             body: row,
         } => {
             let value = condition(checker, value)?;
-            let row = turn(checker, body, row)?;
+            let row = turn(checker, body, procedures, row)?;
             Ok(while_loop(*pos, value, row))
         }
         Stmt::Repeat {
@@ -50,7 +52,7 @@ pub fn plain_loop<'a>(
             body: row,
             condition: value,
         } => {
-            let row = turn(checker, body, row)?;
+            let row = turn(checker, body, procedures, row)?;
             let value = condition(checker, value)?;
             Ok(repeat_loop(*pos, row, value))
         }
@@ -63,12 +65,13 @@ pub fn plain_loop<'a>(
 pub fn for_loop<'a>(
     checker: &mut Checker<'_, 'a>,
     body: &mut Body<'a>,
+    procedures: &mut Procedures<'a>,
     statement: &Stmt<'a>,
 ) -> Result<Option<CoreStmt<'a>>, NoMemory> {
     let Stmt::For { pos, body: row, .. } = statement else {
         return Ok(None);
     };
     let head = for_head(checker, body, statement)?;
-    let row = turn(checker, body, row)?;
+    let row = turn(checker, body, procedures, row)?;
     Ok(head.whole(*pos, row))
 }

@@ -1,7 +1,7 @@
 use crate::sequences::statements;
 use m3_assignments::initial_values;
 use m3_base::NoMemory;
-use m3_bodies::{Body, Heading, declare_formals, declare_locals, define, known};
+use m3_bodies::{Body, Heading, Procedures, declare_formals, declare_locals, define, known};
 use m3_core::CoreStmt;
 use m3_operand_types::result_type;
 use m3_operands::Checker;
@@ -13,6 +13,7 @@ use m3_type_names::judge_declaration;
 #[cycle(statements)]
 pub fn check_procedure<'a>(
     checker: &mut Checker<'_, 'a>,
+    procedures: &mut Procedures<'a>,
     around: Option<u32>,
     declaration: &Decl<'a>,
 ) -> Result<(), NoMemory> {
@@ -30,7 +31,7 @@ pub fn check_procedure<'a>(
     };
     let mut body = Body::new(checker, number, result_type(checker, kind));
     declare_formals(checker, &mut body, signature, kind)?;
-    let checked = block(checker, &mut body, &declared.block)?;
+    let checked = block(checker, &mut body, procedures, &declared.block)?;
     let heading = Heading {
         name: *name,
         kind,
@@ -38,7 +39,7 @@ pub fn check_procedure<'a>(
         pos: *pos,
         end: declared.block.end,
     };
-    define(checker, body, &heading, checked)
+    define(checker, procedures, body, &heading, checked)
 }
 
 /// A block: its variables, the procedures inside it, the initial values and the statements.
@@ -46,6 +47,7 @@ pub fn check_procedure<'a>(
 pub fn block<'a>(
     checker: &mut Checker<'_, 'a>,
     body: &mut Body<'a>,
+    procedures: &mut Procedures<'a>,
     block: &Block<'a>,
 ) -> Result<CoreStmt<'a>, NoMemory> {
     let variables = declare_locals(checker, body, block.declarations)?;
@@ -53,11 +55,11 @@ pub fn block<'a>(
     for declaration in block.declarations {
         judge_declaration(checker, declaration);
         checker.level = level.saturating_add(1);
-        check_procedure(checker, Some(body.number), declaration)?;
+        check_procedure(checker, procedures, Some(body.number), declaration)?;
         checker.level = level;
     }
     let initial = initial_values(checker, block.declarations)?;
-    let statements = statements(checker, body, block.body)?;
+    let statements = statements(checker, body, procedures, block.body)?;
     Ok(CoreStmt::Block {
         pos: block.pos,
         variables,

@@ -1,6 +1,6 @@
 use crate::sequences::statements;
 use m3_base::NoMemory;
-use m3_bodies::Body;
+use m3_bodies::{Body, Procedures};
 use m3_bound_names::bind_all;
 use m3_core::CoreStmt;
 use m3_operands::Checker;
@@ -11,6 +11,7 @@ use m3_syntax::Stmt;
 pub fn bound<'a>(
     checker: &mut Checker<'_, 'a>,
     body: &mut Body<'a>,
+    procedures: &mut Procedures<'a>,
     statement: &Stmt<'a>,
 ) -> Result<Option<CoreStmt<'a>>, NoMemory> {
     let Stmt::With {
@@ -22,7 +23,7 @@ pub fn bound<'a>(
         return Ok(None);
     };
     let bindings = bind_all(checker, body, bindings)?;
-    let row = statements(checker, body, row)?;
+    let row = statements(checker, body, procedures, row)?;
     Ok(Some(CoreStmt::With {
         pos: *pos,
         bindings,

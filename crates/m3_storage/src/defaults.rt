@@ -1,5 +1,5 @@
 use m3_base::NoMemory;
-use m3_core::{Core, Value};
+use m3_core::Value;
 use m3_objects::{node_of, number_of};
 use m3_sizes::SizedTypes;
 use m3_types::{Field, TypeId, TypeNode};
@@ -22,13 +22,17 @@ pub struct ZeroDefaults {
 
 impl ZeroDefaults {
     /// The types of a program. What a type is made of is judged before it, by a list of what waits.
-    pub fn of(alloc: Global, core: &Core) -> Result<ZeroDefaults, NoMemory> {
-        let count = core.types.graph.nodes.len();
+    pub fn of(
+        alloc: Global,
+        types: &SizedTypes,
+        values: &[Value],
+    ) -> Result<ZeroDefaults, NoMemory> {
+        let count = types.graph.nodes.len();
         let mut zeros = ZeroDefaults {
             states: vec![in alloc; State::Unknown; count]?,
         };
         for place in 0..count {
-            zeros.judge_from(alloc, core, TypeId(number_of(place)))?;
+            zeros.judge_from(alloc, types, values, TypeId(number_of(place)))?;
         }
         Ok(zeros)
     }
@@ -47,7 +51,13 @@ impl ZeroDefaults {
         }
     }
 
-    fn judge_from(&mut self, alloc: Global, core: &Core, t: TypeId) -> Result<(), NoMemory> {
+    fn judge_from(
+        &mut self,
+        alloc: Global,
+        types: &SizedTypes,
+        values: &[Value],
+        t: TypeId,
+    ) -> Result<(), NoMemory> {
         let mut waiting = Vec::new(alloc);
         waiting.push(t)?;
         for _ in 0..u32::MAX {
@@ -60,10 +70,10 @@ impl ZeroDefaults {
                 }
                 State::Unknown => {
                     self.set(top, State::Waiting);
-                    self.add_parts(&core.types, top, &mut waiting)?;
+                    self.add_parts(types, top, &mut waiting)?;
                 }
                 State::Waiting => {
-                    let state = self.judged(core, top);
+                    let state = self.judged(types, values, top);
                     self.set(top, state);
                 }
             }
@@ -99,21 +109,21 @@ impl ZeroDefaults {
         Ok(())
     }
 
-    fn judged(&self, core: &Core, t: TypeId) -> State {
-        let is_zero = match node_of(&core.types, t) {
+    fn judged(&self, types: &SizedTypes, values: &[Value], t: TypeId) -> State {
+        let is_zero = match node_of(types, t) {
             TypeNode::FixedArray(_, element) => self.state(element) != State::Other,
-            TypeNode::Fields(fields) => self.are_zero(core, fields),
+            TypeNode::Fields(fields) => self.are_zero(values, fields),
             TypeNode::Subrange(_, first, last) => first <= 0 && 0 <= last,
             _ => true,
         };
         if is_zero { State::Zero } else { State::Other }
     }
 
-    fn are_zero(&self, core: &Core, fields: &[Field]) -> bool {
+    fn are_zero(&self, values: &[Value], fields: &[Field]) -> bool {
         for field in fields {
             let is_zero = match field.default {
                 Some(default) => matches!(
-                    core.values.get(default.source as usize),
+                    values.get(default.source as usize),
                     Some(Value::Number(0)) | Some(Value::Nil)
                 ),
                 None => self.state(field.kind) != State::Other,

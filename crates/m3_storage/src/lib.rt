@@ -4,15 +4,19 @@
 
 mod defaults;
 mod expressions;
-mod placed;
+mod heads;
 mod statements;
 mod storage;
 mod uses;
 mod variables;
 
+pub use heads::Head;
 pub use m3_objects::{
     Cells, Form, Objects, TEXT_CELL, THREAD_CELL, bounds, form_of, number_of, parent_of, unveiled,
     word_number,
 };
 pub use storage::Storage;
-pub use variables::{Room, VarPlace, is_shown, open_dims, stores_result, words_of_variable};
+pub use variables::{
+    GlobalPlace, Room, VarPlace, is_shown, open_dims, stores_result, type_of_variable,
+    words_of_variable,
+};

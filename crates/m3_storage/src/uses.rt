@@ -1,50 +1,79 @@
-use crate::variables::Marks;
+use crate::heads::{Head, Variable};
+use crate::variables::{Room, VarPlace, is_shown, place_formal, place_local, place_result};
 use m3_base::{NoMemory, place_number};
-use m3_core::ProcDef;
+use m3_core::{ProcDef, VarDef};
+use m3_sizes::SizedTypes;
 use m3_types::TypeId;
 use std::alloc::Global;
 
-/// Which variables have their address taken or are reached by inner procedures, which formals are
-/// written, and which constants are named.
+/// The procedures of a program with their variables, and what uses these: which have their address
+/// taken or are reached by inner procedures, and which formals are written; and which constants are
+/// named.
 #[derive(Drop)]
-pub struct Uses {
-    /// The procedure around each procedure.
-    outers: Vec<Option<u32>>,
-    levels: Vec<u32>,
-    /// For each procedure the place of its first variable in `marks`.
-    starts: Vec<u32>,
-    marks: Vec<Marks>,
+pub struct Uses<'a> {
+    heads: Vec<Head<'a>>,
+    /// The variables of all procedures, one procedure behind the other, the formals first.
+    variables: Vec<Variable>,
     /// For each constant the type under which something names it.
     kinds: Vec<Option<TypeId>>,
     /// The procedure that is read.
     proc: u32,
 }
 
-impl Uses {
+impl<'a> Uses<'a> {
     /// No procedures yet, and so many constants.
-    pub fn new(alloc: Global, constants: usize) -> Result<Uses, NoMemory> {
+    pub fn new(alloc: Global, constants: usize) -> Result<Uses<'a>, NoMemory> {
         Ok(Uses {
-            outers: Vec::new(alloc),
-            levels: Vec::new(alloc),
-            starts: Vec::new(alloc),
-            marks: Vec::new(alloc),
+            heads: Vec::new(alloc),
+            variables: Vec::new(alloc),
             kinds: vec![in alloc; None; constants]?,
             proc: 0,
         })
     }
 
-    /// Adds a procedure whose variables nothing uses yet.
-    pub fn add_proc(&mut self, proc: &ProcDef) -> Result<(), NoMemory> {
-        self.outers.push(proc.outer)?;
-        self.levels.push(proc.level)?;
-        self.starts.push(place_number(self.marks.len())?)?;
-        for _ in 0..proc.formals.len() {
-            self.marks.push(Marks::none())?;
-        }
-        for _ in 0..proc.locals.len() {
-            self.marks.push(Marks::none())?;
-        }
+    /// Adds a procedure whose variables nothing uses yet and that have no places.
+    pub fn add_proc(&mut self, types: &SizedTypes, proc: &ProcDef<'a>) -> Result<(), NoMemory> {
+        let head = Head {
+            level: proc.level,
+            outer: proc.outer,
+            result: proc.result,
+            raises: proc.raises,
+            pos: proc.pos,
+            end: proc.end,
+            formals: place_number(proc.formals.len())?,
+            variables: place_number(proc.formals.len().saturating_add(proc.locals.len()))?,
+            first: place_number(self.variables.len())?,
+            room: Room::none(),
+        };
+        self.heads.push(head)?;
+        let shown = self.add_variables(types, proc.formals, 0)?;
+        self.add_variables(types, proc.locals, shown)?;
         Ok(())
+    }
+
+    /// Adds variables of a procedure in which so many are shown before them, and tells how many are
+    /// shown with them.
+    fn add_variables(
+        &mut self,
+        types: &SizedTypes,
+        row: &[VarDef],
+        before: u32,
+    ) -> Result<u32, NoMemory> {
+        let mut next = before;
+        for variable in row {
+            let is_shown = is_shown(types, variable.kind, variable.role);
+            self.variables.push(Variable {
+                kind: variable.kind,
+                place: VarPlace::Slots(0),
+                shown: if is_shown { Some(next) } else { None },
+                is_shared: false,
+                is_written: false,
+            })?;
+            if is_shown {
+                next = next.saturating_add(1);
+            }
+        }
+        Ok(next)
     }
 
     /// From now on the body of this procedure is read.
@@ -52,39 +81,71 @@ impl Uses {
         self.proc = proc;
     }
 
+    /// Gives the variables of all procedures their places, by what uses them.
+    pub fn place_all(&mut self, types: &SizedTypes) -> Result<(), NoMemory> {
+        for at in 0..self.heads.len() {
+            if let Some(head) = self.heads.get(at).copied() {
+                let room = self.place_variables(types, head)?;
+                if let Some(head) = self.heads.get_mut(at) {
+                    head.room = room;
+                }
+            }
+        }
+        Ok(())
+    }
+
+    /// Gives each variable of a procedure its place, and tells the room that they take. The words
+    /// of the formals come first, in order, also where the formal itself is then kept in
+    /// temporaries.
+    fn place_variables(&mut self, types: &SizedTypes, head: Head) -> Result<Room, NoMemory> {
+        let mut room = Room::none();
+        let start = head.first as usize;
+        let locals = start.saturating_add(head.formals as usize);
+        for at in start..locals {
+            if let Some(variable) = self.variables.get_mut(at) {
+                place_formal(types, variable, &mut room)?;
+            }
+        }
+        place_result(types, head.result, &mut room)?;
+        for at in locals..start.saturating_add(head.variables as usize) {
+            if let Some(variable) = self.variables.get_mut(at) {
+                place_local(types, variable, &mut room)?;
+            }
+        }
+        Ok(room)
+    }
+
+    /// The head of a procedure.
+    pub fn head(&self, proc: u32) -> Option<&Head<'a>> {
+        self.heads.get(proc as usize)
+    }
+
     /// The procedure at a level around another, or that other itself.
     pub fn owner(&self, proc: u32, level: u32) -> u32 {
         let mut at = proc;
-        for _ in 0..self.outers.len() {
-            let is_there = match self.levels.get(at as usize) {
-                Some(own) => *own <= level,
-                None => true,
-            };
-            if is_there {
-                break;
-            }
-            match self.outers.get(at as usize) {
-                Some(Some(outer)) => at = *outer,
+        for _ in 0..self.heads.len() {
+            match self.heads.get(at as usize) {
+                Some(head) if head.level > level => match head.outer {
+                    Some(outer) => at = outer,
+                    None => break,
+                },
                 _ => break,
             }
         }
         at
     }
 
-    /// The place of a procedure's first variable in a list of all variables.
-    pub fn start(&self, proc: u32) -> Option<usize> {
-        match self.starts.get(proc as usize) {
-            Some(start) => Some(*start as usize),
-            None => None,
+    /// The place of a variable of a procedure in the list of all.
+    fn index(&self, proc: u32, variable: u32) -> usize {
+        match self.heads.get(proc as usize) {
+            Some(head) => (head.first as usize).saturating_add(variable as usize),
+            None => usize::MAX,
         }
     }
 
-    /// What is known of the variables from a place on.
-    pub fn marks_from(&self, start: usize) -> &[Marks] {
-        match self.marks.get(start..) {
-            Some(marks) => marks,
-            None => &[],
-        }
+    /// A variable of a procedure, by its place in its formals and locals.
+    pub fn variable(&self, proc: u32, variable: u32) -> Option<&Variable> {
+        self.variables.get(self.index(proc, variable))
     }
 
     /// The type under which a constant is named; none where nothing names it.
@@ -103,22 +164,18 @@ impl Uses {
     }
 
     fn level(&self) -> u32 {
-        match self.levels.get(self.proc as usize) {
-            Some(level) => *level,
+        match self.heads.get(self.proc as usize) {
+            Some(head) => head.level,
             None => 0,
         }
     }
 
     fn mark(&mut self, level: u32, variable: u32, is_written: bool) {
         let owner = self.owner(self.proc, level);
-        let Some(start) = self.start(owner) else {
-            return;
-        };
-        if let Some(marks) = self.marks.get_mut(start.saturating_add(variable as usize)) {
-            *marks = Marks {
-                is_shared: marks.is_shared || !is_written,
-                is_written: true,
-            };
+        let at = self.index(owner, variable);
+        if let Some(variable) = self.variables.get_mut(at) {
+            variable.is_shared |= !is_written;
+            variable.is_written = true;
         }
     }
 

@@ -1,5 +1,6 @@
-use m3_base::{NoMemory, place_number};
-use m3_core::{Core, ProcDef, Role, VarDef, VarKind};
+use crate::heads::Variable;
+use m3_base::NoMemory;
+use m3_core::{Role, VarDef, VarKind};
 use m3_objects::{Form, form_of, node_of};
 use m3_sizes::SizedTypes;
 use m3_types::{TypeId, TypeNode};
@@ -20,25 +21,6 @@ pub enum VarPlace {
     Slots(u32),
 }
 
-/// What is known of a variable before it has a place.
-#[derive(Clone, Copy, Debug, PartialEq, Eq)]
-pub struct Marks {
-    /// Its address is taken, or a procedure inside its own reaches it.
-    pub is_shared: bool,
-    /// A formal that is written.
-    pub is_written: bool,
-}
-
-impl Marks {
-    /// Nothing is known yet.
-    pub fn none() -> Marks {
-        Marks {
-            is_shared: false,
-            is_written: false,
-        }
-    }
-}
-
 /// The dimensions of an open array type, and 0 for any other type.
 pub fn open_dims(types: &SizedTypes, t: TypeId) -> u32 {
     let mut dims = 0u32;
@@ -56,7 +38,7 @@ pub fn open_dims(types: &SizedTypes, t: TypeId) -> u32 {
 }
 
 /// The type of a variable or of what an alias stands for.
-pub fn type_of(kind: VarKind) -> TypeId {
+pub fn type_of_variable(kind: VarKind) -> TypeId {
     match kind {
         VarKind::Variable(t)
         | VarKind::ByValue(t)
@@ -84,18 +66,18 @@ pub fn words_of_variable(types: &SizedTypes, kind: VarKind) -> u64 {
 }
 
 /// Whether slots keep a variable, and not temporaries.
-fn needs_slots(types: &SizedTypes, variable: &VarDef, marks: Marks) -> bool {
+fn needs_slots(types: &SizedTypes, variable: &Variable) -> bool {
     match variable.kind {
-        VarKind::Alias(_) => marks.is_shared,
+        VarKind::Alias(_) => variable.is_shared,
         VarKind::ByVar(_) | VarKind::ByReadonly(_) => true,
         VarKind::ByValue(t) => {
             let form = form_of(types, t);
-            let is_moved = form == Form::Reference && marks.is_written;
-            marks.is_shared || is_moved || !form.is_scalar()
+            let is_moved = form == Form::Reference && variable.is_written;
+            variable.is_shared || is_moved || !form.is_scalar()
         }
         VarKind::Variable(t) => match form_of(types, t) {
-            Form::Open => marks.is_shared,
-            form => marks.is_shared || !form.is_scalar(),
+            Form::Open => variable.is_shared,
+            form => variable.is_shared || !form.is_scalar(),
         },
     }
 }
@@ -110,9 +92,20 @@ pub struct Room {
     pub temps: u32,
 }
 
-/// Whether a procedure stores its result at an address that its caller gives.
-pub fn stores_result(types: &SizedTypes, proc: &ProcDef) -> bool {
-    match proc.result {
+impl Room {
+    /// No slots and no temporaries.
+    pub fn none() -> Room {
+        Room {
+            formals: 0,
+            slots: 0,
+            temps: 0,
+        }
+    }
+}
+
+/// Whether a procedure with a result of a type stores it at an address that its caller gives.
+pub fn stores_result(types: &SizedTypes, kind: Option<TypeId>) -> bool {
+    match kind {
         Some(t) => form_of(types, t).words() >= 2,
         None => false,
     }
@@ -125,122 +118,85 @@ fn further(at: u32, words: u64) -> Result<u32, NoMemory> {
     }
 }
 
-/// Gives each variable of a procedure its place, and tells the room that they take. The words of
-/// the formals come first, in order, also where the formal itself is then kept in temporaries.
-pub fn place_all(
+/// Gives a formal its place behind those before it.
+pub fn place_formal(
     types: &SizedTypes,
-    proc: &ProcDef,
-    marks: &[Marks],
-    places: &mut Vec<VarPlace>,
-) -> Result<Room, NoMemory> {
-    let mut room = Room {
-        formals: 0,
-        slots: 0,
-        temps: 0,
-    };
-    let mut variable = 0usize;
-    for formal in proc.formals {
-        let words = words_of_variable(types, formal.kind);
-        let slot = room.slots;
-        room.slots = further(slot, words)?;
-        if needs_slots(types, formal, marks_at(marks, variable)) {
-            places.push(VarPlace::Slots(slot))?;
-        } else {
-            places.push(VarPlace::Temps(room.temps))?;
-            room.temps = further(room.temps, words)?;
-        }
-        variable = variable.saturating_add(1);
-    }
-    if stores_result(types, proc) {
-        room.slots = further(room.slots, 1)?;
-    }
-    room.formals = room.slots;
-    place_locals(types, proc, marks, places, &mut room)?;
-    Ok(room)
-}
-
-fn place_locals(
-    types: &SizedTypes,
-    proc: &ProcDef,
-    marks: &[Marks],
-    places: &mut Vec<VarPlace>,
+    formal: &mut Variable,
     room: &mut Room,
 ) -> Result<(), NoMemory> {
-    let mut variable = proc.formals.len();
-    for local in proc.locals {
-        let words = words_of_variable(types, local.kind);
-        if needs_slots(types, local, marks_at(marks, variable)) {
-            places.push(VarPlace::Slots(room.slots))?;
-            room.slots = further(room.slots, words)?;
-        } else {
-            places.push(VarPlace::Temps(room.temps))?;
-            room.temps = further(room.temps, words)?;
-        }
-        variable = variable.saturating_add(1);
+    let words = words_of_variable(types, formal.kind);
+    let slot = room.slots;
+    room.slots = further(slot, words)?;
+    if needs_slots(types, formal) {
+        formal.place = VarPlace::Slots(slot);
+    } else {
+        formal.place = VarPlace::Temps(room.temps);
+        room.temps = further(room.temps, words)?;
     }
     Ok(())
 }
 
-pub fn marks_at(marks: &[Marks], variable: usize) -> Marks {
-    match marks.get(variable) {
-        Some(marks) => *marks,
-        None => Marks {
-            is_shared: true,
-            is_written: true,
-        },
+/// Keeps room for the address of a result behind the formals, where there is one.
+pub fn place_result(
+    types: &SizedTypes,
+    kind: Option<TypeId>,
+    room: &mut Room,
+) -> Result<(), NoMemory> {
+    if stores_result(types, kind) {
+        room.slots = further(room.slots, 1)?;
     }
+    room.formals = room.slots;
+    Ok(())
 }
 
-/// The first word of each global variable, counted from the start of the globals, and the words of
-/// all.
-pub fn place_globals(alloc: Global, core: &Core) -> Result<(Vec<u32>, u32), NoMemory> {
+/// Gives a variable that is no formal its place behind those before it.
+pub fn place_local(
+    types: &SizedTypes,
+    local: &mut Variable,
+    room: &mut Room,
+) -> Result<(), NoMemory> {
+    let words = words_of_variable(types, local.kind);
+    if needs_slots(types, local) {
+        local.place = VarPlace::Slots(room.slots);
+        room.slots = further(room.slots, words)?;
+    } else {
+        local.place = VarPlace::Temps(room.temps);
+        room.temps = further(room.temps, words)?;
+    }
+    Ok(())
+}
+
+/// A global variable: the first of its words, counted from the start of the globals, and its type.
+#[derive(Clone, Copy, Debug, PartialEq, Eq)]
+pub struct GlobalPlace {
+    pub word: u32,
+    pub kind: TypeId,
+}
+
+/// The places of the global variables, and the words of all.
+pub fn place_globals(
+    alloc: Global,
+    types: &SizedTypes,
+    globals: &[VarDef],
+) -> Result<(Vec<GlobalPlace>, u32), NoMemory> {
     let mut places = Vec::new(alloc);
     let mut next = 4u32;
-    for global in core.globals {
-        places.push(next)?;
-        next = further(next, words_of_variable(&core.types, global.kind))?;
+    for global in globals {
+        places.push(GlobalPlace {
+            word: next,
+            kind: type_of_variable(global.kind),
+        })?;
+        next = further(next, words_of_variable(types, global.kind))?;
     }
     Ok((places, next))
 }
 
-/// How many of the variables of a procedure are shown at points: those of an ordinal or reference
-/// type, with their place among these, or none.
-pub fn shown_places(
-    types: &SizedTypes,
-    proc: &ProcDef,
-    places: &mut Vec<Option<u32>>,
-) -> Result<(), NoMemory> {
-    let mut next = 0usize;
-    for variable in proc.formals {
-        note_shown(types, variable, &mut next, places)?;
-    }
-    for variable in proc.locals {
-        note_shown(types, variable, &mut next, places)?;
-    }
-    Ok(())
-}
-
-fn note_shown(
-    types: &SizedTypes,
-    variable: &VarDef,
-    next: &mut usize,
-    places: &mut Vec<Option<u32>>,
-) -> Result<(), NoMemory> {
-    if is_shown(types, variable) {
-        places.push(Some(place_number(*next)?))?;
-        *next = next.saturating_add(1);
-    } else {
-        places.push(None)?;
-    }
-    Ok(())
-}
-
 /// Whether the value of a variable is shown: it is of an ordinal or reference type, stands for no
 /// place, and isn't the hidden name of a LOCK.
-pub fn is_shown(types: &SizedTypes, variable: &VarDef) -> bool {
-    match variable.kind {
+pub fn is_shown(types: &SizedTypes, kind: VarKind, role: Role) -> bool {
+    match kind {
         VarKind::Variable(t) | VarKind::ByValue(t) => {
-            variable.role != Role::Lock && is_ordinal_or_reference(types, t)
+            role != Role::Lock && is_ordinal_or_reference(types, t)
         }
         VarKind::ByVar(_) | VarKind::ByReadonly(_) | VarKind::Alias(_) => false,
     }

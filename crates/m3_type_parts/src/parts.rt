@@ -3,7 +3,7 @@ use bumpalo::collections::into_bump_slice;
 use m3_base::{NoMemory, Pos};
 use m3_constant_values::{constant_of, intern, typed_constant};
 use m3_core::Value;
-use m3_declarer::{BrandAt, Declarer};
+use m3_declarer::{BrandAt, Declarer, Doubts};
 use m3_early_names::entity_named;
 use m3_early_types::{base_of, is_ordinal, share_base};
 use m3_syntax::{Expr, Init, Name, Signature};
@@ -27,11 +27,12 @@ fn mode_of(mode: m3_syntax::Mode) -> Mode {
 /// A subrange by its bounds (rule 44 for those that are no ordinals of one base).
 pub fn subrange<'a>(
     declarer: &mut Declarer<'_, 'a>,
+    doubts: &mut Doubts<'a>,
     first: &'a Expr<'a>,
     last: &'a Expr<'a>,
 ) -> Result<Option<TypeNode<'a>>, NoMemory> {
-    let from = typed_constant(declarer, first)?;
-    let to = typed_constant(declarer, last)?;
+    let from = typed_constant(declarer, doubts, first)?;
+    let to = typed_constant(declarer, doubts, last)?;
     let from = bound_of(declarer, first.pos(), from)?;
     let to = bound_of(declarer, last.pos(), to)?;
     let (Some((kind, from)), Some((other, to))) = (from, to) else {
@@ -79,18 +80,22 @@ pub fn initial_of<'a>(
 }
 
 /// The type and the default of fields or formals (rule 44 for a default that can't be assigned).
-fn given_by<'a>(declarer: &mut Declarer<'_, 'a>, init: &'a Init<'a>) -> Result<Given, NoMemory> {
+fn given_by<'a>(
+    declarer: &mut Declarer<'_, 'a>,
+    doubts: &mut Doubts<'a>,
+    init: &'a Init<'a>,
+) -> Result<Given, NoMemory> {
     match init {
         Init::Typed(kind, default) => {
             let kind = declarer.kind_of(kind);
             let value = match default {
-                Some(default) => constant_of(declarer, default, kind)?,
+                Some(default) => constant_of(declarer, doubts, default, kind)?,
                 None => None,
             };
             let default = initial_of(declarer, value)?;
             Ok(Given { kind, default })
         }
-        Init::Untyped(default) => match typed_constant(declarer, default)? {
+        Init::Untyped(default) => match typed_constant(declarer, doubts, default)? {
             Some((kind, value)) => {
                 let default = initial_of(declarer, Some(value))?;
                 Ok(Given { kind, default })
@@ -106,11 +111,12 @@ fn given_by<'a>(declarer: &mut Declarer<'_, 'a>, init: &'a Init<'a>) -> Result<G
 /// The fields of a record type, or those that an object type adds.
 pub fn field_row<'a>(
     declarer: &mut Declarer<'_, 'a>,
+    doubts: &mut Doubts<'a>,
     fields: &'a [m3_syntax::Field<'a>],
 ) -> Result<&'a [Field<'a>], NoMemory> {
     let mut row = Vec::new(declarer.eval.arena);
     for field in fields {
-        let given = given_by(declarer, &field.init)?;
+        let given = given_by(declarer, doubts, &field.init)?;
         add_fields(&mut row, field.names, given)?;
     }
     Ok(into_bump_slice(row))
@@ -119,11 +125,12 @@ pub fn field_row<'a>(
 /// The definition of a procedure type.
 pub fn signature_node<'a>(
     declarer: &mut Declarer<'_, 'a>,
+    doubts: &mut Doubts<'a>,
     signature: &'a Signature<'a>,
 ) -> Result<TypeNode<'a>, NoMemory> {
     let mut row = Vec::new(declarer.eval.arena);
     for formal in signature.formals {
-        let given = given_by(declarer, &formal.init)?;
+        let given = given_by(declarer, doubts, &formal.init)?;
         add_formals(&mut row, formal.names, mode_of(formal.mode), given)?;
     }
     let result = match signature.result {
@@ -164,13 +171,14 @@ fn raises_of<'a>(
 /// The brand of a type (rule 44 for one that is no text).
 pub fn brand_of<'a>(
     declarer: &mut Declarer<'_, 'a>,
+    doubts: &mut Doubts<'a>,
     brand: Option<m3_syntax::Brand<'a>>,
 ) -> Result<Option<Brand<'a>>, NoMemory> {
     let Some(brand) = brand else {
         return Ok(None);
     };
     if let Some(value) = brand.text {
-        if let Some((_, known)) = typed_constant(declarer, value)? {
+        if let Some((_, known)) = typed_constant(declarer, doubts, value)? {
             match declarer.bytes_of(known) {
                 Some(text) => {
                     note_brand(declarer, text, value.pos())?;

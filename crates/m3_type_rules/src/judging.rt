@@ -1,7 +1,7 @@
 use m3_base::{NoMemory, Pos, place_number};
-use m3_declarer::Declarer;
+use m3_declarer::{Declarer, Trees};
 use m3_gathered::TypeAt;
-use m3_scopes::{Declaration, EntityId, EntityKind};
+use m3_scopes::{Declaration, Entity, EntityId, EntityKind};
 use m3_syntax::{Init, ObjectPart, Signature, TypeExp};
 use m3_types::{TypeId, TypeNode};
 
@@ -21,15 +21,19 @@ fn place_of(init: &Init<'_>) -> Pos {
 }
 
 /// Rules 47 and 48 on the parts of types, and on variables.
-pub fn judge_parts<'a>(declarer: &mut Declarer<'_, 'a>) -> Result<(), NoMemory> {
-    for place in 0..declarer.gathered.types.len() {
-        if let Some(written) = declarer.gathered.types.get(place).copied() {
-            judge_type(declarer, written);
-        }
+pub fn judge_parts<'a>(
+    declarer: &mut Declarer<'_, 'a>,
+    trees: &Trees<'_, 'a>,
+) -> Result<(), NoMemory> {
+    for written in &trees.gathered.types {
+        judge_type(declarer, written);
     }
-    for place in 0..declarer.eval.program.binds.entities().len() {
+    let program = declarer.eval.program;
+    for (place, entity) in program.binds.entities().iter().enumerate() {
         let id = EntityId(place_number(place)?);
-        judge_entity(declarer, id);
+        if let Some(declaration) = trees.declaration(entity) {
+            judge_entity(declarer, declaration, entity, id);
+        }
     }
     Ok(())
 }
@@ -76,7 +80,7 @@ fn judge_ordinal<'a>(
     Some(kind)
 }
 
-fn judge_type<'a>(declarer: &mut Declarer<'_, 'a>, written: TypeAt<'a>) {
+fn judge_type<'a>(declarer: &mut Declarer<'_, 'a>, written: &TypeAt<'a>) {
     let unit = written.unit;
     declarer.eval.unit = unit;
     match written.kind {
@@ -212,20 +216,20 @@ fn judge_signature<'a>(
     }
 }
 
-fn judge_entity<'a>(declarer: &mut Declarer<'_, 'a>, id: EntityId) {
-    let (Some(entity), Some(kind)) = (
-        declarer.eval.program.binds.entity(id),
-        declarer.eval.declared.kind_of(id),
-    ) else {
+fn judge_entity<'a>(
+    declarer: &mut Declarer<'_, 'a>,
+    declaration: &Declaration<'a>,
+    entity: &Entity<'a>,
+    id: EntityId,
+) {
+    let Some(kind) = declarer.eval.declared.kind_of(id) else {
         return;
     };
-    match (entity.kind, declarer.declaration(&entity)) {
-        (EntityKind::Variable, _) => {
-            if let Some(init) = declarer.init_of(&entity) {
-                judge_held(declarer, entity.unit, place_of(init), kind, Open::Forbidden);
-            }
+    match declaration {
+        Declaration::Variable(init) if entity.kind == EntityKind::Variable => {
+            judge_held(declarer, entity.unit, place_of(init), kind, Open::Forbidden);
         }
-        (EntityKind::Procedure, Some(Declaration::Procedure { signature, .. })) => {
+        Declaration::Procedure { signature, .. } if entity.kind == EntityKind::Procedure => {
             judge_signature(declarer, entity.unit, kind, signature);
         }
         _ => {}

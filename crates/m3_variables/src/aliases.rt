@@ -56,10 +56,10 @@ pub fn emit_alias<'m>(
     let VarPlace::Slots(slot) = b.storage.place(owner, variable) else {
         return rest;
     };
-    let is_formal = match b.storage.variable(owner, variable) {
-        Some(def) => matches!(def.kind, VarKind::ByVar(_) | VarKind::ByReadonly(_)),
-        None => false,
-    };
+    let is_formal = matches!(
+        b.storage.kind_of_variable(owner, variable),
+        Some(VarKind::ByVar(_) | VarKind::ByReadonly(_))
+    );
     let (address, base) = address_and_base(place);
     if is_own {
         let at = Place::plain(Location::Slots(slot));

@@ -43,9 +43,6 @@ pub fn environment_of<'m>(
     to: u32,
     rest: Pending<'m>,
 ) -> Pending<'m> {
-    let level = match b.storage.proc(procedure) {
-        Some(def) => def.level.saturating_sub(1),
-        None => 0,
-    };
+    let level = b.storage.level(procedure).saturating_sub(1);
     frame_of(b, level, to, rest)
 }

@@ -7,7 +7,7 @@ use m3_builder::{
 };
 use m3_core::{Base, Chain, Step};
 use m3_mid::{Kind, Operand};
-use m3_shapes::{dims_of, new_sizes, plan_element};
+use m3_shapes::{dims_of, index_of, new_sizes, plan_element};
 use m3_storage::Form;
 use m3_types::TypeId;
 
@@ -79,7 +79,7 @@ pub fn plan_step<'m>(
         }
         Step::ObjectField { owner, field, .. } => {
             let cell = temp_of(b, before);
-            let types = &b.storage.core.types;
+            let types = b.storage.types;
             let offset = b.storage.objects.object_field(types, *owner, *field);
             Value::At(Place {
                 at: Location::Address {
@@ -92,7 +92,7 @@ pub fn plan_step<'m>(
             })
         }
         Step::Element { index, .. } => {
-            Value::At(plan_element(b, before.place(), before_kind, index))
+            Value::At(plan_element(b, before.place(), before_kind, index_of(index)))
         }
         Step::Call { kind, .. } | Step::MethodCall { kind, .. } => plan_result(b, *kind),
     }

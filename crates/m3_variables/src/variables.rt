@@ -53,10 +53,10 @@ pub fn plan_local(b: &mut Builder, level: u32, variable: u32, kind: TypeId) -> P
 
 /// Whether a variable of an open array type is a VALUE formal, whose cell was made for it.
 fn is_copied(b: &Builder, owner: u32, variable: u32) -> bool {
-    match b.storage.variable(owner, variable) {
-        Some(def) => matches!(def.kind, VarKind::ByValue(_)),
-        None => false,
-    }
+    matches!(
+        b.storage.kind_of_variable(owner, variable),
+        Some(VarKind::ByValue(_))
+    )
 }
 
 /// The place behind the cell of an open array that was copied for a VALUE formal.

@@ -1,4 +1,4 @@
-use crate::{MemShelf, MemSink, Shelf, ShelfFault, Sink, SinkFailed};
+use m3_ports::{MemShelf, MemSink, Shelf, ShelfFault, Sink, SinkFailed};
 use std::test::Fail;
 
 #[test]
