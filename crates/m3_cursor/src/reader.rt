@@ -5,10 +5,10 @@ ghost use Rattle.m3_grammar.specs.Tokens.{IsAt, IsToken, IsWritten, IsWord, IsSi
 ghost use Rattle.m3_cursor.specs.Readers.{Follows, Reads};
 
 use bumpalo::Bump;
-use m3_base::Pos;
+use m3_base::{NoMemory, Pos};
 use m3_grammar::{is_sign, is_word};
 use m3_stops::{Stop, Why};
-use m3_syntax::{Lexed, Name, Sign, Token, TokenKind, Word};
+use m3_syntax::{Kept, Lexed, Name, Sign, Token, TokenKind, Word};
 use std::alloc::Global;
 
 /// Reads the tokens of a file from the first to the last. It keeps the first error, and stands at
@@ -327,6 +327,20 @@ impl<'t, 'a> Reader<'t, 'a> {
         }
     }
 
+    /// Keeps the parts of a unit. None where there is no memory for them.
+    pub fn parts<T: Copy>(&mut self, parts: T) -> Option<Kept<'a, T>>
+        ensures follows { Follows self.old self.new }
+        ensures stopped { IfNone result (IsSome self.new.stop) }
+    {
+        match kept(self.arena, parts) {
+            Ok(kept) => Some(kept),
+            Err(_) => {
+                self.fail(Why::NoMemory);
+                None
+            }
+        }
+    }
+
     /// Keeps a node. Where there is no memory for it, a spare one stands for it.
     pub fn node<T: Copy>(&mut self, node: T, spare: &'a T) -> &'a T
         ensures follows { Follows self.old self.new }
@@ -341,4 +355,10 @@ impl<'t, 'a> Reader<'t, 'a> {
             }
         }
     }
+}
+
+/// Keeps what a unit consists of in the arena.
+fn kept<'a, T: Copy>(arena: &'a Bump, parts: T) -> Result<Kept<'a, T>, NoMemory> {
+    let kept = arena.try_alloc(Box::new(arena, parts)?)?;
+    Ok(&*kept)
 }

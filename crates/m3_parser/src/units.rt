@@ -1,15 +1,15 @@
-ghost use Rattle.std.specs.Prelude.{◌≡◌, ◌<◌, ◌≤◌, IfOk, IfErr, OnOk, OnSome, List, length};
+ghost use Rattle.std.specs.Prelude.{◌≡◌, ◌<◌, ◌≤◌, IfOk, IfErr, OnOk, OnSome, None, List, length};
 ghost use Rattle.m3_syntax.specs.declared.tokens.Token.{Token};
 ghost use Rattle.m3_cursor.specs.Readers.{Follows, IsRest};
 ghost use Rattle.m3_parser.specs.Places.{HasPlaces};
 ghost use Rattle.m3_stops.specs.Refusals.{IsRefusal};
 
 use bumpalo::Bump;
-use m3_base::{NoMemory, Refused};
-use m3_cursor::{Reader, name_list, names_between};
+use m3_base::Refused;
+use m3_cursor::{Heading, Reader, closing_name, name_list, names_between, unit_heading};
 use m3_statements::{block, declaration_list};
-use m3_stops::{MAX_TOKENS, refusal_of, too_many_tokens, wrong_closing};
-use m3_syntax::{Import, ImportItem, Kept, Lexed, Name, Sign, Unit, UnitKind, Word};
+use m3_stops::{counted, refusal_of};
+use m3_syntax::{Block, Decl, Import, ImportItem, Kept, Lexed, Name, Sign, Unit, UnitKind, Word};
 use std::alloc::Global;
 
 /// How many constructs may be open at a place.
@@ -29,135 +29,71 @@ pub fn parse<'a>(alloc: Global, arena: &'a Bump, lexed: &Lexed<'a>) -> Result<Un
     ensures refused { IfErr result (IsRefusal lexed.now.end lexed.now.tokens.items) }
 {
     let mut reader = Reader::new(alloc, arena, lexed);
-    let found = unit(&mut reader);
+    let unit = unit(&mut reader);
     match reader.stop() {
         Some(stop) => Err(refusal_of(lexed, stop)),
-        None => match found {
-            Ok(unit) => finished(lexed, unit, reader.wrong_closing()),
-            Err(_) => Err(Refused::NoMemory),
+        None => match counted(lexed, reader.wrong_closing()) {
+            Ok(tokens) => Ok(Unit { tokens, ..unit }),
+            Err(refused) => Err(refused),
         },
     }
 }
 
-/// The unit of a file that was read to its end, with the number of its tokens, where these aren't
-/// too many and no closing name, given how many tokens were left there, is wrong.
-fn finished<'a>(
-    lexed: &Lexed<'a>,
-    unit: Unit<'a>,
-    wrong: Option<usize>,
-) -> Result<Unit<'a>, Refused>
-    requires places { HasPlaces lexed.now.tokens.items unit }
-    requires closed { wrong ≡ None → unit.closing.text.now ≡ unit.name.text.now }
-    ensures tokens { IfOk result (λ found. found.tokens ≡ length lexed.now.tokens.items) }
-    ensures within_limit { OnOk result (length lexed.now.tokens.items ≤ 500000) }
-    ensures places { IfOk result (HasPlaces lexed.now.tokens.items) }
-    ensures closed { IfOk result (λ found. found.closing.text.now ≡ found.name.text.now) }
-    ensures refused { IfErr result (IsRefusal lexed.now.end lexed.now.tokens.items) }
-{
-    let count = lexed.tokens.len();
-    if count > MAX_TOKENS {
-        return Err(too_many_tokens(lexed));
-    }
-    match wrong {
-        Some(left) => Err(wrong_closing(lexed, left)),
-        None => Ok(Unit {
-            tokens: count as u32,
-            ..unit
-        }),
-    }
-}
-
 /// The unit that all tokens make. The number of tokens is left at 0.
-fn unit<'a>(reader: &mut Reader<'_, 'a>) -> Result<Unit<'a>, NoMemory>
+fn unit<'a>(reader: &mut Reader<'_, 'a>) -> Unit<'a>
     ensures follows { Follows reader.old reader.new }
     ensures places { (file : List Token) → IsRest file reader.old.rest.now → reader.new.stop ≡ None
-        → IfOk result (HasPlaces file) }
+        → HasPlaces file result }
     ensures closed { reader.new.wrong_closing ≡ None
-        → IfOk result (λ unit. unit.closing.text.now ≡ unit.name.text.now) }
+        → result.closing.text.now ≡ result.name.text.now }
 {
-    let pos = reader.pos();
-    let words = first_words(reader);
-    let name = reader.take_name();
-    let kind = unit_kind(reader, words);
-    let closing = reader.take_closing(&name);
-    end_of_file(reader);
-    Ok(Unit {
-        pos,
-        is_unsafe: words.is_unsafe,
-        name,
-        kind: kind?,
+    let heading = unit_heading(reader);
+    let kind = unit_kind(reader, &heading);
+    let closing = closing_name(reader, &heading.name);
+    Unit {
+        pos: heading.pos,
+        is_unsafe: heading.words.is_unsafe,
+        name: heading.name,
+        kind,
         closing,
         tokens: 0,
-    })
-}
-
-/// What the words before a unit's name say of it.
-#[derive(Clone, Copy)]
-struct FirstWords {
-    is_unsafe: bool,
-    is_generic: bool,
-    is_interface: bool,
-}
-
-fn first_words(reader: &mut Reader<'_, '_>) -> FirstWords
-    ensures { Follows reader.old reader.new }
-{
-    let is_unsafe = reader.skip_word(Word::Unsafe);
-    let is_generic = !is_unsafe && reader.skip_word(Word::Generic);
-    let is_interface = reader.skip_word(Word::Interface);
-    if !is_interface {
-        reader.take_word(Word::Module);
-    }
-    FirstWords {
-        is_unsafe,
-        is_generic,
-        is_interface,
     }
 }
 
 /// What stands in a unit behind its name, up to its closing name.
-fn unit_kind<'a>(reader: &mut Reader<'_, 'a>, words: FirstWords) -> Result<UnitKind<'a>, NoMemory>
+fn unit_kind<'a>(reader: &mut Reader<'_, 'a>, heading: &Heading<'a>) -> UnitKind<'a>
     ensures { Follows reader.old reader.new }
 {
-    if words.is_generic {
-        generic(reader, words.is_interface)
-    } else if words.is_interface {
-        interface(reader)
+    if heading.words.is_generic {
+        generic(reader, heading)
+    } else if heading.words.is_interface {
+        interface(reader, heading)
     } else {
-        module(reader)
-    }
-}
-
-/// Goes past the dot that ends a file.
-fn end_of_file(reader: &mut Reader<'_, '_>)
-    ensures { Follows reader.old reader.new }
-{
-    reader.take_sign(Sign::Dot);
-    if reader.kind().is_some() {
-        reader.unexpected();
+        module(reader, heading)
     }
 }
 
 /// What stands in an interface behind its name, up to its closing name.
-fn interface<'a>(reader: &mut Reader<'_, 'a>) -> Result<UnitKind<'a>, NoMemory>
+fn interface<'a>(reader: &mut Reader<'_, 'a>, heading: &Heading<'a>) -> UnitKind<'a>
     ensures { Follows reader.old reader.new }
 {
     if reader.skip_sign(Sign::Equal) {
         let (generic, actuals) = instance(reader);
-        return Ok(UnitKind::InterfaceInstance { generic, actuals });
+        return UnitKind::InterfaceInstance { generic, actuals };
     }
     reader.take_sign(Sign::Semicolon);
     let imports = imports(reader);
-    let declarations = declaration_list(reader, MAX_OPEN);
-    reader.take_word(Word::End);
-    Ok(UnitKind::Interface {
+    let Some(declarations) = kept_declarations(reader) else {
+        return no_kind(heading);
+    };
+    UnitKind::Interface {
         imports,
-        declarations: kept(reader.arena, declarations)?,
-    })
+        declarations,
+    }
 }
 
 /// What stands in a module behind its name, up to its closing name.
-fn module<'a>(reader: &mut Reader<'_, 'a>) -> Result<UnitKind<'a>, NoMemory>
+fn module<'a>(reader: &mut Reader<'_, 'a>, heading: &Heading<'a>) -> UnitKind<'a>
     ensures { Follows reader.old reader.new }
 {
     let exports = if reader.skip_word(Word::Exports) {
@@ -167,50 +103,75 @@ fn module<'a>(reader: &mut Reader<'_, 'a>) -> Result<UnitKind<'a>, NoMemory>
     };
     if reader.skip_sign(Sign::Equal) {
         let (generic, actuals) = instance(reader);
-        return Ok(UnitKind::ModuleInstance {
+        return UnitKind::ModuleInstance {
             exports,
             generic,
             actuals,
-        });
+        };
     }
     reader.take_sign(Sign::Semicolon);
     let imports = imports(reader);
-    let block = block(reader, MAX_OPEN);
-    Ok(UnitKind::Module {
+    let Some(block) = kept_block(reader) else {
+        return no_kind(heading);
+    };
+    UnitKind::Module {
         exports,
         imports,
-        block: kept(reader.arena, block)?,
-    })
+        block,
+    }
 }
 
 /// What stands in a generic unit behind its name, up to its closing name.
-fn generic<'a>(reader: &mut Reader<'_, 'a>, is_interface: bool) -> Result<UnitKind<'a>, NoMemory>
+fn generic<'a>(reader: &mut Reader<'_, 'a>, heading: &Heading<'a>) -> UnitKind<'a>
     ensures { Follows reader.old reader.new }
 {
     let formals = names_between(reader, Sign::OpenParen, Sign::CloseParen);
     reader.take_sign(Sign::Semicolon);
     let imports = imports(reader);
-    if !is_interface {
-        let block = block(reader, MAX_OPEN);
-        return Ok(UnitKind::GenericModule {
+    if heading.words.is_interface {
+        let Some(declarations) = kept_declarations(reader) else {
+            return no_kind(heading);
+        };
+        return UnitKind::GenericInterface {
             formals,
             imports,
-            block: kept(reader.arena, block)?,
-        });
+            declarations,
+        };
     }
-    let declarations = declaration_list(reader, MAX_OPEN);
-    reader.take_word(Word::End);
-    Ok(UnitKind::GenericInterface {
+    let Some(block) = kept_block(reader) else {
+        return no_kind(heading);
+    };
+    UnitKind::GenericModule {
         formals,
         imports,
-        declarations: kept(reader.arena, declarations)?,
-    })
+        block,
+    }
 }
 
-/// Keeps what a unit consists of in the arena.
-fn kept<'a, T: Copy>(arena: &'a Bump, parts: T) -> Result<Kept<'a, T>, NoMemory> {
-    let kept = arena.try_alloc(Box::new(arena, parts)?)?;
-    Ok(&*kept)
+/// What stands behind an error, where no memory was left for the parts of a unit.
+fn no_kind<'a>(heading: &Heading<'a>) -> UnitKind<'a> {
+    UnitKind::InterfaceInstance {
+        generic: heading.name,
+        actuals: &[],
+    }
+}
+
+/// The declarations of an interface, with the END behind them. None where there is no memory to
+/// keep them.
+fn kept_declarations<'a>(reader: &mut Reader<'_, 'a>) -> Option<Kept<'a, &'a [Decl<'a>]>>
+    ensures { Follows reader.old reader.new }
+{
+    let declarations = declaration_list(reader, MAX_OPEN);
+    reader.take_word(Word::End);
+    reader.parts(declarations)
+}
+
+/// The block of a module. None where there is no memory to keep it.
+fn kept_block<'a>(reader: &mut Reader<'_, 'a>) -> Option<Kept<'a, Block<'a>>>
+    ensures { Follows reader.old reader.new }
+{
+    let block = block(reader, MAX_OPEN);
+    reader.parts(block)
 }
 
 /// The generic's name and the actuals of an instance, with the END behind them.

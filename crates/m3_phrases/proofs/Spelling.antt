@@ -24,7 +24,8 @@ use Rattle.m3_grammar.specs.Plain as plain
 use Rattle.m3_cursor.specs.declared.reader.Reader.{Reader}
 use Rattle.m3_phrases.specs.declared.settings.Found.{Found}
 use Rattle.m3_phrases.specs.declared.settings.Found.TheVariants as f
-use Rattle.m3_phrases.specs.Spelled.{FoundSpells, IsInfix, is_infix, IsPrefixSign, plus, minus, SelectorSpells, BindingSpells, NameSpells, IndexesSpell, indexed, by_type, ActualsSpell, passed, with_type}
+use Rattle.m3_cursor.specs.Steps.{IsInfix, is_infix, IsPrefixSign, plus, minus, BindingSpells, NameSpells}
+use Rattle.m3_phrases.specs.Spelled.{FoundSpells, SelectorSpells, IndexesSpell, indexed, by_type, ActualsSpell, passed, with_type}
 use Rattle.m3_phrases.proofs.Begun.{IndexesBegun, no_index, index_comma, index_type, ActualsBegun, no_actual, actual_comma, actual_type}
 
 -- ---- faults
@@ -58,8 +59,15 @@ some_row (item ∷ items) test q h none = absurd (cc)
 -- ---- ranks
 
 -- what was found and kept
-pub kept_spells : {rank : Rank} {a b c : Row} {thing : Found} {expr : Expr} → FoundSpells rank a b thing → thing ≡ f.Value expr → c ≡ b → plain.Spells rank a c expr
-kept_spells {rank} {a} {b} {c} {thing} {expr} h q ends = subst (λ y. plain.Spells rank a y expr) (sym ends) (subst (λ y. FoundSpells rank a b y) q h)
+pub kept_spells : {rank : Rank} {a b c : Row} {thing : Found} {expr : Bor Expr} → FoundSpells rank a b thing → thing ≡ f.Value expr → c ≡ b → plain.Spells rank a c expr.now
+kept_spells {rank} {a} {b} {c} {thing} {expr} h q ends = subst (λ y. plain.Spells rank a y expr.now) (sym ends) (subst (λ y. FoundSpells rank a b y) q h)
+
+-- what is spelled by a node that was kept
+pub node_spells : {rank : Rank} {a b c : Row} {node expr : Expr} → node ≡ expr → c ≡ b → plain.Spells rank a b expr → plain.Spells rank a c node
+node_spells {rank} {a} q ends h = moved (λ y x. plain.Spells rank a y x) ends q h
+
+pub node_typed : {node expr : Expr} → node ≡ expr → plain.HasType expr → plain.HasType node
+node_typed q h = subst (λ x. plain.HasType x) (sym q) h
 
 loosen : {rank : Rank} {a b : Row} {expr : Expr} → plain.Spells (next rank) a b expr → plain.Spells rank a b expr
 loosen (inl h) = inl (g.tighter h)
@@ -67,7 +75,7 @@ loosen (inr h) = inr h
 
 -- what is tighter is found where nothing stands before it
 pub loosened : (rank : Rank) (a b c : Row) (thing : Found) → b ≡ a → FoundSpells (next rank) b c thing → FoundSpells rank a c thing
-loosened rank a b c (f.Value expr) q h = loosen {rank = rank} (subst (λ x. plain.Spells (next rank) x c expr) q h)
+loosened rank a b c (f.Value expr) q h = loosen {rank = rank} (subst (λ x. plain.Spells (next rank) x c expr.now) q h)
 loosened rank a b c (f.TypeExp kind) q h = tt
 
 -- an operand alone is an expression
@@ -133,18 +141,12 @@ pub one_operand : (level : Level) {a b c : Row} {expr : Expr} {operations : List
 one_operand level {a} {b} {c} {expr} h (inl none) q = subst (λ x. plain.Spells (rank_of level) a x expr) (sym (nothing_operated none q)) (loosen h)
 one_operand level h (inr typed) q = absurd (nothing_typed typed q)
 
-operations_joined : (level : Level) {a b c : Row} (pos : Pos) (first : Bor Expr) (rest : Bor (List Operation)) → IsAt pos a → plain.Spells (next (rank_of level)) a b first.now
-    → Operated level b c rest.now → rest.now ≢ [] → plain.Spells (rank_of level) a c (e.Operations pos first rest)
-operations_joined level pos first rest at (inl x) (inl y) some = inl (g.operations pos first rest at x y some)
-operations_joined level pos first rest at (inl x) (inr y) some = inr (plain.in_rest pos first rest y)
-operations_joined level pos first rest at (inr x) y some = inr (plain.in_first pos first rest x)
-
 -- an operand with the operators that follow it
-pub operated : (level : Level) {a b c d : Row} {expr : Expr} (pos : Pos) (first : Bor Expr) (rest : Bor (List Operation)) → IsAt pos a → plain.Spells (next (rank_of level)) a b expr
-    → first.now ≡ expr → Operated level b c rest.now → rest.now ≢ [] → d ≡ c → plain.Spells (rank_of level) a d (e.Operations pos first rest)
-operated level {a} {b} {c} {d} {expr} pos first rest at h q operations some ends =
-    let spelled = subst (λ x. plain.Spells (next (rank_of level)) a b x) (sym q) h in
-    subst (λ x. plain.Spells (rank_of level) a x (e.Operations pos first rest)) (sym ends) (operations_joined level pos first rest at spelled operations some)
+pub operated : (level : Level) {a b c : Row} (pos : Pos) (first : Bor Expr) (rest : Bor (List Operation)) → IsAt pos a → plain.Spells (next (rank_of level)) a b first.now
+    → Operated level b c rest.now → rest.now ≢ [] → plain.Spells (rank_of level) a c (e.Operations pos first rest)
+operated level pos first rest at (inl x) (inl y) some = inl (g.operations pos first rest at x y some)
+operated level pos first rest at (inl x) (inr y) some = inr (plain.in_rest pos first rest y)
+operated level pos first rest at (inr x) y some = inr (plain.in_first pos first rest x)
 
 -- one more operator with its operand
 pub one_operation : (level : Level) {a b c d : Row} {operations : List Operation} (operation : Operation) → Operated level a b operations → IsAt operation.pos b
@@ -182,18 +184,12 @@ pub unselected : {a b c : Row} {expr : Expr} {selectors : List Selector} → pla
 unselected {a} {b} {c} {expr} h (inl none) q = subst (λ x. plain.Spells e7 a x expr) (sym (nothing_selected none q)) (loosen {rank = e7} h)
 unselected h (inr typed) q = absurd (no_typed_selector typed q)
 
-selection_joined : {a b c : Row} (pos : Pos) (operand : Bor Expr) (selectors : Bor (List Selector)) → IsAt pos a → plain.Spells e8 a b operand.now → Selecting b c selectors.now → selectors.now ≢ []
-    → plain.Spells e7 a c (e.Selected pos operand selectors)
-selection_joined pos operand selectors at (inl x) (inl y) some = inl (g.selected pos operand selectors at x y some)
-selection_joined pos operand selectors at (inl x) (inr y) some = inr (plain.in_selectors pos operand selectors y)
-selection_joined pos operand selectors at (inr x) y some = inr (plain.in_operand pos operand selectors x)
-
 -- an operand with the selectors that follow it
-pub selected : {a b c d : Row} {expr : Expr} (pos : Pos) (operand : Bor Expr) (selectors : Bor (List Selector)) → IsAt pos a → plain.Spells e8 a b expr → operand.now ≡ expr
-    → Selecting b c selectors.now → selectors.now ≢ [] → d ≡ c → plain.Spells e7 a d (e.Selected pos operand selectors)
-selected {a} {b} {c} {d} {expr} pos operand selectors at h q h2 some ends =
-    let spelled = subst (λ x. plain.Spells e8 a b x) (sym q) h in
-    subst (λ x. plain.Spells e7 a x (e.Selected pos operand selectors)) (sym ends) (selection_joined pos operand selectors at spelled h2 some)
+pub selected : {a b c : Row} (pos : Pos) (operand : Bor Expr) (selectors : Bor (List Selector)) → IsAt pos a → plain.Spells e8 a b operand.now → Selecting b c selectors.now → selectors.now ≢ []
+    → plain.Spells e7 a c (e.Selected pos operand selectors)
+selected pos operand selectors at (inl x) (inl y) some = inl (g.selected pos operand selectors at x y some)
+selected pos operand selectors at (inl x) (inr y) some = inr (plain.in_selectors pos operand selectors y)
+selected pos operand selectors at (inr x) y some = inr (plain.in_operand pos operand selectors x)
 
 pub indexed_by : {a b c : Row} (pos : Pos) (indexes : Bor (List Expr)) → IsAt pos a → IsSign s.OpenBracket a b → IndexesSpell b c indexes.now
     → g.IsSelector a c (sel.Index pos indexes) ⊎ plain.SelectsByType (sel.Index pos indexes)
@@ -273,11 +269,10 @@ name_alone h = inl (alone (g.name h))
 
 -- ---- operands
 
-pub in_parentheses : {a b c d f : Row} {expr : Expr} (pos : Pos) (inner : Bor Expr) → IsAt pos a → IsSign s.OpenParen a b → plain.Spells whole b c expr → inner.now ≡ expr → IsSign s.CloseParen c d
-    → f ≡ d → plain.Spells e8 a f (e.Parenthesis pos inner)
-in_parentheses {a} {b} {c} {d} {f} pos inner at opened (inl h) q closed ends =
-    inl (subst (λ x. g.IsExpr e8 a x (e.Parenthesis pos inner)) (sym ends) (g.parenthesis pos inner at opened (subst (λ x. g.IsExpr whole b c x) (sym q) h) closed))
-in_parentheses pos inner at opened (inr h) q closed ends = inr (plain.in_parenthesis pos inner (subst (λ x. plain.HasType x) (sym q) h))
+pub in_parentheses : {a b c d : Row} (pos : Pos) (inner : Bor Expr) → IsAt pos a → IsSign s.OpenParen a b → plain.Spells whole b c inner.now → IsSign s.CloseParen c d
+    → plain.Spells e8 a d (e.Parenthesis pos inner)
+in_parentheses pos inner at opened (inl h) closed = inl (g.parenthesis pos inner at opened h closed)
+in_parentheses pos inner at opened (inr h) closed = inr (plain.in_parenthesis pos inner h)
 
 -- ---- what stands at the beginning, or does not
 

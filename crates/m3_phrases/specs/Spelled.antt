@@ -1,20 +1,15 @@
 -- What the readers of phrases have read, in the words of the grammar: unless reading has stopped, the tokens
 -- that were taken spell what was found. Nothing is said of what has a type in it.
-use Rattle.std.specs.Prelude.{◌≡◌, ◌⊎◌, true, false, List, Option, None, Some}
+use Rattle.std.specs.Prelude.{◌≡◌, ◌⊎◌, List, Option, None, Some}
 use Rattle.m3_base.specs.declared.places.Pos.{Pos}
 use Rattle.m3_syntax.specs.declared.expressions.Actual.{Actual}
 use Rattle.m3_syntax.specs.declared.expressions.Expr.{Expr}
 use Rattle.m3_syntax.specs.declared.expressions.Operation.{Operation}
-use Rattle.m3_syntax.specs.declared.expressions.Operator.{Operator}
-use Rattle.m3_syntax.specs.declared.expressions.PrefixSign.{PrefixSign}
 use Rattle.m3_syntax.specs.declared.expressions.Selector.{Selector}
-use Rattle.m3_syntax.specs.declared.names.Name.{Name}
 use Rattle.m3_syntax.specs.declared.tokens.Sign.TheVariants as s
-use Rattle.m3_syntax.specs.declared.tokens.TokenKind.{TokenKind}
 use Rattle.m3_grammar.specs.declared.operators.Level.{Level}
-use Rattle.m3_grammar.specs.Operators.{operator_of, level_of}
 use Rattle.m3_grammar.specs.Ranks.{Rank, e7, e8}
-use Rattle.m3_grammar.specs.Tokens.{Row, IsAt, IsToken, IsSign, IsName}
+use Rattle.m3_grammar.specs.Tokens.{Row, IsAt, IsSign}
 use Rattle.m3_grammar.specs.Expressions.{IsOperations, IsSelectors, IsSelector, IsExprs, IsActuals, IsActual}
 use Rattle.m3_grammar.specs.Plain.{Spells, HaveType, SelectByType, SelectsByType, IndexByType, PassType, PassesType}
 use Rattle.m3_cursor.specs.declared.reader.Reader.{Reader}
@@ -23,7 +18,7 @@ use Rattle.m3_phrases.specs.declared.settings.Found.TheVariants as found
 
 -- the row spells what was found, where that is an expression
 abbrev pub FoundSpells : Rank → Row → Row → Found → Type 0
-FoundSpells rank before after (found.Value expr) = Spells rank before after expr
+FoundSpells rank before after (found.Value expr) = Spells rank before after expr.now
 FoundSpells rank before after (found.TypeExp kind) = Unit {0}
 
 pub record ReadsFound (rank : Rank) (old new : Reader) (found : Found) : Type 0 where
@@ -32,17 +27,8 @@ pub record ReadsFound (rank : Rank) (old new : Reader) (found : Found) : Type 0 
 pub record ReadsExpr (rank : Rank) (old new : Reader) (expr : Expr) : Type 0 where
   pub spelled : new.stop ≡ None → Spells rank old.rest.now new.rest.now expr
 
--- an operator of this level
-pub data IsInfix (level : Level) (before after : Row) (operator : Operator) : Type 0 where
-  is_infix : (kind : TokenKind) → IsToken kind before after → operator_of kind ≡ Some operator → level_of operator ≡ level → IsInfix level before after operator
-
 pub record ReadsOperations (level : Level) (old new : Reader) (operations : List Operation) : Type 0 where
   pub spelled : new.stop ≡ None → IsOperations level old.rest.now new.rest.now operations ⊎ HaveType operations
-
--- a sign before an operand
-pub data IsPrefixSign (before after : Row) (sign : PrefixSign) : Type 0 where
-  plus : IsAt sign.pos before → IsSign s.Plus before after → sign.is_minus ≡ false → IsPrefixSign before after sign
-  minus : IsAt sign.pos before → IsSign s.Minus before after → sign.is_minus ≡ true → IsPrefixSign before after sign
 
 -- the row is the selector, or nothing where none is here
 abbrev pub SelectorSpells : Row → Row → Option Selector → Type 0
@@ -73,16 +59,6 @@ pub record ReadsActuals (old new : Reader) (actuals : List Actual) : Type 0 wher
 
 pub record ReadsActual (old new : Reader) (actual : Actual) : Type 0 where
   pub spelled : new.stop ≡ None → IsActual old.rest.now new.rest.now actual ⊎ PassesType actual
-
--- a name and `:=`, or nothing
-abbrev pub BindingSpells : Row → Row → Option Name → Type 0
-BindingSpells before after None = after ≡ before
-BindingSpells before after (Some name) = (sign : Row) × IsName before sign name × IsSign s.Assign sign after
-
--- a name, or nothing
-abbrev pub NameSpells : Row → Row → Option Name → Type 0
-NameSpells before after None = after ≡ before
-NameSpells before after (Some name) = IsName before after name
 
 -- An operand from a place on goes on with its selectors.
 pub record Continues (place : Pos) (operand : Expr) (old new : Reader) (expr : Expr) : Type 0 where

@@ -1,15 +1,14 @@
-ghost use Rattle.std.specs.Prelude.{◌≡◌, ◌+◌, ◌<◌, ◌≤◌, OnSome, IfSome, IfNone, IsSome, length};
+ghost use Rattle.std.specs.Prelude.{◌≡◌, ◌+◌, ◌≤◌, OnSome, IfSome, IfNone, IsSome};
 ghost use Rattle.m3_grammar.specs.Ranks.{whole, e2, e6, next, rank_of};
 ghost use Rattle.m3_cursor.specs.Readers.{Follows, Reads};
 ghost use Rattle.m3_phrases.specs.Spelled.{ReadsFound, ReadsExpr};
-ghost use Rattle.m3_phrases.specs.Spelled.{IsInfix, IsPrefixSign};
 
 use crate::operands::operand;
 use crate::settings::{Found, Setting, Want};
-use crate::trees::keep_expr;
-use m3_cursor::{Reader, begins_expression};
-use m3_grammar::{Level, level_of, operator_of};
-use m3_syntax::{Expr, Operation, Operator, PrefixSign, Sign, Word};
+use crate::trees::{keep_expr, no_expr};
+use m3_cursor::{Reader, begins_expression, operator_here, prefix_sign};
+use m3_grammar::Level;
+use m3_syntax::{Expr, Operation, Word};
 
 /// An expression (the report, section 2.6). `room` is that of what surrounds it: the expression
 /// itself opens one construct.
@@ -28,9 +27,8 @@ pub fn phrase<'a>(reader: &mut Reader<'_, 'a>, room: u32, want: Want) -> Found<'
     ensures follows { Follows reader.old reader.new }
     ensures reads { ReadsFound whole reader.old reader.new result }
 {
-    let pos = reader.pos();
     let Some(inside) = inside_expression(reader, room) else {
-        return Found::Value(Expr::Missing { pos });
+        return Found::Value(no_expr());
     };
     let setting = Setting {
         room: inside,
@@ -47,9 +45,8 @@ pub fn statement_head<'a>(reader: &mut Reader<'_, 'a>, room: u32) -> &'a Expr<'a
     ensures follows { Follows reader.old reader.new }
     ensures reads { ReadsExpr whole reader.old reader.new result.now }
 {
-    let pos = reader.pos();
     let Some(inside) = inside_expression(reader, room) else {
-        return keep_expr(reader, Expr::Missing { pos });
+        return no_expr();
     };
     let setting = Setting {
         room: inside,
@@ -76,14 +73,14 @@ fn inside_expression(reader: &mut Reader<'_, '_>, room: u32) -> Option<u32>
     }
 }
 
-/// Keeps the expression that was found. A type alone is none, since no brace follows it.
+/// The expression that was found. A type alone is none, since no brace follows it.
 pub fn kept_value<'a>(reader: &mut Reader<'_, 'a>, found: Found<'a>) -> &'a Expr<'a>
     ensures follows { Follows reader.old reader.new }
     ensures stays { Reads reader.old reader.new (λ before after. after ≡ before) }
-    ensures value { reader.new.stop ≡ None → found.entry ≡ Found.Value result.now }
+    ensures value { reader.new.stop ≡ None → found.entry ≡ Found.Value result }
 {
     match found {
-        Found::Value(expr) => keep_expr(reader, expr),
+        Found::Value(expr) => expr,
         Found::TypeExp(kind) => {
             reader.unexpected();
             keep_expr(reader, Expr::Missing { pos: kind.pos() })
@@ -122,26 +119,7 @@ pub fn operations<'a>(reader: &mut Reader<'_, 'a>, setting: Setting, level: Leve
     if rest.is_empty() {
         return Found::Value(first);
     }
-    Found::Value(Expr::Operations {
-        pos,
-        first: keep_expr(reader, first),
-        rest,
-    })
-}
-
-/// Goes past the operator of this level, where one is here.
-fn operator_here(reader: &mut Reader<'_, '_>, level: Level) -> Option<Operator>
-    ensures follows { Follows reader.old reader.new }
-    ensures past { OnSome result (length reader.new.rest.now < length reader.old.rest.now) }
-    ensures reads { IfSome result (IsInfix level reader.old.rest.now reader.new.rest.now) }
-    ensures stays { IfNone result (reader.new ≡ reader.old) }
-{
-    let operator = operator_of(reader.kind()?)?;
-    if level_of(operator) != level {
-        return None;
-    }
-    reader.step();
-    Some(operator)
+    Found::Value(keep_expr(reader, Expr::Operations { pos, first, rest }))
 }
 
 /// What stands between the operators of a level.
@@ -182,11 +160,12 @@ fn negation<'a>(reader: &mut Reader<'_, 'a>, setting: Setting) -> Found<'a>
     }
     let found = operations(reader, setting.behind_operator(), Level::Relation);
     let operand = kept_value(reader, found);
-    Found::Value(Expr::Not {
+    let negation = Expr::Not {
         pos,
         words,
         operand,
-    })
+    };
+    Found::Value(keep_expr(reader, negation))
 }
 
 /// An operand with the signs before it.
@@ -207,32 +186,10 @@ fn signed<'a>(reader: &mut Reader<'_, 'a>, setting: Setting) -> Found<'a>
     }
     let found = operand(reader, setting.behind_operator());
     let operand = kept_value(reader, found);
-    Found::Value(Expr::Signed {
+    let signed = Expr::Signed {
         pos,
         signs,
         operand,
-    })
-}
-
-/// Goes past a sign, where one is here.
-fn prefix_sign(reader: &mut Reader<'_, '_>) -> Option<PrefixSign>
-    ensures follows { Follows reader.old reader.new }
-    ensures past { OnSome result (length reader.new.rest.now < length reader.old.rest.now) }
-    ensures reads { IfSome result (IsPrefixSign reader.old.rest.now reader.new.rest.now) }
-    ensures stays { IfNone result (reader.new ≡ reader.old) }
-{
-    let pos = reader.pos();
-    if reader.skip_sign(Sign::Plus) {
-        Some(PrefixSign {
-            pos,
-            is_minus: false,
-        })
-    } else if reader.skip_sign(Sign::Minus) {
-        Some(PrefixSign {
-            pos,
-            is_minus: true,
-        })
-    } else {
-        None
-    }
+    };
+    Found::Value(keep_expr(reader, signed))
 }

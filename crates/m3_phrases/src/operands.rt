@@ -1,18 +1,17 @@
 ghost use Rattle.std.specs.Prelude.{◌≡◌, ◌+◌, ◌<◌, ◌≤◌, OnSome, IfSome, IfNone, IsSome, length};
 ghost use Rattle.m3_grammar.specs.Plain.{HasType};
 ghost use Rattle.m3_grammar.specs.Ranks.{e7, e8};
-ghost use Rattle.m3_cursor.specs.Readers.{Follows, Reads};
+ghost use Rattle.m3_cursor.specs.Readers.{Follows};
 ghost use Rattle.m3_phrases.specs.Spelled.{ReadsFound, ReadsSelector};
 ghost use Rattle.m3_phrases.specs.Spelled.{ReadsIndexes, ReadsActuals, ReadsActual, Continues};
-ghost use Rattle.m3_phrases.specs.Spelled.{BindingSpells, NameSpells};
 
 use crate::expressions::{expression, phrase};
 use crate::settings::{Found, Setting, Want};
-use crate::trees::{keep_expr, keep_type, qualid_of, type_of};
+use crate::trees::{keep_expr, keep_type, no_expr, qualid_of, type_of};
 use crate::types::{begins_object, named_type, opened_type};
 use m3_base::Pos;
-use m3_cursor::{Reader, begins_type, goes_on};
-use m3_syntax::{Actual, Element, Expr, Name, Selector, Sign, TokenKind, TypeExp, TypeName, Word};
+use m3_cursor::{Reader, begins_type, binding, lone_name};
+use m3_syntax::{Actual, Element, Expr, Selector, Sign, TokenKind, TypeExp, TypeName, Word};
 
 /// One operand with its selectors, or a type that no brace follows.
 #[cycle(expressions)]
@@ -48,7 +47,7 @@ fn without_brace<'a>(reader: &mut Reader<'_, 'a>, setting: Setting) -> Found<'a>
     if is_branded || !begins_object(reader) {
         return Found::Value(expr);
     }
-    let Some(parent) = qualid_of(&expr) else {
+    let Some(parent) = qualid_of(expr) else {
         reader.unexpected();
         return Found::Value(expr);
     };
@@ -85,23 +84,26 @@ fn primary<'a>(reader: &mut Reader<'_, 'a>, setting: Setting) -> Found<'a>
 {
     let pos = reader.pos();
     match reader.kind() {
-        Some(TokenKind::Ident) => Found::Value(Expr::Name(reader.take_name())),
+        Some(TokenKind::Ident) => {
+            let name = reader.take_name();
+            Found::Value(keep_expr(reader, Expr::Name(name)))
+        }
         Some(TokenKind::Number(value)) => {
             reader.step();
-            Found::Value(Expr::Number { pos, value })
+            Found::Value(keep_expr(reader, Expr::Number { pos, value }))
         }
         Some(TokenKind::CharLit(value)) => {
             reader.step();
-            Found::Value(Expr::CharLit { pos, value })
+            Found::Value(keep_expr(reader, Expr::CharLit { pos, value }))
         }
         Some(TokenKind::TextLit) => {
             let text = reader.take_text();
-            Found::Value(Expr::TextLit { pos, text })
+            Found::Value(keep_expr(reader, Expr::TextLit { pos, text }))
         }
         Some(TokenKind::Symbol(Sign::OpenParen)) => parenthesis(reader, setting),
         _ => match inside_type(reader, setting) {
             Some(room) => Found::TypeExp(opened_type(reader, room)),
-            None => Found::Value(Expr::Missing { pos }),
+            None => Found::Value(no_expr()),
         },
     }
 }
@@ -121,14 +123,10 @@ fn parenthesis<'a>(reader: &mut Reader<'_, 'a>, setting: Setting) -> Found<'a>
     let inner = phrase(reader, setting.room, want);
     reader.take_sign(Sign::CloseParen);
     match inner {
-        Found::Value(expr) => Found::Value(Expr::Parenthesis {
-            pos,
-            inner: keep_expr(reader, expr),
-        }),
-        Found::TypeExp(kind) => Found::TypeExp(TypeExp::Parenthesis {
-            pos,
-            inner: keep_type(reader, kind),
-        }),
+        Found::Value(inner) => { Found::Value(keep_expr(reader, Expr::Parenthesis { pos, inner })) }
+        Found::TypeExp(inner) => {
+            Found::TypeExp(keep_type(reader, TypeExp::Parenthesis { pos, inner }))
+        }
     }
 }
 
@@ -138,11 +136,11 @@ fn selected<'a>(
     reader: &mut Reader<'_, 'a>,
     setting: Setting,
     pos: Pos,
-    operand: Expr<'a>,
-) -> Expr<'a>
+    operand: &'a Expr<'a>,
+) -> &'a Expr<'a>
     requires { setting.room ≤ setting.calls }
     ensures follows { Follows reader.old reader.new }
-    ensures reads { Continues pos operand.entry reader.old reader.new result }
+    ensures reads { Continues pos operand.now reader.old reader.new result.now }
 {
     let mut selectors = Vec::new(reader.alloc);
     'selectors: while let Some(selector) = selector(reader, setting) {
@@ -152,11 +150,12 @@ fn selected<'a>(
     if selectors.is_empty() {
         return operand;
     }
-    Expr::Selected {
+    let selected = Expr::Selected {
         pos,
-        operand: keep_expr(reader, operand),
+        operand,
         selectors,
-    }
+    };
+    keep_expr(reader, selected)
 }
 
 /// The selector that is here, if one is.
@@ -230,70 +229,38 @@ fn actual<'a>(reader: &mut Reader<'_, 'a>, room: u32) -> Actual<'a>
         None => match lone_name(reader, room) {
             Some(name) => Actual::Value(keep_expr(reader, Expr::Name(name))),
             None => match phrase(reader, room, Want::Actual) {
-                Found::Value(expr) => Actual::Value(keep_expr(reader, expr)),
-                Found::TypeExp(kind) => Actual::Type(keep_type(reader, kind)),
+                Found::Value(expr) => Actual::Value(expr),
+                Found::TypeExp(kind) => Actual::Type(kind),
             },
         },
     }
 }
 
-/// Goes past a name and `:=`, where they are here.
-fn binding<'a>(reader: &mut Reader<'_, 'a>) -> Option<Name<'a>>
-    ensures follows { Follows reader.old reader.new }
-    ensures reads { Reads reader.old reader.new (λ before after. BindingSpells before after result) }
-{
-    if !reader.is_name() || reader.next_kind() != Some(TokenKind::Symbol(Sign::Assign)) {
-        return None;
-    }
-    let name = reader.take_name();
-    reader.take_sign(Sign::Assign);
-    Some(name)
-}
-
-/// A name that begins an actual or an element where no construct can be opened any more: it needs
-/// none yet, as it may stand before `:=`. What goes on with it lies too deep.
-fn lone_name<'a>(reader: &mut Reader<'_, 'a>, room: u32) -> Option<Name<'a>>
-    ensures follows { Follows reader.old reader.new }
-    ensures reads { Reads reader.old reader.new (λ before after. NameSpells before after result) }
-{
-    if room > 0 || !reader.is_name() {
-        return None;
-    }
-    let name = reader.take_name();
-    match reader.kind() {
-        Some(kind) if goes_on(kind) => {
-            reader.too_deep();
-            Some(name)
-        }
-        _ => Some(name),
-    }
-}
-
 /// The constructor of a type whose opening brace is here.
 #[cycle(expressions)]
-fn constructor<'a>(reader: &mut Reader<'_, 'a>, setting: Setting, head: Found<'a>) -> Expr<'a>
+fn constructor<'a>(reader: &mut Reader<'_, 'a>, setting: Setting, head: Found<'a>) -> &'a Expr<'a>
     requires { setting.room ≤ setting.calls }
     ensures follows { Follows reader.old reader.new }
-    ensures typed { reader.new.stop ≡ None → HasType result }
+    ensures typed { reader.new.stop ≡ None → HasType result.now }
 {
     let kind = match head {
-        Found::Value(expr) => type_of(reader, &expr),
+        Found::Value(expr) => type_of(reader, expr),
         Found::TypeExp(kind) => Some(kind),
     };
     let Some(kind) = kind else {
-        let pos = reader.pos();
         reader.unexpected();
-        return Expr::Missing { pos };
+        return no_expr();
     };
     let brace = reader.take_sign(Sign::OpenBrace);
     let (elements, is_filled) = elements(reader, setting.room);
-    Expr::Constructor {
+    let constructor = Expr::Constructor {
         pos: kind.pos(),
-        kind: keep_type(reader, kind),
+        kind,
         brace,
         elements,
         is_filled,
-    }
+    };
+    keep_expr(reader, constructor)
 }
 
 /// The elements behind an opening brace, up to and with the closing one, and whether `..` ends

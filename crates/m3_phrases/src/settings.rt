@@ -2,11 +2,11 @@ ghost use Rattle.std.specs.Prelude.{◌≡◌};
 
 use m3_syntax::{Expr, TypeExp};
 
-/// What may be an expression or a type: what is both is an expression.
+/// What may be an expression or a type, in the arena: what is both is an expression.
 #[derive(Clone, Copy)]
 pub enum Found<'a> {
-    Value(Expr<'a>),
-    TypeExp(TypeExp<'a>),
+    Value(&'a Expr<'a>),
+    TypeExp(&'a TypeExp<'a>),
 }
 
 /// What is wanted of an expression that begins.

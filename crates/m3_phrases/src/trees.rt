@@ -5,20 +5,20 @@ use m3_base::Pos;
 use m3_cursor::Reader;
 use m3_syntax::{Expr, Name, Qualid, Selector, TypeExp, TypeName};
 
-/// No place: that of a node which no memory was left for.
+/// No place: that of a node behind an error.
 const NOWHERE: Pos = Pos {
     file: 0,
     line: 0,
     col: 0,
 };
 
-/// Stands for an expression which no memory was left for.
+/// Stands for an expression behind an error.
 static NO_EXPR: Expr<'static> = Expr::Missing { pos: NOWHERE };
 
-/// Stands for a type which no memory was left for.
+/// Stands for a type behind an error.
 static NO_TYPE: TypeExp<'static> = TypeExp::Missing { pos: NOWHERE };
 
-fn no_expr<'a>() -> &'a Expr<'a> {
+pub fn no_expr<'a>() -> &'a Expr<'a> {
     &NO_EXPR
 }
 
@@ -78,14 +78,14 @@ fn member_of<'a>(first: Name<'a>, selectors: &[Selector<'a>]) -> Option<Qualid<'
 }
 
 /// The type that an expression may be as well: a qualified name, in any number of parentheses.
-pub fn type_of<'a>(reader: &mut Reader<'_, 'a>, expr: &Expr<'a>) -> Option<TypeExp<'a>>
+pub fn type_of<'a>(reader: &mut Reader<'_, 'a>, expr: &Expr<'a>) -> Option<&'a TypeExp<'a>>
     ensures { Follows reader.old reader.new }
 {
-    if let Expr::Parenthesis { pos, inner } = expr {
+    let kind = if let Expr::Parenthesis { pos, inner } = expr {
         let inner = type_of(reader, inner)?;
-        let inner = keep_type(reader, inner);
-        return Some(TypeExp::Parenthesis { pos: *pos, inner });
-    }
-    let name = qualid_of(expr)?;
-    Some(TypeExp::Named(TypeName::Named(name)))
+        TypeExp::Parenthesis { pos: *pos, inner }
+    } else {
+        TypeExp::Named(TypeName::Named(qualid_of(expr)?))
+    };
+    Some(keep_type(reader, kind))
 }

@@ -22,16 +22,15 @@ pub fn type_expression<'a>(reader: &mut Reader<'_, 'a>, room: u32) -> &'a TypeEx
             None
         }
     };
-    let kind = match inside {
+    match inside {
         Some(room) => opened_type(reader, room),
-        None => TypeExp::Missing { pos },
-    };
-    keep_type(reader, kind)
+        None => keep_type(reader, TypeExp::Missing { pos }),
+    }
 }
 
 /// The type that begins here, given the room inside it.
 #[cycle(expressions)]
-pub fn opened_type<'a>(reader: &mut Reader<'_, 'a>, room: u32) -> TypeExp<'a>
+pub fn opened_type<'a>(reader: &mut Reader<'_, 'a>, room: u32) -> &'a TypeExp<'a>
     ensures { Follows reader.old reader.new }
 {
     let pos = reader.pos();
@@ -44,7 +43,7 @@ pub fn opened_type<'a>(reader: &mut Reader<'_, 'a>, room: u32) -> TypeExp<'a>
         Some(TokenKind::Symbol(Sign::OpenBracket)) => subrange(reader, room),
         Some(TokenKind::Symbol(_)) => {
             let members = names_between(reader, Sign::OpenBrace, Sign::CloseBrace);
-            TypeExp::Enumeration { pos, members }
+            keep_type(reader, TypeExp::Enumeration { pos, members })
         }
         Some(TokenKind::Keyword(word)) => match word {
             Word::Root => {
@@ -59,34 +58,34 @@ pub fn opened_type<'a>(reader: &mut Reader<'_, 'a>, room: u32) -> TypeExp<'a>
                 reader.step();
                 reader.take_word(Word::Of);
                 let base = type_expression(reader, room);
-                TypeExp::Set { pos, base }
+                keep_type(reader, TypeExp::Set { pos, base })
             }
             Word::Procedure => {
                 reader.step();
                 let signature = signature(reader, room);
-                TypeExp::Procedure { pos, signature }
+                keep_type(reader, TypeExp::Procedure { pos, signature })
             }
             _ => record(reader, room),
         },
         _ => {
             reader.unexpected();
-            TypeExp::Missing { pos }
+            keep_type(reader, TypeExp::Missing { pos })
         }
     }
 }
 
 #[cycle(expressions)]
-fn parenthesized_type<'a>(reader: &mut Reader<'_, 'a>, room: u32) -> TypeExp<'a>
+fn parenthesized_type<'a>(reader: &mut Reader<'_, 'a>, room: u32) -> &'a TypeExp<'a>
     ensures { Follows reader.old reader.new }
 {
     let pos = reader.take_sign(Sign::OpenParen);
     let inner = type_expression(reader, room);
     reader.take_sign(Sign::CloseParen);
-    TypeExp::Parenthesis { pos, inner }
+    keep_type(reader, TypeExp::Parenthesis { pos, inner })
 }
 
 #[cycle(expressions)]
-fn subrange<'a>(reader: &mut Reader<'_, 'a>, room: u32) -> TypeExp<'a>
+fn subrange<'a>(reader: &mut Reader<'_, 'a>, room: u32) -> &'a TypeExp<'a>
     ensures { Follows reader.old reader.new }
 {
     let pos = reader.take_sign(Sign::OpenBracket);
@@ -94,12 +93,12 @@ fn subrange<'a>(reader: &mut Reader<'_, 'a>, room: u32) -> TypeExp<'a>
     reader.take_sign(Sign::DotDot);
     let last = expression(reader, room);
     reader.take_sign(Sign::CloseBracket);
-    TypeExp::Subrange { pos, first, last }
+    keep_type(reader, TypeExp::Subrange { pos, first, last })
 }
 
 /// `UNTRACED ROOT`, or an untraced reference.
 #[cycle(expressions)]
-fn untraced<'a>(reader: &mut Reader<'_, 'a>, room: u32) -> TypeExp<'a>
+fn untraced<'a>(reader: &mut Reader<'_, 'a>, room: u32) -> &'a TypeExp<'a>
     ensures { Follows reader.old reader.new }
 {
     let pos = reader.take_word(Word::Untraced);
@@ -111,7 +110,7 @@ fn untraced<'a>(reader: &mut Reader<'_, 'a>, room: u32) -> TypeExp<'a>
 }
 
 #[cycle(expressions)]
-fn reference_or_object<'a>(reader: &mut Reader<'_, 'a>, room: u32) -> TypeExp<'a>
+fn reference_or_object<'a>(reader: &mut Reader<'_, 'a>, room: u32) -> &'a TypeExp<'a>
     ensures { Follows reader.old reader.new }
 {
     let pos = reader.pos();
@@ -120,11 +119,12 @@ fn reference_or_object<'a>(reader: &mut Reader<'_, 'a>, room: u32) -> TypeExp<'a
         return reference(reader, room, pos, false, brand);
     }
     let parts = object_parts(reader, room, brand);
-    TypeExp::Object {
+    let object = TypeExp::Object {
         pos,
         parent: None,
         parts,
-    }
+    };
+    keep_type(reader, object)
 }
 
 /// REF and its target.
@@ -135,21 +135,22 @@ fn reference<'a>(
     pos: Pos,
     is_untraced: bool,
     brand: Option<Brand<'a>>,
-) -> TypeExp<'a>
+) -> &'a TypeExp<'a>
     ensures { Follows reader.old reader.new }
 {
     reader.take_word(Word::Ref);
     let target = type_expression(reader, room);
-    TypeExp::Ref {
+    let reference = TypeExp::Ref {
         pos,
         is_untraced,
         brand,
         target,
-    }
+    };
+    keep_type(reader, reference)
 }
 
 #[cycle(expressions)]
-fn array<'a>(reader: &mut Reader<'_, 'a>, room: u32) -> TypeExp<'a>
+fn array<'a>(reader: &mut Reader<'_, 'a>, room: u32) -> &'a TypeExp<'a>
     ensures { Follows reader.old reader.new }
 {
     let pos = reader.take_word(Word::Array);
@@ -165,49 +166,51 @@ fn array<'a>(reader: &mut Reader<'_, 'a>, room: u32) -> TypeExp<'a>
     }
     reader.take_word(Word::Of);
     let element = type_expression(reader, room);
-    TypeExp::Array {
+    let array = TypeExp::Array {
         pos,
         indexes: reader.row(indexes),
         element,
-    }
+    };
+    keep_type(reader, array)
 }
 
 #[cycle(expressions)]
-fn bits<'a>(reader: &mut Reader<'_, 'a>, room: u32) -> TypeExp<'a>
+fn bits<'a>(reader: &mut Reader<'_, 'a>, room: u32) -> &'a TypeExp<'a>
     ensures { Follows reader.old reader.new }
 {
     let pos = reader.take_word(Word::Bits);
     let width = expression(reader, room);
     reader.take_word(Word::For);
     let target = type_expression(reader, room);
-    TypeExp::Bits { pos, width, target }
+    keep_type(reader, TypeExp::Bits { pos, width, target })
 }
 
 #[cycle(expressions)]
-fn record<'a>(reader: &mut Reader<'_, 'a>, room: u32) -> TypeExp<'a>
+fn record<'a>(reader: &mut Reader<'_, 'a>, room: u32) -> &'a TypeExp<'a>
     ensures { Follows reader.old reader.new }
 {
     let pos = reader.take_word(Word::Record);
     let fields = fields(reader, room);
     reader.take_word(Word::End);
-    TypeExp::Record { pos, fields }
+    keep_type(reader, TypeExp::Record { pos, fields })
 }
 
 /// A named type, or an object type of which it is the parent.
 #[cycle(expressions)]
-pub fn named_type<'a>(reader: &mut Reader<'_, 'a>, room: u32, name: TypeName<'a>) -> TypeExp<'a>
+pub fn named_type<'a>(reader: &mut Reader<'_, 'a>, room: u32, name: TypeName<'a>) -> &'a TypeExp<'a>
     ensures { Follows reader.old reader.new }
 {
     if !begins_object(reader) {
-        return TypeExp::Named(name);
+        return keep_type(reader, TypeExp::Named(name));
     }
     let brand = brand(reader, room);
     let parts = object_parts(reader, room, brand);
-    TypeExp::Object {
+    let object = TypeExp::Object {
         pos: name.pos(),
         parent: Some(name),
         parts,
-    }
+    };
+    keep_type(reader, object)
 }
 
 /// Whether an object type begins or goes on with the token here.

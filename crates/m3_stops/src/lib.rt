@@ -2,7 +2,7 @@
 //! place among the tokens.
 #![tactic(auto)]
 
-ghost use Rattle.std.specs.Prelude.{◌≡◌, ◌<◌, ◌≤◌, length, drop};
+ghost use Rattle.std.specs.Prelude.{◌≡◌, ◌<◌, ◌≤◌, IfOk, IfErr, OnOk, None, length, drop};
 ghost use Rattle.m3_base.specs.declared.refusals.Refused.TheVariants.{Rule};
 ghost use Rattle.m3_stops.specs.Refusals.{IsRefusal};
 ghost use Rattle.m3_stops.specs.Refusals as spec;
@@ -11,7 +11,7 @@ use m3_base::{Refusal, Refused};
 use m3_syntax::{Lexed, TokenKind};
 
 /// How many tokens a file may have.
-pub const MAX_TOKENS: usize = 500_000;
+const MAX_TOKENS: usize = 500_000;
 
 /// The rule that a token breaks with which no text of the grammar goes on.
 const UNEXPECTED_TOKEN: u16 = 10;
@@ -57,6 +57,24 @@ pub fn refusal_of(lexed: &Lexed<'_>, stop: Stop) -> Refused
         Why::NoMemory => Refused::NoMemory,
         Why::Unexpected => refused_at(lexed, taken, UNEXPECTED_TOKEN),
         Why::TooDeep => refused_at(lexed, taken, NESTING_TOO_DEEP),
+    }
+}
+
+/// How many tokens a file has that was read to its end, where these aren't too many and no closing
+/// name, given how many tokens were left there, is wrong.
+pub fn counted(lexed: &Lexed<'_>, wrong: Option<usize>) -> Result<u32, Refused>
+    ensures count { IfOk result (λ count. count ≡ length lexed.now.tokens.items) }
+    ensures within_limit { OnOk result (length lexed.now.tokens.items ≤ 500000) }
+    ensures closed { OnOk result (wrong ≡ None) }
+    ensures refused { IfErr result (IsRefusal lexed.now.end lexed.now.tokens.items) }
+{
+    let count = lexed.tokens.len();
+    if count > MAX_TOKENS {
+        return Err(too_many_tokens(lexed));
+    }
+    match wrong {
+        Some(left) => Err(wrong_closing(lexed, left)),
+        None => Ok(count as u32),
     }
 }
 

@@ -1,13 +1,13 @@
 use mir.Val.{to_z, of_z}
 use mir.Syntax.{w64}
-use Rattle.std.proofs.Common.{ℕ, ◌≡◌, None, Some, inl, inr, sym, ap, ◌∙◌, rules}
+use Rattle.std.proofs.Common.{◌≡◌, None, Some, inl, inr, refl, sym, ap, ◌∙◌, rules}
 use Rattle.m3_grammar.specs.Expressions as g
 use Rattle.m3_grammar.specs.Expressions.{IsNots, IsSigns}
 use Rattle.m3_grammar.specs.Plain as plain
-use Rattle.m3_grammar.specs.Ranks.{whole, e2, e3, e6, e7, next, rank_of}
+use Rattle.m3_grammar.specs.Ranks.{whole, e2, e3, e6, e7, e8, next, rank_of}
 use Rattle.m3_cursor.proofs.Rests.{still, stays, follows_on}
 use Rattle.m3_phrases.specs.Spelled.{IndexesSpell, ActualsSpell}
-use Rattle.m3_phrases.proofs.Spelling.{same_rest, moved, empty_row, some_row, kept_spells, loosened, not_negated, one_not, nothing_negated, negated, unsigned, no_sign, one_sign, signed, Operated, unoperated, one_operand, operated, one_operation, Selecting, unselecting, one_selector, unselected, selected, passed_kept, passed_bound, name_alone, in_parentheses, sign_from, unselected_here, bound_by, unbound_here, named_by, unnamed_here, indexed_by, called_with, Indexing, one_index, indexes_go_on, indexes_end, Passing, one_actual, put_more, actuals_go_on, actuals_end, actuals_from, unpassed, number_of}
+use Rattle.m3_phrases.proofs.Spelling.{same_rest, moved, empty_row, some_row, kept_spells, node_spells, node_typed, loosened, not_negated, one_not, nothing_negated, negated, unsigned, no_sign, one_sign, signed, Operated, unoperated, one_operand, operated, one_operation, Selecting, unselecting, one_selector, unselected, selected, passed_kept, passed_bound, name_alone, in_parentheses, sign_from, unselected_here, bound_by, unbound_here, named_by, unnamed_here, indexed_by, called_with, Indexing, one_index, indexes_go_on, indexes_end, Passing, one_actual, put_more, actuals_go_on, actuals_end, actuals_from, unpassed, number_of}
 use Rattle.m3_phrases.proofs.+expressions.Goals as goal
 
 pub expressions::expression-returns-clause-reads : goal.expressions::expression-returns-clause-reads
@@ -56,12 +56,15 @@ expressions::negation-returns-clause-reads t c =
           let row = c.row-words.ensures in
           let found = c.operations-found.ensures in
           let kept = c.kept_value-operand.ensures in
-          let found_goes = still kept.follows h in
+          let node = c.keep_expr.ensures in
+          let kept_goes = still node.follows h in
+          let found_goes = still kept.follows kept_goes in
           let row_goes = still found.follows found_goes in
           let skip_goes = still row.follows row_goes in
           let nots = moved (IsNots c.args.reader.now.rest.now) (row.reads row_goes ∙ same_rest (skip.stays c.if-not-skip_word.true)) (row.items row_goes)
           (c.words.invariant.reads (still skip.follows skip_goes)) in
-          negated _ _ _ c.pos-pos.ensures nots (some_row _ _ c.is_empty.ensures c.if-is_empty.false) (kept_spells {rank = e3} (found.reads.spelled found_goes) (kept.value h) (kept.stays h));
+          let operand = kept_spells {rank = e3} (found.reads.spelled found_goes) (kept.value kept_goes) (kept.stays kept_goes) in
+          node_spells {rank = e2} (node.kept h) (node.reads h) (negated _ _ _ c.pos-pos.ensures nots (some_row _ _ c.is_empty.ensures c.if-is_empty.false) operand);
     }
 
 pub expressions::operations-operations-init : goal.expressions::operations-operations-init
@@ -113,8 +116,9 @@ expressions::operations-returns-clause-reads t c =
           let operator_goes = still row.follows row_goes in
           let loop_goes = still none.follows operator_goes in
           let first_goes = still c.operations.invariant.follows loop_goes in
-          operated c.args.level _ _ _ c.pos-pos.ensures (c.in-Value.ensures.reads.spelled first_goes) (kept.kept h)
-          (moved (Operated c.args.level _) (row.reads row_goes ∙ same_rest same) (row.items row_goes) (c.operations.invariant.reads.spelled loop_goes)) (some_row _ _ c.is_empty.ensures c.if-is_empty.false) (kept.reads h);
+          let rest = moved (Operated c.args.level _) (row.reads row_goes ∙ same_rest same) (row.items row_goes) (c.operations.invariant.reads.spelled loop_goes) in
+          let operations = operated c.args.level _ _ _ c.pos-pos.ensures (c.in-Value.ensures.reads.spelled first_goes) rest (some_row _ _ c.is_empty.ensures c.if-is_empty.false) in
+          node_spells {rank = rank_of c.args.level} (kept.kept h) (kept.reads h) operations;
     }
 
 pub expressions::signed-signs-init : goal.expressions::signed-signs-init
@@ -156,11 +160,14 @@ expressions::signed-returns-clause-reads t c =
           let row = c.row-signs.ensures in
           let found = c.operand-found.ensures in
           let kept = c.kept_value-operand.ensures in
-          let found_goes = still kept.follows h in
+          let node = c.keep_expr.ensures in
+          let kept_goes = still node.follows h in
+          let found_goes = still kept.follows kept_goes in
           let row_goes = still found.follows found_goes in
           let sign_goes = still row.follows row_goes in
           let signs = moved (IsSigns c.args.reader.now.rest.now) (row.reads row_goes ∙ same_rest same) (row.items row_goes) (c.signs.invariant.reads (still sign.follows sign_goes)) in
-          signed _ _ _ c.pos-pos.ensures signs (some_row _ _ c.is_empty.ensures c.if-is_empty.false) (kept_spells {rank = e7} (found.reads.spelled found_goes) (kept.value h) (kept.stays h));
+          let operand = kept_spells {rank = e7} (found.reads.spelled found_goes) (kept.value kept_goes) (kept.stays kept_goes) in
+          node_spells {rank = e6} (node.kept h) (node.reads h) (signed _ _ _ c.pos-pos.ensures signs (some_row _ _ c.is_empty.ensures c.if-is_empty.false) operand);
     }
 
 pub operands::operand-returns-clause-reads : goal.operands::operand-returns-clause-reads
@@ -177,11 +184,20 @@ operands::without_brace-returns-then-is_branded-clause-reads t c =
 
 pub operands::primary-returns-in-Some-Ident-clause-reads : goal.operands::primary-returns-in-Some-Ident-clause-reads
 operands::primary-returns-in-Some-Ident-clause-reads t c =
-    record { spelled = λ h. inl (g.name (c.take_name.ensures.reads h)) }
+    record {
+      spelled = λ h.
+          let kept = c.keep_expr.ensures in
+          node_spells {rank = e8} (kept.kept h) (kept.reads h) (inl (g.name (c.take_name-name.ensures.reads (still kept.follows h))));
+    }
 
 pub operands::primary-returns-in-Some-TextLit-clause-reads : goal.operands::primary-returns-in-Some-TextLit-clause-reads
 operands::primary-returns-in-Some-TextLit-clause-reads t c =
-    record { spelled = λ h. let text = c.take_text-text.ensures in inl (g.text _ _ c.pos-pos.ensures (text.reads h) text.written) }
+    record {
+      spelled = λ h.
+          let kept = c.keep_expr-in-Some-TextLit.ensures in
+          let text = c.take_text-text.ensures in
+          node_spells {rank = e8} (kept.kept h) (kept.reads h) (inl (g.text _ _ c.pos-pos.ensures (text.reads (still kept.follows h)) text.written));
+    }
 
 pub operands::parenthesis-returns-in-Value-clause-reads : goal.operands::parenthesis-returns-in-Value-clause-reads
 operands::parenthesis-returns-in-Value-clause-reads t c =
@@ -195,7 +211,7 @@ operands::parenthesis-returns-in-Value-clause-reads t c =
           let inner_goes = still close.follows close_goes in
           let opened = opening.reads (still inner.follows inner_goes) in
           let spelled = rw c.in-Value.is at inner.reads.spelled inner_goes in
-          in_parentheses _ _ opening.place opened spelled (kept.kept h) (close.reads close_goes) (kept.reads h);
+          node_spells {rank = e8} (kept.kept h) (kept.reads h) (in_parentheses _ _ opening.place opened spelled (close.reads close_goes));
     }
 
 pub operands::selected-selectors-init : goal.operands::selected-selectors-init
@@ -239,24 +255,33 @@ operands::selected-returns-clause-reads t c =
           let row_goes = still kept.follows h in
           let none_goes = still row.follows row_goes in
           let selectors = c.selectors.invariant.reads.spelled (still none.follows none_goes) in
-          selected _ _ _ at operand (kept.kept h) (moved (Selecting _) (row.reads row_goes ∙ unselected_here (none.reads.spelled none_goes) ended) (row.items row_goes) selectors) (some_row _ _ c.is_empty.ensures c.if-is_empty.false) (kept.reads h);
+          let row_selectors = moved (Selecting _) (row.reads row_goes ∙ unselected_here (none.reads.spelled none_goes) ended) (row.items row_goes) selectors in
+          node_spells {rank = e7} (kept.kept h) (kept.reads h) (selected _ _ _ at operand row_selectors (some_row _ _ c.is_empty.ensures c.if-is_empty.false));
     }
 
 pub operands::constructor-returns-clause-typed : goal.operands::constructor-returns-clause-typed
 operands::constructor-returns-clause-typed t c =
-    λ h. plain.in_constructor _ _ _ _ _
-
--- a number that is copied is the same
-same_number : (t : ℕ) (c : goal.operands::primary-After-step t) → to_z w64 (of_z w64 c.in-Some-Number.value) ≡ c.in-Some-Number.value
-same_number t c = search rules
+    λ h. node_typed (c.keep_expr.ensures.kept h) (plain.in_constructor _ _ _ _ _)
 
 pub operands::primary-returns-in-Some-Number-clause-reads : goal.operands::primary-returns-in-Some-Number-clause-reads
 operands::primary-returns-in-Some-Number-clause-reads t c =
-    record { spelled = λ h. inl (number_of c.pos-pos.ensures (c.step.ensures.reads _ (sym c.kind.ensures ∙ (c.in-Some-Number.is ∙ ap Some c.in-Some-Number.field-0-is))) (same_number t c)) }
+    -- a number that is copied is the same
+    let same : to_z w64 (of_z w64 c.in-Some-Number.value) ≡ c.in-Some-Number.value = search rules in
+    record {
+      spelled = λ h.
+          let kept = c.keep_expr-in-Some-Number.ensures in
+          let number = number_of c.pos-pos.ensures (c.step.ensures.reads _ (sym c.kind.ensures ∙ (c.in-Some-Number.is ∙ ap Some c.in-Some-Number.field-0-is))) same in
+          node_spells {rank = e8} (kept.kept h) (kept.reads h) (inl number);
+    }
 
 pub operands::primary-returns-in-Some-CharLit-clause-reads : goal.operands::primary-returns-in-Some-CharLit-clause-reads
 operands::primary-returns-in-Some-CharLit-clause-reads t c =
-    record { spelled = λ h. inl (g.character _ c.pos-pos.ensures (c.step-in-Some-CharLit.ensures.reads _ (sym c.kind.ensures ∙ (c.in-Some-CharLit.is ∙ ap Some c.in-Some-CharLit.field-0-is)))) }
+    record {
+      spelled = λ h.
+          let kept = c.keep_expr-in-Some-CharLit.ensures in
+          let character = g.character _ c.pos-pos.ensures (c.step-in-Some-CharLit.ensures.reads _ (sym c.kind.ensures ∙ (c.in-Some-CharLit.is ∙ ap Some c.in-Some-CharLit.field-0-is))) in
+          node_spells {rank = e8} (kept.kept h) (kept.reads h) (inl character);
+    }
 
 pub operands::selector-returns-then-skip_sign-clause-reads : goal.operands::selector-returns-then-skip_sign-clause-reads
 operands::selector-returns-then-skip_sign-clause-reads t c =
@@ -382,14 +407,12 @@ pub operands::actual-returns-in-Value-clause-reads : goal.operands::actual-retur
 operands::actual-returns-in-Value-clause-reads t c =
     record {
       spelled = λ h.
-          let kept = c.keep_expr-in-Value.ensures in
           let value = c.in-Value.ensures in
-          let value_goes = still kept.follows h in
-          let lone_goes = still value.follows value_goes in
+          let lone_goes = still value.follows h in
           let unbound : c.binding.result ≡ None = search rules in
           let unnamed : c.lone_name.result ≡ None = search rules in
           let start = unbound_here (c.binding.ensures.reads (still c.lone_name.ensures.follows lone_goes)) unbound in
-          passed_kept _ (unnamed_here (c.lone_name.ensures.reads lone_goes) unnamed ∙ start) (value.reads.spelled value_goes) (kept.kept h) (kept.reads h);
+          passed_kept _ (unnamed_here (c.lone_name.ensures.reads lone_goes) unnamed ∙ start) (value.reads.spelled h) refl refl;
     }
 
 pub operands::actual-returns-in-TypeExp-clause-reads : goal.operands::actual-returns-in-TypeExp-clause-reads

@@ -3,7 +3,7 @@ use Rattle.m3_phrases.proofs.Spelling.{stopped}
 use Rattle.m3_phrases.proofs.expressions.kept_value.Goals as goal
 
 pub returns-in-TypeExp-clause-stays : goal.returns-in-TypeExp-clause-stays
-returns-in-TypeExp-clause-stays c = λ h. stopped c.unexpected.ensures.stopped (still c.keep_expr-in-TypeExp.ensures.follows h)
+returns-in-TypeExp-clause-stays c = λ h. stopped c.unexpected.ensures.stopped (still c.keep_expr.ensures.follows h)
 
 pub returns-in-TypeExp-clause-value : goal.returns-in-TypeExp-clause-value
-returns-in-TypeExp-clause-value c = λ h. stopped c.unexpected.ensures.stopped (still c.keep_expr-in-TypeExp.ensures.follows h)
+returns-in-TypeExp-clause-value c = λ h. stopped c.unexpected.ensures.stopped (still c.keep_expr.ensures.follows h)

@@ -9,7 +9,7 @@ pub returns-in_default-clause-reads : goal.returns-in_default-clause-reads
 returns-in_default-clause-reads c = record {
   spelled = λ h.
       let some : is_some c.inside_expression.new.reader.stop ≡ true = search rules in
-      stopped some (still c.keep_expr.ensures.follows h);
+      stopped some h;
 }
 
 pub returns-clause-reads : goal.returns-clause-reads
