@@ -1,82 +1,88 @@
 use crate::chains::judge_place;
-use crate::expressions::{judge_expression, judge_row};
-use crate::judge::Judge;
+use crate::expressions::judge_expression;
+use crate::judge::{Judge, mark};
+use crate::tables::Form;
 use m3_base::NoMemory;
 use m3_core::{Actual, BuiltinCall, Routine};
-use m3_types::{TypeId, TypeNode};
+use m3_types::TypeId;
+use std::alloc::Global;
 
-/// Judges the actuals of a call of a procedure or method of a type, and whether it gives a result
-/// where the call has one.
+/// Judges the actuals of a call of a procedure or method.
 #[cycle(expressions)]
-pub fn judge_actuals<'a>(
-    judge: &mut Judge<'_, 'a>,
-    signature: Option<TypeId>,
-    actuals: &[Actual<'a>],
-    given: Option<TypeId>,
-) -> Result<(), NoMemory> {
-    let shape = shape_of(judge, signature);
-    judge.expect_optional(given);
-    match shape {
-        Some((formals, has_result)) => {
-            judge.expect(given.is_some() == has_result);
-            expect_formals(judge, actuals, formals)?;
-        }
-        None => judge.expect(false),
-    }
-    for actual in actuals {
-        judge_actual(judge, actual)?;
-    }
-    Ok(())
-}
-
-/// How many formals a procedure type has, and whether it has a result.
-fn shape_of(judge: &Judge<'_, '_>, signature: Option<TypeId>) -> Option<(usize, bool)> {
-    match judge.node(signature?) {
-        TypeNode::Procedure(formals, result, _) => Some((formals.len(), result.is_some())),
-        _ => None,
-    }
-}
-
-/// Each formal has one actual.
-fn expect_formals<'a>(
-    judge: &mut Judge<'_, 'a>,
-    actuals: &[Actual<'a>],
-    count: usize,
-) -> Result<(), NoMemory> {
-    let mut places = Vec::new(judge.alloc);
+pub fn judge_actuals<'a>(judge: &mut Judge<'_>, actuals: &[Actual<'a>]) {
     for actual in actuals {
         match actual {
-            Actual::Value { formal, .. } | Actual::Place { formal, .. } => places.push(*formal)?,
-        }
-    }
-    judge.expect_each_once(&places, count)
-}
-
-#[cycle(expressions)]
-fn judge_actual<'a>(judge: &mut Judge<'_, 'a>, actual: &Actual<'a>) -> Result<(), NoMemory> {
-    match actual {
-        Actual::Value { kind, value, .. } => {
-            judge.expect_type(*kind);
-            judge_expression(judge, value)
-        }
-        Actual::Place { kind, place, .. } => {
-            judge.expect_type(*kind);
-            judge_place(judge, place)
+            Actual::Value { value, .. } => judge_expression(judge, value),
+            Actual::Place { place, .. } => judge_place(judge, place),
         }
     }
 }
 
-/// Judges the call of a routine.
-#[cycle(expressions)]
-pub fn judge_builtin<'a>(
-    judge: &mut Judge<'_, 'a>,
-    call: &BuiltinCall<'a>,
-) -> Result<(), NoMemory> {
-    judge.expect(call.actuals.len() == formal_count(call.routine));
+/// What is called is a procedure type, each formal has one actual, and a result is given where it
+/// has one.
+pub fn expect_called(
+    judge: &mut Judge<'_>,
+    signature: Option<TypeId>,
+    actuals: &[Actual<'_>],
+    given: Option<TypeId>,
+) {
+    judge.expect_optional(given);
+    for actual in actuals {
+        let (Actual::Value { kind, .. } | Actual::Place { kind, .. }) = actual;
+        judge.expect_type(*kind);
+    }
+    match form_of_called(judge, signature) {
+        Form::Procedure {
+            formals,
+            has_result,
+        } => {
+            judge.expect(given.is_some() == has_result);
+            judge.expect(actuals.len() == formals);
+            judge.expect_told(are_each_once(judge.alloc, actuals, formals));
+        }
+        _ => judge.expect(false),
+    }
+}
+
+/// The form of what is called.
+fn form_of_called(judge: &Judge<'_>, signature: Option<TypeId>) -> Form {
+    match signature {
+        Some(signature) => judge.form(signature),
+        None => Form::NoType,
+    }
+}
+
+/// Whether the formals are among so many, each at most once.
+fn are_each_once(alloc: Global, actuals: &[Actual<'_>], count: usize) -> Result<bool, NoMemory> {
+    let mut marks = vec![in alloc; false; count]?;
+    for actual in actuals {
+        let (Actual::Value { formal, .. } | Actual::Place { formal, .. }) = actual;
+        if !mark(&mut marks, *formal) {
+            return Ok(false);
+        }
+    }
+    Ok(true)
+}
+
+/// The call of a routine has an actual for each formal, and a result where the routine has one.
+pub fn expect_builtin(judge: &mut Judge<'_>, call: &BuiltinCall<'_>) {
+    let count = call.actuals.len();
+    judge.expect(count == formal_count(call.routine));
     judge.expect(call.kind.is_some() == gives_result(call.routine));
     judge.expect_optional(call.kind);
-    judge.expect_each_once(call.order, call.actuals.len())?;
-    judge_row(judge, call.actuals)
+    judge.expect(call.order.len() == count);
+    judge.expect_told(is_order(judge.alloc, call.order, count));
+}
+
+/// Whether the places are among so many, each at most once.
+fn is_order(alloc: Global, places: &[u32], count: usize) -> Result<bool, NoMemory> {
+    let mut marks = vec![in alloc; false; count]?;
+    for place in places {
+        if !mark(&mut marks, *place) {
+            return Ok(false);
+        }
+    }
+    Ok(true)
 }
 
 /// How many formals a routine has.

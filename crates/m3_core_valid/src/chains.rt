@@ -1,95 +1,88 @@
-use crate::calls::judge_actuals;
+use crate::calls::{expect_called, judge_actuals};
 use crate::expressions::{judge_expression, kind_of};
 use crate::judge::Judge;
-use m3_base::NoMemory;
-use m3_core::{Base, Chain, Step, VarKind};
-use m3_types::{TypeId, TypeNode};
+use crate::tables::Form;
+use m3_core::{Base, Chain, Step};
+use m3_types::TypeId;
 
 /// What a chain gives up to a step: a place, or a value, if the step gives one at all.
-#[derive(Clone, Copy, Debug, PartialEq, Eq)]
+#[derive(Clone, Copy)]
 pub enum Given {
     Place(TypeId),
     Value(Option<TypeId>),
 }
 
-/// The type of what is given.
-pub fn given_type(given: Given) -> Option<TypeId> {
-    match given {
-        Given::Place(kind) => Some(kind),
-        Given::Value(kind) => kind,
+impl Given {
+    /// The type of what is given.
+    fn kind(self) -> Option<TypeId> {
+        match self {
+            Given::Place(kind) => Some(kind),
+            Given::Value(kind) => kind,
+        }
+    }
+
+    /// The type of the place that is given.
+    fn place(self) -> Option<TypeId> {
+        match self {
+            Given::Place(kind) => Some(kind),
+            Given::Value(_) => None,
+        }
+    }
+
+    /// The type of the value that is given.
+    pub fn value(self) -> Option<TypeId> {
+        match self {
+            Given::Place(_) => None,
+            Given::Value(kind) => kind,
+        }
     }
 }
 
 /// Judges a chain, and tells what it gives.
 #[cycle(expressions)]
-pub fn judge_chain<'a>(judge: &mut Judge<'_, 'a>, chain: &Chain<'a>) -> Result<Given, NoMemory> {
-    let mut given = judge_base(judge, chain.base)?;
+pub fn judge_chain<'a>(judge: &mut Judge<'_>, chain: &Chain<'a>) -> Given {
+    let mut given = judge_base(judge, chain.base);
     for step in chain.steps {
-        given = judge_step(judge, given, step)?;
+        judge_step(judge, step);
+        given = given_behind(judge, given, step);
     }
     judge.expect_optional(chain.kind);
-    judge.expect(chain.kind.is_some() == given_type(given).is_some());
-    Ok(given)
+    judge.expect(chain.kind.is_some() == given.kind().is_some());
+    given
+}
+
+/// Judges a chain that has to give a value.
+#[cycle(expressions)]
+pub fn judge_value<'a>(judge: &mut Judge<'_>, chain: &Chain<'a>) {
+    let given = judge_chain(judge, chain);
+    judge.expect(given.value().is_some());
 }
 
 /// Judges a chain that has to give a place.
 #[cycle(expressions)]
-pub fn judge_place<'a>(judge: &mut Judge<'_, 'a>, chain: &Chain<'a>) -> Result<(), NoMemory> {
-    let given = judge_chain(judge, chain)?;
-    judge.expect(matches!(given, Given::Place(_)));
-    Ok(())
+pub fn judge_place<'a>(judge: &mut Judge<'_>, chain: &Chain<'a>) {
+    let given = judge_chain(judge, chain);
+    judge.expect(given.place().is_some());
 }
 
 /// Judges a chain that has to give the place of an array.
 #[cycle(expressions)]
-pub fn judge_array<'a>(judge: &mut Judge<'_, 'a>, chain: &Chain<'a>) -> Result<(), NoMemory> {
-    let given = judge_chain(judge, chain)?;
+pub fn judge_array<'a>(judge: &mut Judge<'_>, chain: &Chain<'a>) {
+    let given = judge_chain(judge, chain);
+    expect_array(judge, given);
+}
+
+fn expect_array(judge: &mut Judge<'_>, given: Given) {
     let is_array = match given {
-        Given::Place(kind) => is_array(judge, kind),
+        Given::Place(kind) => judge.is_array(kind),
         Given::Value(_) => false,
     };
     judge.expect(is_array);
-    Ok(())
-}
-
-fn is_array(judge: &Judge<'_, '_>, kind: TypeId) -> bool {
-    matches!(
-        judge.node(kind),
-        TypeNode::FixedArray(_, _) | TypeNode::OpenArray(_)
-    )
 }
 
 #[cycle(expressions)]
-fn judge_base<'a>(judge: &mut Judge<'_, 'a>, base: Base<'a>) -> Result<Given, NoMemory> {
+fn judge_base<'a>(judge: &mut Judge<'_>, base: Base<'a>) -> Given {
     match base {
-        Base::Global { variable, kind } => {
-            judge.expect((variable as usize) < judge.globals.len());
-            Ok(place_of(judge, kind))
-        }
-        Base::Local {
-            level,
-            variable,
-            kind,
-        } => {
-            let is_own = matches!(
-                judge.variable(level, variable),
-                Some(VarKind::Variable(_)) | Some(VarKind::ByValue(_))
-            );
-            judge.expect(is_own);
-            Ok(place_of(judge, kind))
-        }
-        Base::Alias {
-            level,
-            variable,
-            kind,
-        } => {
-            let is_alias = matches!(
-                judge.variable(level, variable),
-                Some(VarKind::ByVar(_)) | Some(VarKind::ByReadonly(_)) | Some(VarKind::Alias(_))
-            );
-            judge.expect(is_alias);
-            Ok(place_of(judge, kind))
-        }
         Base::Inner(chain) => judge_chain(judge, chain),
         Base::Subarray {
             array,
@@ -97,49 +90,76 @@ fn judge_base<'a>(judge: &mut Judge<'_, 'a>, base: Base<'a>) -> Result<Given, No
             count,
             kind,
         } => {
-            judge_array(judge, array)?;
-            judge_expression(judge, start)?;
-            judge_expression(judge, count)?;
-            let is_open = matches!(judge.node(kind), TypeNode::OpenArray(_));
-            judge.expect(is_open);
-            Ok(Given::Place(kind))
+            judge_array(judge, array);
+            judge_expression(judge, start);
+            judge_expression(judge, count);
+            open_array_of(judge, kind)
         }
         Base::Value(value) => {
-            judge_expression(judge, value)?;
-            Ok(Given::Value(kind_of(value)))
+            judge_expression(judge, value);
+            Given::Value(kind_of(value))
         }
+        _ => variable_of(judge, base),
     }
 }
 
+/// The place of a variable.
+fn variable_of(judge: &mut Judge<'_>, base: Base<'_>) -> Given {
+    match base {
+        Base::Global { variable, kind } => {
+            judge.expect_global(variable);
+            place_of(judge, kind)
+        }
+        Base::Local {
+            level,
+            variable,
+            kind,
+        } => {
+            judge.expect(judge.is_alias(level, variable) == Some(false));
+            place_of(judge, kind)
+        }
+        Base::Alias {
+            level,
+            variable,
+            kind,
+        } => {
+            judge.expect(judge.is_alias(level, variable) == Some(true));
+            place_of(judge, kind)
+        }
+        _ => Given::Value(None),
+    }
+}
+
+/// A place of an open array type.
+fn open_array_of(judge: &mut Judge<'_>, kind: TypeId) -> Given {
+    judge.expect(matches!(judge.form(kind), Form::OpenArray(_)));
+    Given::Place(kind)
+}
+
 /// A place of a type.
-fn place_of(judge: &mut Judge<'_, '_>, kind: TypeId) -> Given {
+fn place_of(judge: &mut Judge<'_>, kind: TypeId) -> Given {
     judge.expect_type(kind);
     Given::Place(kind)
 }
 
+/// Judges what is evaluated in a step.
 #[cycle(expressions)]
-fn judge_step<'a>(
-    judge: &mut Judge<'_, 'a>,
-    before: Given,
-    step: &Step<'a>,
-) -> Result<Given, NoMemory> {
+fn judge_step<'a>(judge: &mut Judge<'_>, step: &Step<'a>) {
     match step {
-        Step::Element { index, kind } => {
-            judge_expression(judge, index)?;
-            let is_element = match before {
-                Given::Place(array) => is_array(judge, array),
-                Given::Value(_) => false,
-            };
-            judge.expect(is_element);
-            Ok(place_of(judge, *kind))
-        }
+        Step::Element { index, .. } => judge_expression(judge, index),
+        Step::Call { actuals, .. } | Step::MethodCall { actuals, .. } => judge_actuals(
+            judge, actuals,
+        ),
+        _ => {}
+    }
+}
+
+/// What a step gives behind what is given before it.
+fn given_behind(judge: &mut Judge<'_>, before: Given, step: &Step<'_>) -> Given {
+    match step {
         Step::Call { actuals, kind } => {
-            let signature = match before {
-                Given::Value(signature) => signature,
-                Given::Place(_) => None,
-            };
-            judge_actuals(judge, signature, actuals, *kind)?;
-            Ok(Given::Value(*kind))
+            expect_called(judge, before.value(), actuals, *kind);
+            Given::Value(*kind)
         }
         Step::MethodCall {
             owner,
@@ -147,91 +167,54 @@ fn judge_step<'a>(
             actuals,
             kind,
         } => {
-            judge.expect(is_reference(judge, before));
-            let signature = signature_of(judge, *owner, *method);
-            judge_actuals(judge, signature, actuals, *kind)?;
-            Ok(Given::Value(*kind))
+            expect_reference(judge, before);
+            let signature = judge.signature_of(*owner, *method);
+            expect_called(judge, signature, actuals, *kind);
+            Given::Value(*kind)
         }
-        Step::Read { .. }
-        | Step::Keep { .. }
-        | Step::Dereference { .. }
-        | Step::Field { .. }
-        | Step::ObjectField { .. } => Ok(judge_plain_step(judge, before, step)),
-    }
-}
-
-/// Judges a step without expressions in it.
-fn judge_plain_step<'a>(judge: &mut Judge<'_, 'a>, before: Given, step: &Step<'a>) -> Given {
-    match step {
+        Step::Element { kind, .. } => {
+            expect_array(judge, before);
+            place_of(judge, *kind)
+        }
         Step::Read { kind } => {
-            judge.expect(matches!(before, Given::Place(_)));
+            judge.expect(before.place().is_some());
             judge.expect_type(*kind);
             Given::Value(Some(*kind))
         }
         Step::Keep { kind } => {
-            judge.expect(matches!(before, Given::Value(Some(_))));
+            judge.expect(before.value().is_some());
             place_of(judge, *kind)
         }
         Step::Dereference { kind } => {
-            judge.expect(is_reference(judge, before));
+            expect_reference(judge, before);
             place_of(judge, *kind)
         }
         Step::Field { field, kind } => {
-            let count = match before {
-                Given::Place(record) => field_count(judge, record),
-                Given::Value(_) => 0,
-            };
-            judge.expect((*field as usize) < count);
+            expect_field(judge, before, *field);
             place_of(judge, *kind)
         }
         Step::ObjectField { owner, field, kind } => {
-            judge.expect(is_reference(judge, before));
-            let count = object_field_count(judge, *owner);
-            judge.expect((*field as usize) < count);
+            expect_reference(judge, before);
+            judge.expect((*field as usize) < judge.object_field_count(*owner));
             place_of(judge, *kind)
         }
-        Step::Element { .. } | Step::Call { .. } | Step::MethodCall { .. } => before,
     }
 }
 
-/// Whether a value of a reference type is given.
-fn is_reference(judge: &Judge<'_, '_>, given: Given) -> bool {
-    match given {
-        Given::Value(Some(kind)) => matches!(
-            judge.node(kind),
-            TypeNode::RefTo(_, _)
-                | TypeNode::Object(_, _, _, _, _)
-                | TypeNode::Opaque(_, _)
-                | TypeNode::Mutex
-                | TypeNode::Root
-        ),
+/// A value of a reference type has to be given.
+fn expect_reference(judge: &mut Judge<'_>, given: Given) {
+    let is_reference = match given {
+        Given::Value(Some(kind)) => judge.is_reference(kind),
         _ => false,
-    }
+    };
+    judge.expect(is_reference);
 }
 
-/// How many fields a record type has.
-pub fn field_count(judge: &Judge<'_, '_>, record: TypeId) -> usize {
-    match judge.node(record) {
-        TypeNode::Fields(fields) => fields.len(),
-        _ => 0,
-    }
-}
-
-/// How many fields the part of an object type declares.
-pub fn object_field_count(judge: &Judge<'_, '_>, owner: TypeId) -> usize {
-    match judge.node(judge.unveiled(owner)) {
-        TypeNode::Object(_, _, fields, _, _) => fields.len(),
-        _ => 0,
-    }
-}
-
-/// The signature of a method that the part of an object type declares.
-fn signature_of(judge: &Judge<'_, '_>, owner: TypeId, method: u32) -> Option<TypeId> {
-    match judge.node(judge.unveiled(owner)) {
-        TypeNode::Object(_, _, _, methods, _) => match methods.get(method as usize) {
-            Some(method) => Some(method.signature),
-            None => None,
-        },
-        _ => None,
-    }
+/// The place of a record with such a field has to be given.
+fn expect_field(judge: &mut Judge<'_>, given: Given, field: u32) {
+    let count = match given {
+        Given::Place(record) => judge.field_count(record),
+        Given::Value(_) => 0,
+    };
+    judge.expect((field as usize) < count);
 }

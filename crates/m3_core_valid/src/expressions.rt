@@ -1,10 +1,10 @@
-use crate::calls::judge_builtin;
-use crate::chains::{Given, judge_array, judge_chain};
+use crate::calls::expect_builtin;
+use crate::chains::{judge_array, judge_value};
 use crate::judge::Judge;
-use crate::rows::{expect_fields, expect_made, judge_bindings, judge_elements, judge_fields};
-use m3_base::NoMemory;
+use crate::rows::{expect_bindings, expect_fields, judge_bindings, judge_elements, judge_fields};
+use crate::tables::Form;
 use m3_core::{CoreExpr, Operation};
-use m3_types::{TypeId, TypeNode};
+use m3_types::TypeId;
 
 /// The type of an expression; None for what gives nothing.
 pub fn kind_of(value: &CoreExpr<'_>) -> Option<TypeId> {
@@ -34,144 +34,118 @@ pub fn kind_of(value: &CoreExpr<'_>) -> Option<TypeId> {
 
 /// Judges each expression of a row.
 #[cycle(expressions)]
-pub fn judge_row<'a>(judge: &mut Judge<'_, 'a>, row: &[CoreExpr<'a>]) -> Result<(), NoMemory> {
+pub fn judge_row<'a>(judge: &mut Judge<'_>, row: &[CoreExpr<'a>]) {
     for value in row {
-        judge_expression(judge, value)?;
+        judge_expression(judge, value);
     }
-    Ok(())
+}
+
+/// Judges an expression that may be missing.
+pub fn judge_optional<'a>(judge: &mut Judge<'_>, value: Option<&CoreExpr<'a>>) {
+    if let Some(value) = value {
+        judge_expression(judge, value);
+    }
 }
 
 /// Judges an expression.
 #[cycle(expressions)]
-pub fn judge_expression<'a>(
-    judge: &mut Judge<'_, 'a>,
-    value: &CoreExpr<'a>,
-) -> Result<(), NoMemory> {
+pub fn judge_expression<'a>(judge: &mut Judge<'_>, value: &CoreExpr<'a>) {
+    expect_node(judge, value);
     match value {
-        CoreExpr::Chain(chain) => {
-            let given = judge_chain(judge, chain)?;
-            judge.expect(matches!(given, Given::Value(Some(_))));
-            return Ok(());
+        CoreExpr::Chain(chain) => judge_value(judge, chain),
+        CoreExpr::Builtin(call) => judge_row(judge, call.actuals),
+        CoreExpr::Operations { first, rest, .. } => {
+            judge_expression(judge, first);
+            judge_operations(judge, rest);
         }
-        CoreExpr::Builtin(call) => {
-            judge.expect(call.kind.is_some());
-            return judge_builtin(judge, call);
-        }
-        _ => {}
-    }
-    judge.expect_optional(kind_of(value));
-    match value {
-        CoreExpr::Number { .. }
-        | CoreExpr::Text { .. }
-        | CoreExpr::Nil { .. }
-        | CoreExpr::Procedure { .. }
-        | CoreExpr::InnerProcedure { .. }
-        | CoreExpr::Constant { .. } => {
-            judge_leaf(judge, value);
-            Ok(())
-        }
-        CoreExpr::SetOf { .. } | CoreExpr::ArrayOf { .. } | CoreExpr::RecordOf { .. } => {
-            judge_constructor(judge, value)
-        }
-        _ => judge_computed(judge, value),
+        CoreExpr::Prefixed { operand, .. }
+        | CoreExpr::Convert { operand, .. }
+        | CoreExpr::TypeTest { operand, .. } => judge_expression(judge, operand),
+        CoreExpr::ArrayLimit { array, .. } => judge_array(judge, array),
+        _ => judge_constructor(judge, value),
     }
 }
 
-/// Judges an expression that has no others in it.
-fn judge_leaf<'a>(judge: &mut Judge<'_, 'a>, value: &CoreExpr<'a>) {
-    match value {
-        CoreExpr::Text { text, .. } => judge.expect((*text as usize) < judge.texts),
-        CoreExpr::Constant { value, .. } => judge.expect((value.0 as usize) < judge.values),
-        CoreExpr::Procedure { procedure, .. } => {
-            let is_outer = match judge.proc(*procedure) {
-                Some(proc) => proc.level == 0,
-                None => false,
-            };
-            judge.expect(is_outer);
-        }
-        CoreExpr::InnerProcedure { procedure, .. } => {
-            let is_inner = match judge.proc(*procedure) {
-                Some(proc) => proc.level > 0,
-                None => false,
-            };
-            let has_activation = judge.number.is_some();
-            judge.expect(is_inner && has_activation);
-        }
-        _ => {}
-    }
-}
-
-/// Judges a constructor.
+/// Judges the parts of a constructor or NEW.
 #[cycle(expressions)]
-fn judge_constructor<'a>(judge: &mut Judge<'_, 'a>, value: &CoreExpr<'a>) -> Result<(), NoMemory> {
+fn judge_constructor<'a>(judge: &mut Judge<'_>, value: &CoreExpr<'a>) {
     match value {
-        CoreExpr::SetOf { kind, elements, .. } => {
-            let is_set = matches!(judge.node(*kind), TypeNode::SetOf(_));
-            judge.expect(is_set);
-            judge_elements(judge, elements)
-        }
-        CoreExpr::ArrayOf { kind, elements, .. } => {
-            let is_array = matches!(
-                judge.node(*kind),
-                TypeNode::FixedArray(_, _) | TypeNode::OpenArray(_)
-            );
-            judge.expect(is_array);
-            judge_row(judge, elements)
-        }
-        CoreExpr::RecordOf { kind, fields, .. } => {
-            expect_fields(judge, *kind, fields)?;
-            judge_fields(judge, fields)
-        }
-        _ => Ok(()),
-    }
-}
-
-/// Judges an expression that computes from others.
-#[cycle(expressions)]
-fn judge_computed<'a>(judge: &mut Judge<'_, 'a>, value: &CoreExpr<'a>) -> Result<(), NoMemory> {
-    match value {
-        CoreExpr::Prefixed {
-            operators,
-            operand,
+        CoreExpr::SetOf { elements, .. } => judge_elements(judge, elements),
+        CoreExpr::ArrayOf { elements, .. } => judge_row(judge, elements),
+        CoreExpr::RecordOf { fields, .. } => judge_fields(judge, fields),
+        CoreExpr::New {
+            sizes,
+            bindings,
             ..
         } => {
-            judge.expect(!operators.is_empty());
-            judge_expression(judge, operand)
+            judge_row(judge, sizes);
+            judge_bindings(judge, bindings);
         }
-        CoreExpr::Operations { first, rest, .. } => {
-            judge.expect(!rest.is_empty());
-            judge_expression(judge, first)?;
-            judge_operations(judge, rest)
+        _ => {}
+    }
+}
+
+#[cycle(expressions)]
+fn judge_operations<'a>(judge: &mut Judge<'_>, rest: &[Operation<'a>]) {
+    for operation in rest {
+        judge.expect_type(operation.kind);
+        judge_expression(judge, operation.right);
+    }
+}
+
+/// What a node names is there and of its kind, whatever its parts are.
+fn expect_node(judge: &mut Judge<'_>, value: &CoreExpr<'_>) {
+    judge.expect_optional(kind_of(value));
+    match value {
+        CoreExpr::Text { text, .. } => judge.expect_text(*text),
+        CoreExpr::Constant { value, .. } => judge.expect_value(value.0),
+        CoreExpr::Procedure { procedure, .. } => expect_outer(judge, *procedure),
+        CoreExpr::InnerProcedure { procedure, .. } => expect_inner(judge, *procedure),
+        CoreExpr::Builtin(call) => {
+            judge.expect(call.kind.is_some());
+            expect_builtin(judge, call);
         }
+        CoreExpr::Prefixed { operators, .. } => judge.expect(!operators.is_empty()),
+        CoreExpr::Operations { rest, .. } => judge.expect(!rest.is_empty()),
+        CoreExpr::TypeTest { tested, .. } => judge.expect_type(*tested),
+        _ => expect_constructor(judge, value),
+    }
+}
+
+/// The type of a constructor or NEW is one for it.
+fn expect_constructor(judge: &mut Judge<'_>, value: &CoreExpr<'_>) {
+    match value {
+        CoreExpr::SetOf { kind, .. } => judge.expect(matches!(judge.form(*kind), Form::Set)),
+        CoreExpr::ArrayOf { kind, .. } => judge.expect(judge.is_array(*kind)),
+        CoreExpr::RecordOf { kind, fields, .. } => expect_fields(judge, *kind, fields),
         CoreExpr::New {
             made,
             sizes,
             bindings,
             ..
         } => {
-            expect_made(judge, *made, sizes.len());
-            judge_row(judge, sizes)?;
-            judge_bindings(judge, *made, bindings)
+            judge.expect_made(*made, sizes.len());
+            expect_bindings(judge, *made, bindings);
         }
-        CoreExpr::Convert { operand, .. } => judge_expression(judge, operand),
-        CoreExpr::TypeTest {
-            operand,
-            tested,
-            ..
-        } => {
-            judge.expect_type(*tested);
-            judge_expression(judge, operand)
-        }
-        CoreExpr::ArrayLimit { array, .. } => judge_array(judge, array),
-        _ => Ok(()),
+        _ => {}
     }
 }
 
-#[cycle(expressions)]
-fn judge_operations<'a>(judge: &mut Judge<'_, 'a>, rest: &[Operation<'a>]) -> Result<(), NoMemory> {
-    for operation in rest {
-        judge.expect_type(operation.kind);
-        judge_expression(judge, operation.right)?;
-    }
-    Ok(())
+/// A procedure of the outermost scope of a unit.
+fn expect_outer(judge: &mut Judge<'_>, procedure: u32) {
+    let is_outer = match judge.heading(procedure) {
+        Some(heading) => heading.level == 0,
+        None => false,
+    };
+    judge.expect(is_outer);
+}
+
+/// A procedure inside another, where there is an activation.
+fn expect_inner(judge: &mut Judge<'_>, procedure: u32) {
+    let is_inner = match judge.heading(procedure) {
+        Some(heading) => heading.level > 0,
+        None => false,
+    };
+    judge.expect(is_inner);
+    judge.expect(judge.has_own());
 }

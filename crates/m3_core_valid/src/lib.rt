@@ -9,5 +9,6 @@ mod judge;
 mod program;
 mod rows;
 mod statements;
+mod tables;
 
 pub use program::is_well_formed;

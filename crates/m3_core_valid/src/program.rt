@@ -1,9 +1,9 @@
 use crate::expressions::judge_expression;
 use crate::judge::Judge;
 use crate::statements::judge_statements;
-use m3_base::{NoMemory, place_number};
-use m3_core::{Core, ExcDef, ProcDef, Value, ValueId, VarDef, VarKind};
-use m3_types::TypeNode;
+use crate::tables::{Form, Heading, Tables, Variable, variable_of};
+use m3_base::NoMemory;
+use m3_core::{Core, ExcDef, ProcDef, Value, ValueId, VarDef};
 use std::alloc::Global;
 
 /// Whether a checked tree is well formed: the graph of its types is, each variable, field, method,
@@ -11,69 +11,54 @@ use std::alloc::Global;
 /// is defined for, each type is a type of the program, and each call and constructor has what it
 /// needs, each once. That the types of the parts fit each other isn't judged.
 pub fn is_well_formed(alloc: Global, core: &Core<'_>) -> Result<bool, NoMemory> {
-    let mut judge = Judge::new(alloc, core);
-    judge_types(&mut judge)?;
-    judge_globals(&mut judge, core.globals)?;
-    judge_exceptions(&mut judge, core.exceptions);
-    judge_values(&mut judge, core.values);
-    judge_order(&mut judge, core.order);
-    judge.expect((core.alerted as usize) < core.exceptions.len());
-    for (place, proc) in core.procs.iter().enumerate() {
-        judge_proc(&mut judge, place_number(place)?, proc)?;
-    }
-    Ok(judge.is_good)
-}
-
-/// The definitions of the types.
-fn judge_types(judge: &mut Judge<'_, '_>) -> Result<(), NoMemory> {
-    let have_form = m3_forms::is_well_formed(judge.alloc, &judge.types.graph)?;
+    let have_form = m3_forms::is_well_formed(alloc, &core.types.graph)?;
+    let tables = Tables::of(alloc, core)?;
+    let mut judge = Judge::new(alloc, &tables, core.exceptions);
     judge.expect(have_form);
-    Ok(())
+    judge_program(&mut judge, &tables, core);
+    judge.verdict()
 }
 
-fn judge_globals<'a>(judge: &mut Judge<'_, 'a>, globals: &[VarDef<'a>]) -> Result<(), NoMemory> {
+fn judge_program(judge: &mut Judge<'_>, tables: &Tables, core: &Core<'_>) {
+    judge_globals(judge, core.globals);
+    judge_exceptions(judge, core.exceptions);
+    judge_values(judge, core.values);
+    judge_order(judge, core.order);
+    judge.expect_exception(core.alerted);
+    judge_headings(judge, &tables.headings);
+    judge_variables(judge, &tables.variables);
+    judge_bodies(judge, core.procs);
+}
+
+fn judge_globals<'a>(judge: &mut Judge<'_>, globals: &[VarDef<'a>]) {
     for global in globals {
-        judge_variable(judge, global);
+        judge.expect_type(variable_of(global.kind).kind);
         if let Some(value) = global.initial {
-            judge_expression(judge, value)?;
+            judge_expression(judge, value);
         }
     }
-    Ok(())
 }
 
-fn judge_variable<'a>(judge: &mut Judge<'_, 'a>, variable: &VarDef<'a>) {
-    match variable.kind {
-        VarKind::Variable(kind)
-        | VarKind::ByValue(kind)
-        | VarKind::ByVar(kind)
-        | VarKind::ByReadonly(kind)
-        | VarKind::Alias(kind) => judge.expect_type(kind),
-    }
-}
-
-fn judge_variables<'a>(judge: &mut Judge<'_, 'a>, variables: &[VarDef<'a>]) {
+fn judge_variables(judge: &mut Judge<'_>, variables: &[Variable]) {
     for variable in variables {
-        judge_variable(judge, variable);
+        judge.expect_type(variable.kind);
     }
 }
 
-fn judge_exceptions<'a>(judge: &mut Judge<'_, 'a>, exceptions: &[ExcDef<'a>]) {
+fn judge_exceptions(judge: &mut Judge<'_>, exceptions: &[ExcDef<'_>]) {
     for exception in exceptions {
         judge.expect_optional(exception.argument);
     }
 }
 
 /// The constants, each of which is made of those before it.
-fn judge_values<'a>(judge: &mut Judge<'_, 'a>, values: &[Value<'a>]) {
+fn judge_values(judge: &mut Judge<'_>, values: &[Value<'_>]) {
     for (place, value) in values.iter().enumerate() {
         match value {
             Value::Number(_) | Value::Nil | Value::Set(_) => {}
-            Value::Text(text) => judge.expect((*text as usize) < judge.texts),
-            Value::Procedure(number) => judge.expect((*number as usize) < judge.procs.len()),
-            Value::Record(parts) | Value::Array(parts, _) => {
-                let are_before = are_below(parts, place);
-                judge.expect(are_before);
-            }
+            Value::Text(text) => judge.expect_text(*text),
+            Value::Procedure(number) => judge.expect(judge.heading(*number).is_some()),
+            Value::Record(parts) | Value::Array(parts, _) => judge.expect(are_below(parts, place)),
         }
     }
 }
@@ -88,55 +73,50 @@ fn are_below(parts: &[ValueId], place: usize) -> bool {
 }
 
 /// The order of the module bodies.
-fn judge_order(judge: &mut Judge<'_, '_>, order: &[u32]) {
+fn judge_order(judge: &mut Judge<'_>, order: &[u32]) {
     for number in order {
-        let is_module = match judge.proc(*number) {
-            Some(proc) => proc.is_module,
+        let is_module = match judge.heading(*number) {
+            Some(heading) => heading.is_module,
             None => false,
         };
         judge.expect(is_module);
     }
 }
 
-/// Judges a procedure with its body.
-fn judge_proc<'a>(
-    judge: &mut Judge<'_, 'a>,
-    number: u32,
-    proc: &ProcDef<'a>,
-) -> Result<(), NoMemory> {
-    judge_heading(judge, proc);
-    judge_variables(judge, proc.formals);
-    judge_variables(judge, proc.locals);
-    judge.number = Some(number);
-    judge.loops = 0;
-    judge_statements(judge, proc.body)
-}
-
-/// The type of a procedure, and the procedure around it.
-fn judge_heading<'a>(judge: &mut Judge<'_, 'a>, proc: &ProcDef<'a>) {
-    let is_procedure = match judge.node(proc.kind) {
-        TypeNode::Procedure(formals, result, _) => {
-            formals.len() == proc.formals.len() && result.is_some() == proc.result.is_some()
-        }
-        _ => false,
-    };
-    judge.expect(is_procedure);
-    judge.expect_optional(proc.result);
-    let is_inside = match proc.outer {
-        Some(outer) => match judge.proc(outer) {
-            Some(outer) => Some(outer.level) == proc.level.checked_sub(1),
-            None => false,
-        },
-        None => proc.level == 0,
-    };
-    judge.expect(is_inside);
-    if let Some(raises) = proc.raises {
-        expect_raises(judge, raises);
+fn judge_headings(judge: &mut Judge<'_>, headings: &[Heading]) {
+    for heading in headings {
+        judge_heading(judge, heading);
     }
 }
 
-fn expect_raises(judge: &mut Judge<'_, '_>, raises: &[u32]) {
-    for exception in raises {
-        judge.expect((*exception as usize) < judge.exceptions.len());
+/// The type of a procedure, and the procedure around it.
+fn judge_heading(judge: &mut Judge<'_>, heading: &Heading) {
+    let is_procedure = match judge.form(heading.kind) {
+        Form::Procedure {
+            formals,
+            has_result,
+        } => formals == heading.formals && has_result == heading.result.is_some(),
+        _ => false,
+    };
+    judge.expect(is_procedure);
+    judge.expect_optional(heading.result);
+    let is_inside = match heading.outer {
+        Some(outer) => match judge.heading(outer) {
+            Some(outer) => Some(outer.level) == heading.level.checked_sub(1),
+            None => false,
+        },
+        None => heading.level == 0,
+    };
+    judge.expect(is_inside);
+}
+
+/// Judges the body of each procedure, and the exceptions that it may raise.
+fn judge_bodies<'a>(judge: &mut Judge<'_>, procs: &[ProcDef<'a>]) {
+    for (place, proc) in procs.iter().enumerate() {
+        judge.enter(place);
+        if let Some(raises) = proc.raises {
+            judge.expect_exceptions(raises);
+        }
+        judge_statements(judge, proc.body);
     }
 }

@@ -1,307 +1,185 @@
-use crate::calls::judge_builtin;
+use crate::calls::expect_builtin;
 use crate::chains::{Given, judge_chain, judge_place};
-use crate::expressions::judge_expression;
+use crate::expressions::{judge_expression, judge_optional, judge_row};
 use crate::judge::Judge;
-use m3_base::NoMemory;
-use m3_core::{Arm, Bound, CaseBranch, CoreExpr, CoreStmt, Handler, TypeBranch, WithBinding};
-use m3_types::TypeId;
+use m3_core::{Arm, Bound, CaseBranch, CoreStmt, Handler, TypeBranch, WithBinding};
 
 /// Judges each statement of a row.
 #[cycle(statements)]
-pub fn judge_statements<'a>(
-    judge: &mut Judge<'_, 'a>,
-    row: &[CoreStmt<'a>],
-) -> Result<(), NoMemory> {
+pub fn judge_statements<'a>(judge: &mut Judge<'_>, row: &[CoreStmt<'a>]) {
     for statement in row {
-        judge_statement(judge, statement)?;
+        judge_parts(judge, statement);
+        judge_inside(judge, statement);
     }
-    Ok(())
 }
 
+/// Judges the statements in a statement.
 #[cycle(statements)]
-fn judge_statement<'a>(
-    judge: &mut Judge<'_, 'a>,
-    statement: &CoreStmt<'a>,
-) -> Result<(), NoMemory> {
+fn judge_inside<'a>(judge: &mut Judge<'_>, statement: &CoreStmt<'a>) {
     match statement {
-        CoreStmt::Block {
-            variables,
-            initial,
-            body,
-            ..
-        } => {
-            expect_all_own(judge, variables);
-            judge_statements(judge, initial)?;
-            judge_statements(judge, body)
+        CoreStmt::Block { initial, body, .. } => {
+            judge_statements(judge, initial);
+            judge_statements(judge, body);
         }
-        CoreStmt::Case { .. } | CoreStmt::TypeCase { .. } | CoreStmt::If { .. } => {
-            judge_choice(judge, statement)
-        }
-        CoreStmt::For { .. }
-        | CoreStmt::Loop { .. }
-        | CoreStmt::Repeat { .. }
-        | CoreStmt::While { .. } => judge_loop(judge, statement),
-        CoreStmt::TryExcept { .. } => judge_handled(judge, statement),
         CoreStmt::TryFinally { body, last, .. } => {
-            judge_statements(judge, body)?;
-            judge_statements(judge, last)
+            judge_statements(judge, body);
+            judge_statements(judge, last);
         }
-        CoreStmt::With { bindings, body, .. } => {
-            judge_bound(judge, bindings)?;
-            judge_statements(judge, body)
+        CoreStmt::With { body, .. } => judge_statements(judge, body),
+        CoreStmt::For { body, .. }
+        | CoreStmt::Loop { body, .. }
+        | CoreStmt::Repeat { body, .. }
+        | CoreStmt::While { body, .. } => judge_turn(judge, body),
+        _ => {
+            judge_choices(judge, statement);
+            judge_else(judge, statement);
         }
-        _ => judge_simple(judge, statement),
     }
 }
 
-/// Judges a statement without statements in it.
-fn judge_simple<'a>(judge: &mut Judge<'_, 'a>, statement: &CoreStmt<'a>) -> Result<(), NoMemory> {
+/// Judges the branches of IF, CASE and TYPECASE, and the body and handlers of TRY EXCEPT.
+#[cycle(statements)]
+fn judge_choices<'a>(judge: &mut Judge<'_>, statement: &CoreStmt<'a>) {
     match statement {
-        CoreStmt::Assign { target, value, .. } => {
-            judge_place(judge, target)?;
-            judge_expression(judge, value)
+        CoreStmt::If { arms, .. } => judge_arms(judge, arms),
+        CoreStmt::Case { branches, .. } => judge_branches(judge, branches),
+        CoreStmt::TypeCase { branches, .. } => judge_types(judge, branches),
+        CoreStmt::TryExcept { body, handlers, .. } => {
+            judge_statements(judge, body);
+            judge_handlers(judge, handlers);
         }
-        CoreStmt::Call { call, .. } => {
-            let given = judge_chain(judge, call)?;
-            judge.expect(given == Given::Value(None));
-            Ok(())
-        }
-        CoreStmt::Builtin { call, .. } => {
-            judge.expect(call.kind.is_none());
-            judge_builtin(judge, call)
-        }
-        CoreStmt::Change { target, amount, .. } => {
-            judge_place(judge, target)?;
-            judge_optional(judge, *amount)
-        }
-        CoreStmt::Exit { .. } => {
-            judge.expect(judge.loops > 0);
-            Ok(())
-        }
-        CoreStmt::Eval { value, .. } => judge_expression(judge, value),
-        CoreStmt::Raise {
-            exception,
-            argument,
-            ..
-        } => {
-            let has_argument = match judge.exceptions.get(*exception as usize) {
-                Some(raised) => Some(raised.argument.is_some()),
-                None => None,
-            };
-            judge.expect(has_argument == Some(argument.is_some()));
-            judge_optional(judge, *argument)
-        }
-        CoreStmt::Return { value, .. } => {
-            let has_result = match judge.own() {
-                Some(proc) => Some(proc.result.is_some()),
-                None => None,
-            };
-            judge.expect(has_result == Some(value.is_some()));
-            judge_optional(judge, *value)
-        }
-        _ => Ok(()),
+        _ => {}
     }
 }
 
-fn judge_optional<'a>(
-    judge: &mut Judge<'_, 'a>,
-    value: Option<&CoreExpr<'a>>,
-) -> Result<(), NoMemory> {
-    match value {
-        Some(value) => judge_expression(judge, value),
-        None => Ok(()),
-    }
-}
-
-fn expect_all_own(judge: &mut Judge<'_, '_>, variables: &[u32]) {
-    for variable in variables {
-        judge.expect_own(*variable);
-    }
-}
-
-fn expect_optional_own(judge: &mut Judge<'_, '_>, variable: Option<u32>) {
-    if let Some(variable) = variable {
-        judge.expect_own(variable);
-    }
-}
-
-fn expect_types(judge: &mut Judge<'_, '_>, types: &[TypeId]) {
-    for t in types {
-        judge.expect_type(*t);
-    }
-}
-
-fn expect_exceptions(judge: &mut Judge<'_, '_>, exceptions: &[u32]) {
-    for exception in exceptions {
-        judge.expect((*exception as usize) < judge.exceptions.len());
-    }
-}
-
-/// Judges IF, CASE and TYPECASE.
+/// Judges the statements behind ELSE.
 #[cycle(statements)]
-fn judge_choice<'a>(judge: &mut Judge<'_, 'a>, statement: &CoreStmt<'a>) -> Result<(), NoMemory> {
-    match statement {
-        CoreStmt::If {
-            arms,
-            otherwise,
-            ..
-        } => {
-            judge_arms(judge, arms)?;
-            match otherwise {
-                Some(row) => judge_statements(judge, row),
-                None => Ok(()),
-            }
-        }
-        CoreStmt::Case {
-            value,
-            branches,
-            otherwise,
-            ..
-        } => {
-            judge_expression(judge, value)?;
-            judge_branches(judge, branches)?;
-            match otherwise {
-                Some(row) => judge_statements(judge, row),
-                None => Ok(()),
-            }
-        }
-        CoreStmt::TypeCase {
-            value,
-            branches,
-            otherwise,
-            ..
-        } => {
-            judge_expression(judge, value)?;
-            judge_types(judge, branches)?;
-            match otherwise {
-                Some(row) => judge_statements(judge, row),
-                None => Ok(()),
-            }
-        }
-        _ => Ok(()),
-    }
-}
-
-#[cycle(statements)]
-fn judge_arms<'a>(judge: &mut Judge<'_, 'a>, arms: &[Arm<'a>]) -> Result<(), NoMemory> {
-    for arm in arms {
-        judge_expression(judge, arm.condition)?;
-        judge_statements(judge, arm.body)?;
-    }
-    Ok(())
-}
-
-#[cycle(statements)]
-fn judge_branches<'a>(
-    judge: &mut Judge<'_, 'a>,
-    branches: &[CaseBranch<'a>],
-) -> Result<(), NoMemory> {
-    for branch in branches {
-        judge_statements(judge, branch.body)?;
-    }
-    Ok(())
-}
-
-#[cycle(statements)]
-fn judge_types<'a>(judge: &mut Judge<'_, 'a>, branches: &[TypeBranch<'a>]) -> Result<(), NoMemory> {
-    for branch in branches {
-        expect_types(judge, branch.types);
-        expect_optional_own(judge, branch.variable);
-        judge_statements(judge, branch.body)?;
-    }
-    Ok(())
-}
-
-/// Judges the loops.
-#[cycle(statements)]
-fn judge_loop<'a>(judge: &mut Judge<'_, 'a>, statement: &CoreStmt<'a>) -> Result<(), NoMemory> {
-    match statement {
-        CoreStmt::For {
-            variable,
-            first,
-            last,
-            step,
-            body,
-            ..
-        } => {
-            judge.expect_own(*variable);
-            judge_expression(judge, first)?;
-            judge_expression(judge, last)?;
-            judge_optional(judge, *step)?;
-            judge_turn(judge, body)
-        }
-        CoreStmt::Loop { body, .. } => judge_turn(judge, body),
-        CoreStmt::Repeat {
-            body,
-            condition,
-            ..
-        } => {
-            judge_turn(judge, body)?;
-            judge_expression(judge, condition)
-        }
-        CoreStmt::While {
-            condition,
-            body,
-            ..
-        } => {
-            judge_expression(judge, condition)?;
-            judge_turn(judge, body)
-        }
-        _ => Ok(()),
+fn judge_else<'a>(judge: &mut Judge<'_>, statement: &CoreStmt<'a>) {
+    let (CoreStmt::If { otherwise, .. }
+    | CoreStmt::Case { otherwise, .. }
+    | CoreStmt::TypeCase { otherwise, .. }
+    | CoreStmt::TryExcept { otherwise, .. }) = statement
+    else {
+        return;
+    };
+    if let Some(row) = otherwise {
+        judge_statements(judge, row);
     }
 }
 
 /// Judges the statements of a loop.
 #[cycle(statements)]
-fn judge_turn<'a>(judge: &mut Judge<'_, 'a>, body: &[CoreStmt<'a>]) -> Result<(), NoMemory> {
+fn judge_turn<'a>(judge: &mut Judge<'_>, body: &[CoreStmt<'a>]) {
     let loops = judge.loops;
     judge.loops = loops.saturating_add(1);
-    judge_statements(judge, body)?;
+    judge_statements(judge, body);
     judge.loops = loops;
-    Ok(())
 }
 
-/// Judges TRY EXCEPT.
 #[cycle(statements)]
-fn judge_handled<'a>(judge: &mut Judge<'_, 'a>, statement: &CoreStmt<'a>) -> Result<(), NoMemory> {
-    let CoreStmt::TryExcept {
-        body,
-        handlers,
-        otherwise,
-        ..
-    } = statement
-    else {
-        return Ok(());
-    };
-    judge_statements(judge, body)?;
-    judge_handlers(judge, handlers)?;
-    match otherwise {
-        Some(row) => judge_statements(judge, row),
-        None => Ok(()),
+fn judge_arms<'a>(judge: &mut Judge<'_>, arms: &[Arm<'a>]) {
+    for arm in arms {
+        judge_expression(judge, arm.condition);
+        judge_statements(judge, arm.body);
     }
 }
 
 #[cycle(statements)]
-fn judge_handlers<'a>(judge: &mut Judge<'_, 'a>, handlers: &[Handler<'a>]) -> Result<(), NoMemory> {
+fn judge_branches<'a>(judge: &mut Judge<'_>, branches: &[CaseBranch<'a>]) {
+    for branch in branches {
+        judge_statements(judge, branch.body);
+    }
+}
+
+#[cycle(statements)]
+fn judge_types<'a>(judge: &mut Judge<'_>, branches: &[TypeBranch<'a>]) {
+    for branch in branches {
+        judge.expect_types(branch.types);
+        judge.expect_optional_own(branch.variable);
+        judge_statements(judge, branch.body);
+    }
+}
+
+#[cycle(statements)]
+fn judge_handlers<'a>(judge: &mut Judge<'_>, handlers: &[Handler<'a>]) {
     for handler in handlers {
-        expect_exceptions(judge, handler.exceptions);
-        expect_optional_own(judge, handler.variable);
-        judge_statements(judge, handler.body)?;
+        judge.expect_exceptions(handler.exceptions);
+        judge.expect_optional_own(handler.variable);
+        judge_statements(judge, handler.body);
     }
-    Ok(())
+}
+
+/// Judges what a statement has beside statements.
+fn judge_parts<'a>(judge: &mut Judge<'_>, statement: &CoreStmt<'a>) {
+    match statement {
+        CoreStmt::Assign { target, value, .. } => {
+            judge_place(judge, target);
+            judge_expression(judge, value);
+        }
+        CoreStmt::Call { call, .. } => {
+            let given = judge_chain(judge, call);
+            judge.expect(matches!(given, Given::Value(None)));
+        }
+        CoreStmt::Builtin { call, .. } => {
+            judge.expect(call.kind.is_none());
+            expect_builtin(judge, call);
+            judge_row(judge, call.actuals);
+        }
+        CoreStmt::Change { target, amount, .. } => {
+            judge_place(judge, target);
+            judge_optional(judge, *amount);
+        }
+        CoreStmt::Eval { value, .. }
+        | CoreStmt::Case { value, .. }
+        | CoreStmt::TypeCase { value, .. } => judge_expression(judge, value),
+        CoreStmt::Repeat { condition, .. } | CoreStmt::While { condition, .. } => judge_expression(
+            judge, condition,
+        ),
+        CoreStmt::Block { variables, .. } => judge.expect_all_own(variables),
+        CoreStmt::With { bindings, .. } => judge_bound(judge, bindings),
+        _ => judge_leaving(judge, statement),
+    }
+}
+
+/// Judges EXIT, RAISE and RETURN, and the range of FOR.
+fn judge_leaving<'a>(judge: &mut Judge<'_>, statement: &CoreStmt<'a>) {
+    match statement {
+        CoreStmt::Exit { .. } => judge.expect(judge.loops > 0),
+        CoreStmt::Raise {
+            exception,
+            argument,
+            ..
+        } => {
+            judge.expect(judge.has_argument(*exception) == Some(argument.is_some()));
+            judge_optional(judge, *argument);
+        }
+        CoreStmt::Return { value, .. } => {
+            judge.expect(judge.has_result() == Some(value.is_some()));
+            judge_optional(judge, *value);
+        }
+        CoreStmt::For {
+            variable,
+            first,
+            last,
+            step,
+            ..
+        } => {
+            judge.expect_own(*variable);
+            judge_expression(judge, first);
+            judge_expression(judge, last);
+            judge_optional(judge, *step);
+        }
+        _ => {}
+    }
 }
 
 /// Judges the bindings of WITH.
-fn judge_bound<'a>(
-    judge: &mut Judge<'_, 'a>,
-    bindings: &[WithBinding<'a>],
-) -> Result<(), NoMemory> {
+fn judge_bound<'a>(judge: &mut Judge<'_>, bindings: &[WithBinding<'a>]) {
     for binding in bindings {
         judge.expect_own(binding.variable);
         match binding.bound {
-            Bound::Place(place) => judge_place(judge, place)?,
-            Bound::Value(value) => judge_expression(judge, value)?,
+            Bound::Place(place) => judge_place(judge, place),
+            Bound::Value(value) => judge_expression(judge, value),
         }
     }
-    Ok(())
 }
