@@ -9,5 +9,6 @@ mod memory;
 mod points;
 mod services;
 mod stepping;
+mod words;
 
 pub use machine::{CellType, Ending, Program, Stop, run};

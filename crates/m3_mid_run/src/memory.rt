@@ -2,7 +2,7 @@ use std::alloc::{AllocError, Global};
 
 /// A word: the number of a part of memory and a distance from its start, modulo 2^64. Part 0 is
 /// none, so a number is a distance from it.
-#[derive(Clone, Copy, Debug, PartialEq, Eq)]
+#[derive(Clone, Copy, PartialEq, Eq)]
 pub(crate) struct Word {
     pub part: u32,
     pub distance: u64,
@@ -21,7 +21,7 @@ pub(crate) const STALE: Word = Word {
 };
 
 /// What is in a part of memory.
-#[derive(Clone, Copy, Debug, PartialEq, Eq)]
+#[derive(Clone, Copy)]
 pub(crate) enum Form {
     Globals,
     Frame,
@@ -51,6 +51,14 @@ impl Word {
         Word {
             part: 0,
             distance: number,
+        }
+    }
+
+    /// The address of a word of the globals.
+    pub(crate) fn global(word: u32) -> Word {
+        Word {
+            part: GLOBALS,
+            distance: u64::from(word),
         }
     }
 
@@ -101,23 +109,21 @@ impl<'a> Memory<'a> {
         Ok(u32::try_from(number).unwrap_or(u32::MAX))
     }
 
-    /// A new cell of a type, whose words are 0.
-    pub(crate) fn make(&mut self, kind: u32, words: u64) -> Result<Word, AllocError> {
-        let part = self.add(Form::Cell(kind), words)?;
-        Ok(Word { part, distance: 0 })
+    /// The part of a new cell of a type, whose words are 0.
+    pub(crate) fn make(&mut self, kind: u32, words: u64) -> Result<u32, AllocError> {
+        self.add(Form::Cell(kind), words)
     }
 
-    /// A new frame of so many words.
-    pub(crate) fn enter(&mut self, words: u64) -> Result<Word, AllocError> {
+    /// The part of a new frame of so many words.
+    pub(crate) fn enter(&mut self, words: u64) -> Result<u32, AllocError> {
         let Some(part) = self.free.pop() else {
-            let part = self.add(Form::Frame, words)?;
-            return Ok(Word { part, distance: 0 });
+            return self.add(Form::Frame, words);
         };
         let zeros = vec![in self.alloc; Word::number(0); words as usize]?;
         if let Some(frame) = self.parts.get_mut(part as usize) {
             frame.words = zeros;
         }
-        Ok(Word { part, distance: 0 })
+        Ok(part)
     }
 
     /// The frame's words are gone.
@@ -164,29 +170,23 @@ impl<'a> Memory<'a> {
         if cell.distance != 0 {
             return None;
         }
-        match self.parts.get(cell.part as usize) {
-            Some(
-                Part {
-                    form: Form::Cell(kind),
-                    ..
-                },
-            ) => Some(*kind),
-            Some(
-                Part {
-                    form: Form::Globals,
-                    ..
-                },
-            ) => Some(1),
+        match self.form(cell.part) {
+            Some(Form::Cell(kind)) => Some(kind),
+            Some(Form::Globals) => Some(1),
             _ => None,
+        }
+    }
+
+    fn form(&self, part: u32) -> Option<Form> {
+        match self.parts.get(part as usize) {
+            Some(part) => Some(part.form),
+            None => None,
         }
     }
 
     /// Whether a word points into the heap, or to what was in it.
     pub(crate) fn is_in_heap(&self, word: Word) -> bool {
-        match self.parts.get(word.part as usize) {
-            Some(part) => matches!(part.form, Form::Cell(_)),
-            None => true,
-        }
+        matches!(self.form(word.part), Some(Form::Cell(_)) | None)
     }
 
     /// Whether a word is NIL or the start of a cell.
@@ -194,18 +194,28 @@ impl<'a> Memory<'a> {
         word == Word::number(0) || self.cell_type(word).is_some()
     }
 
-    /// The mutex that begins at an address.
-    pub(crate) fn mutex(&mut self, cell: Word) -> Option<&mut Part> {
-        self.parts.get_mut(cell.part as usize)
+    /// Whether the mutex that begins at an address is held.
+    pub(crate) fn is_held(&self, cell: Word) -> Option<bool> {
+        match self.parts.get(cell.part as usize) {
+            Some(part) => Some(part.is_held),
+            None => None,
+        }
     }
 
-    /// The bytes of the text that begins at an address.
-    pub(crate) fn bytes(&self, text: Word) -> Option<Result<Vec<u8>, AllocError>> {
-        let length = self.load(text.further(1))?.as_number()?;
-        Some(self.unpack(text, length))
+    /// Notes whether the mutex that begins at an address is held.
+    pub(crate) fn hold(&mut self, cell: Word, is_held: bool) {
+        if let Some(part) = self.parts.get_mut(cell.part as usize) {
+            part.is_held = is_held;
+        }
     }
 
-    fn unpack(&self, text: Word, length: u64) -> Result<Vec<u8>, AllocError> {
+    /// The length of the text that begins at an address.
+    pub(crate) fn text_length(&self, text: Word) -> Option<u64> {
+        self.load(text.further(1))?.as_number()
+    }
+
+    /// So many bytes of the text that begins at an address, or all that are there.
+    pub(crate) fn bytes(&self, text: Word, length: u64) -> Result<Vec<u8>, AllocError> {
         let mut bytes = Vec::new(self.alloc);
         for place in 0..length {
             match self.byte(text, place) {
@@ -225,17 +235,18 @@ impl<'a> Memory<'a> {
         Some((word.wrapping_shr(shift) & 0xff) as u8)
     }
 
-    /// A new text of some bytes.
-    pub(crate) fn make_text(&mut self, bytes: &[u8]) -> Result<Word, AllocError> {
+    /// The part of a new text of some bytes.
+    pub(crate) fn make_text(&mut self, bytes: &[u8]) -> Result<u32, AllocError> {
         let length = bytes.len() as u64;
         let words = (length.saturating_add(7) / 8).saturating_add(2);
-        let text = self.make(0, words)?;
+        let part = self.make(0, words)?;
+        let text = Word { part, distance: 0 };
         self.store(text.further(1), Word::number(length));
         for (place, piece) in bytes.chunks(8).enumerate() {
             let at = text.further((place as u64).wrapping_add(2));
             self.store(at, Word::number(packed(piece)));
         }
-        Ok(text)
+        Ok(part)
     }
 }
 

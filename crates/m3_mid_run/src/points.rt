@@ -1,4 +1,4 @@
-use crate::machine::{Machine, Stop};
+use crate::machine::Machine;
 use crate::memory::{Memory, STALE, Word};
 use m3_mid::{Kind, Slot};
 
@@ -6,29 +6,30 @@ impl<'a> Machine<'a> {
     /// Passes a point, at which a collection may move each cell. What is no number of Kind Number
     /// and no tidy pointer of Kind Tidy isn't known to a collector: nothing may use it from here
     /// on. What a slot for tidy pointers holds is one.
-    pub(crate) fn pass_point(&mut self) -> Result<(), Stop> {
-        self.points = self.points.saturating_add(1);
-        let proc = self.proc()?;
-        if let Some(top) = self.stack.last_mut() {
-            forget(&self.memory, proc.temps, &mut top.temps);
+    pub(crate) fn pass_point(&mut self, temps: &[Kind], slots: &[Slot]) {
+        if self.is_over() {
+            return;
         }
-        let frame = self.top()?.frame;
-        self.check_slots(frame, proc.slots)
-    }
-
-    fn check_slots(&mut self, frame: Word, slots: &[Slot]) -> Result<(), Stop> {
-        let mut at = frame.further(3);
+        self.points = self.points.saturating_add(1);
+        if let Some(top) = self.stack.last_mut() {
+            forget(&self.memory, temps, &mut top.temps);
+        }
+        let mut at = self.frame().further(3);
         for slot in slots {
-            let word = self.load(at)?;
-            if slot.kind == Kind::Tidy && !self.memory.is_tidy(word) {
-                return Err(Stop::Stuck("no tidy pointer in a slot for one"));
-            }
-            if slot.kind == Kind::Number && self.memory.is_in_heap(word) {
-                self.store(at, STALE)?;
-            }
+            self.check_slot(at, slot.kind);
             at = at.further(1);
         }
-        Ok(())
+    }
+
+    fn check_slot(&mut self, at: Word, kind: Kind) {
+        let word = self.load(at);
+        match kind {
+            Kind::Tidy if !self.memory.is_tidy(word) => {
+                self.stick("no tidy pointer in a slot for one");
+            }
+            Kind::Number if self.memory.is_in_heap(word) => self.store(at, STALE),
+            _ => {}
+        }
     }
 }
 
