@@ -11,8 +11,10 @@ use m3_limits::{Lists, judge_limits};
 use m3_listing::list_all;
 use m3_operands::Checker;
 use m3_program::read_program;
-use m3_scopes::{Linked, Program};
+use m3_scopes::Linked;
 use m3_sizes::SizedTypes;
+use m3_stmts::Walk;
+use m3_syntax::Unit;
 use m3_types::{TypeGraph, TypeId, TypeNode};
 use std::alloc::Global;
 
@@ -38,37 +40,35 @@ fn check_program<'a>(
     linked: &Linked<'a>,
 ) -> Result<Core<'a>, Refused> {
     let Declarations { declared, doubtful } = declare(alloc, arena, linked)?;
-    let mut checker = Checker::new(alloc, arena, &linked.program, declared);
-    let lists = check_all(&mut checker, linked, &doubtful, sources)?;
-    let types = SizedTypes::measure(alloc, take_types(&mut checker))?;
-    let core = Core {
-        types,
-        procs: lists.procs,
-        globals: lists.globals,
-        exceptions: lists.exceptions,
-        texts: lists.texts,
-        order: lists.order,
-        values: lists.values,
-        files: lists.files,
-        alerted: lists.alerted,
-    };
-    within_limits(alloc, &linked.program, &lists, core)
+    let mut walk = Walk::new(Checker::new(alloc, arena, &linked.program, declared));
+    check_all(&mut walk, linked, &doubtful, sources)
 }
 
-/// Checks what a program's declarations declare, and lists what the checked program has.
+/// Checks what a program's declarations declare, and makes the checked program of it.
 fn check_all<'a>(
-    checker: &mut Checker<'_, 'a>,
+    walk: &mut Walk<'_, 'a>,
     linked: &Linked<'a>,
     doubtful: &[Doubtful<'a>],
     sources: &[Source<'a>],
-) -> Result<Lists<'a>, Refused> {
-    declare_globals(checker, &linked.units)?;
-    let mut procedures = Vec::new(checker.alloc);
-    check_units(checker, &mut procedures, doubtful, &linked.units)?;
-    checker.least.check()?;
-    let refused = checker.declared.basic.refused;
-    give_up(&mut checker.declared.types, refused);
-    Ok(list_all(checker, linked, procedures.as_slice(), sources)?)
+) -> Result<Core<'a>, Refused> {
+    check_declared(walk, doubtful, &linked.units)?;
+    let procedures = walk.procedures.as_slice();
+    let lists = list_all(&mut walk.checker, linked, procedures, sources)?;
+    core_of(&mut walk.checker, &lists)
+}
+
+/// Checks what a program's declarations declare, of which then nothing is refused.
+fn check_declared<'a>(
+    walk: &mut Walk<'_, 'a>,
+    doubtful: &[Doubtful<'a>],
+    units: &[Unit<'a>],
+) -> Result<(), Refused> {
+    declare_globals(&mut walk.checker, units)?;
+    check_units(walk, doubtful, units)?;
+    walk.checker.least.check()?;
+    let refused = walk.checker.declared.basic.refused;
+    give_up(&mut walk.checker.declared.types, refused);
+    Ok(())
 }
 
 /// The graph of types of a checker that is done with it.
@@ -86,13 +86,20 @@ fn give_up(types: &mut TypeGraph<'_>, refused: TypeId) {
     }
 }
 
-/// A checked program, if it is within the limits.
-fn within_limits<'a>(
-    alloc: Global,
-    program: &Program<'a>,
-    lists: &Lists<'a>,
-    core: Core<'a>,
-) -> Result<Core<'a>, Refused> {
-    judge_limits(alloc, program, lists, &core)?;
+/// The checked program of a checker that is done with it, if it is within the limits.
+fn core_of<'a>(checker: &mut Checker<'_, 'a>, lists: &Lists<'a>) -> Result<Core<'a>, Refused> {
+    let types = SizedTypes::measure(checker.alloc, take_types(checker))?;
+    let core = Core {
+        types,
+        procs: lists.procs,
+        globals: lists.globals,
+        exceptions: lists.exceptions,
+        texts: lists.texts,
+        order: lists.order,
+        values: lists.values,
+        files: lists.files,
+        alerted: lists.alerted,
+    };
+    judge_limits(checker.alloc, checker.program, lists, &core)?;
     Ok(core)
 }

@@ -12,19 +12,19 @@ pub fn declare_globals<'a>(
     for (place, unit) in units.iter().enumerate() {
         checker.unit = place_number(place)?;
         if is_given(checker, place) {
-            count = declare_unit(checker, unit, count)?;
+            count = declare_all(checker, unit.declarations(), count)?;
         }
     }
     Ok(())
 }
 
-fn declare_unit<'a>(
+fn declare_all<'a>(
     checker: &mut Checker<'_, 'a>,
-    unit: &Unit<'a>,
+    declarations: &[Decl<'a>],
     count: u32,
 ) -> Result<u32, NoMemory> {
     let mut count = count;
-    for declaration in unit.declarations() {
+    for declaration in declarations {
         if let Decl::Var { variables, .. } = declaration {
             count = declare_rows(checker, variables, count)?;
         }

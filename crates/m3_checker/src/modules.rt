@@ -1,43 +1,46 @@
 use bumpalo::collections::into_bump_slice;
 use m3_assignments::initial_values;
-use m3_base::NoMemory;
-use m3_bodies::{Body, Procedures};
+use m3_base::{NoMemory, Pos};
+use m3_bodies::Body;
 use m3_core::{CoreStmt, ProcDef};
 use m3_operands::Checker;
-use m3_stmts::statements;
-use m3_syntax::{Block, Unit};
+use m3_stmts::Walk;
+use m3_syntax::{Block, Name};
 use m3_types::{Formal, Raises, TypeNode};
+
+/// What is known of a module beside its block.
+#[derive(Clone, Copy)]
+pub struct ModuleHeading<'a> {
+    pub name: Name<'a>,
+    pub pos: Pos,
+    pub end: Pos,
+}
 
 /// Checks a module's body.
 pub fn check_module<'a>(
-    checker: &mut Checker<'_, 'a>,
-    procedures: &mut Procedures<'a>,
-    unit: &Unit<'a>,
+    walk: &mut Walk<'_, 'a>,
+    heading: ModuleHeading<'a>,
     block: &Block<'a>,
 ) -> Result<(), NoMemory> {
-    let Some(number) = checker.declared.module_number(checker.unit) else {
+    let Some(number) = walk.checker.declared.module_number(walk.checker.unit) else {
         return Ok(());
     };
-    let mut body = Body::new(checker, number, None);
-    let checked = module_block(checker, &mut body, procedures, block)?;
-    procedures.push((number, module_of(checker, body, unit, block, checked)?))?;
+    let around = walk.enter(number, None);
+    let checked = module_block(walk, block);
+    let body = walk.leave(around);
+    let module = module_of(&mut walk.checker, body, heading, checked)?;
+    walk.procedures.push((number, module))?;
     Ok(())
 }
 
-fn module_block<'a>(
-    checker: &mut Checker<'_, 'a>,
-    body: &mut Body<'a>,
-    procedures: &mut Procedures<'a>,
-    block: &Block<'a>,
-) -> Result<CoreStmt<'a>, NoMemory> {
-    let initial = initial_values(checker, block.declarations)?;
-    let statements = statements(checker, body, procedures, block.body)?;
-    Ok(CoreStmt::Block {
+fn module_block<'a>(walk: &mut Walk<'_, 'a>, block: &Block<'a>) -> CoreStmt<'a> {
+    let initial = initial_values(&mut walk.checker, block.declarations);
+    CoreStmt::Block {
         pos: block.pos,
         variables: no_variables(),
-        initial,
-        body: statements,
-    })
+        initial: walk.memory.row(initial),
+        body: walk.statements(block.body),
+    }
 }
 
 fn no_variables<'a>() -> &'a [u32] {
@@ -52,8 +55,7 @@ fn no_formals<'a>() -> &'a [Formal<'a>] {
 fn module_of<'a>(
     checker: &mut Checker<'_, 'a>,
     body: Body<'a>,
-    unit: &Unit<'a>,
-    block: &Block<'a>,
+    heading: ModuleHeading<'a>,
     checked: CoreStmt<'a>,
 ) -> Result<ProcDef<'a>, NoMemory> {
     let Body {
@@ -62,7 +64,7 @@ fn module_of<'a>(
         ..
     } = body;
     Ok(ProcDef {
-        name: unit.name.text,
+        name: heading.name.text,
         unit: checker.unit,
         kind: checker
             .declared
@@ -75,9 +77,9 @@ fn module_of<'a>(
         level: 0,
         outer: None,
         body: &*checker.arena.try_alloc_slice_copy(&[checked])?,
-        pos: unit.pos,
-        name_pos: unit.name.pos,
-        end: block.end,
+        pos: heading.pos,
+        name_pos: heading.name.pos,
+        end: heading.end,
         is_module: true,
     })
 }

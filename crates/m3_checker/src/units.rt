@@ -1,35 +1,38 @@
-use crate::modules::check_module;
+use crate::modules::{ModuleHeading, check_module};
 use m3_assignments::initial_value;
 use m3_base::{NoMemory, Refused, place_number};
-use m3_bodies::Procedures;
 use m3_declarer::Doubtful;
 use m3_exprs::expression;
 use m3_listing::is_given;
 use m3_operands::Checker;
-use m3_stmts::check_procedure;
+use m3_stmts::Walk;
 use m3_syntax::{Decl, Unit, UnitKind, VarDecl};
 use m3_type_names::judge_declaration;
 
 /// Checks the doubtful expressions of declarations, and the expressions and statements of all
 /// units, and lists the procedures.
 pub fn check_units<'a>(
-    checker: &mut Checker<'_, 'a>,
-    procedures: &mut Procedures<'a>,
+    walk: &mut Walk<'_, 'a>,
     doubtful: &[Doubtful<'a>],
     units: &[Unit<'a>],
 ) -> Result<(), NoMemory> {
+    note_later(&mut walk.checker);
+    check_constants(&mut walk.checker, doubtful)?;
+    for (place, unit) in units.iter().enumerate() {
+        walk.checker.unit = place_number(place)?;
+        walk.checker.level = 0;
+        if is_given(&walk.checker, place) {
+            check_unit(walk, unit)?;
+        }
+    }
+    walk.memory.check()
+}
+
+/// Notes the least rule of expressions that the declarations broke.
+fn note_later(checker: &mut Checker<'_, '_>) {
     if let Err(Refused::Rule(refusal)) = checker.declared.later.check() {
         checker.least.note(refusal);
     }
-    check_constants(checker, doubtful)?;
-    for (place, unit) in units.iter().enumerate() {
-        checker.unit = place_number(place)?;
-        checker.level = 0;
-        if is_given(checker, place) {
-            check_unit(checker, procedures, unit)?;
-        }
-    }
-    Ok(())
 }
 
 /// Judges the constant expressions of declarations that break a rule of expressions.
@@ -45,25 +48,38 @@ fn check_constants<'a>(
     Ok(())
 }
 
-fn check_unit<'a>(
-    checker: &mut Checker<'_, 'a>,
-    procedures: &mut Procedures<'a>,
-    unit: &Unit<'a>,
-) -> Result<(), NoMemory> {
-    for declaration in unit.declarations() {
-        judge_declaration(checker, declaration);
-        check_procedure(checker, procedures, None, declaration)?;
-    }
+fn check_unit<'a>(walk: &mut Walk<'_, 'a>, unit: &Unit<'a>) -> Result<(), NoMemory> {
+    check_procedures(walk, unit.declarations());
     match unit.kind {
-        UnitKind::Interface { .. } => check_interface(checker, unit),
-        UnitKind::Module { block, .. } => check_module(checker, procedures, unit, &**block),
+        UnitKind::Interface { declarations, .. } => {
+            check_variables(&mut walk.checker, **declarations)
+        }
+        UnitKind::Module { block, .. } => {
+            let heading = ModuleHeading {
+                name: unit.name,
+                pos: unit.pos,
+                end: block.end,
+            };
+            check_module(walk, heading, &**block)
+        }
         _ => Ok(()),
     }
 }
 
+/// Judges the types in declarations, and checks the procedures.
+fn check_procedures<'a>(walk: &mut Walk<'_, 'a>, declarations: &[Decl<'a>]) {
+    for declaration in declarations {
+        judge_declaration(&mut walk.checker, declaration);
+        walk.procedure(None, declaration);
+    }
+}
+
 /// Judges the initial values of an interface's variables.
-fn check_interface<'a>(checker: &mut Checker<'_, 'a>, unit: &Unit<'a>) -> Result<(), NoMemory> {
-    for declaration in unit.declarations() {
+fn check_variables<'a>(
+    checker: &mut Checker<'_, 'a>,
+    declarations: &[Decl<'a>],
+) -> Result<(), NoMemory> {
+    for declaration in declarations {
         if let Decl::Var { variables, .. } = declaration {
             check_rows(checker, variables)?;
         }

@@ -4,11 +4,12 @@
 
 mod branches;
 mod exceptions;
-mod locks;
 mod loops;
+mod memory;
 mod procedures;
+mod scopes;
 mod sequences;
-mod withs;
+mod walks;
 
-pub use procedures::check_procedure;
-pub use sequences::statements;
+pub use memory::Memory;
+pub use walks::Walk;

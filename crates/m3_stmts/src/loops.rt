@@ -1,77 +1,55 @@
-use crate::sequences::statements;
-use m3_base::NoMemory;
-use m3_bodies::{Body, Procedures};
+use crate::walks::Walk;
 use m3_bound_names::{for_head, repeat_loop, while_loop};
 use m3_branches::condition;
-use m3_core::CoreStmt;
-use m3_operands::Checker;
-use m3_syntax::Stmt;
+use m3_core::{CoreExpr, CoreStmt};
+use m3_syntax::{Expr, Stmt};
 
-/// The statements of a loop.
-#[cycle(statements)]
-fn turn<'a>(
-    checker: &mut Checker<'_, 'a>,
-    body: &mut Body<'a>,
-    procedures: &mut Procedures<'a>,
-    row: &[Stmt<'a>],
-) -> Result<&'a [CoreStmt<'a>], NoMemory> {
-    let loops = body.loops;
-    body.loops = loops.saturating_add(1);
-    let row = statements(checker, body, procedures, row)?;
-    body.loops = loops;
-    Ok(row)
-}
-
-/// LOOP, WHILE and REPEAT.
-#[cycle(statements)]
-pub fn plain_loop<'a>(
-    checker: &mut Checker<'_, 'a>,
-    body: &mut Body<'a>,
-    procedures: &mut Procedures<'a>,
-    statement: &Stmt<'a>,
-) -> Result<Option<CoreStmt<'a>>, NoMemory> {
-    match statement {
-        Stmt::Loop { pos, body: row } => {
-            let row = turn(checker, body, procedures, row)?;
-            Ok(Some(CoreStmt::Loop {
-                pos: *pos,
-                body: row,
-            }))
+impl<'a> Walk<'_, 'a> {
+    /// LOOP, WHILE, REPEAT and FOR. What stands beside the statements of a loop counts as inside
+    /// it too, since no EXIT stands there.
+    #[cycle(statements)]
+    pub(crate) fn repeated(&mut self, statement: &Stmt<'a>) {
+        let loops = self.body.loops;
+        self.body.loops = loops.saturating_add(1);
+        match statement {
+            Stmt::Loop { pos, body } => {
+                let body = self.statements(body);
+                self.put(CoreStmt::Loop { pos: *pos, body });
+            }
+            Stmt::While {
+                pos,
+                condition,
+                body,
+            } => {
+                let condition = self.condition(condition);
+                let body = self.statements(body);
+                self.put_found(while_loop(*pos, condition, body));
+            }
+            Stmt::Repeat {
+                pos,
+                body,
+                condition,
+            } => {
+                let body = self.statements(body);
+                let condition = self.condition(condition);
+                self.put_found(repeat_loop(*pos, body, condition));
+            }
+            Stmt::For { pos, body, .. } => {
+                let head = for_head(&mut self.checker, &mut self.body, statement);
+                let head = self.memory.made(head);
+                let body = self.statements(body);
+                if let Some(head) = head {
+                    self.put_found(head.whole(*pos, body));
+                }
+            }
+            _ => {}
         }
-        Stmt::While {
-            pos,
-            condition: value,
-            body: row,
-        } => {
-            let value = condition(checker, value)?;
-            let row = turn(checker, body, procedures, row)?;
-            Ok(while_loop(*pos, value, row))
-        }
-        Stmt::Repeat {
-            pos,
-            body: row,
-            condition: value,
-        } => {
-            let row = turn(checker, body, procedures, row)?;
-            let value = condition(checker, value)?;
-            Ok(repeat_loop(*pos, row, value))
-        }
-        _ => Ok(None),
+        self.body.loops = loops;
     }
-}
 
-/// FOR.
-#[cycle(statements)]
-pub fn for_loop<'a>(
-    checker: &mut Checker<'_, 'a>,
-    body: &mut Body<'a>,
-    procedures: &mut Procedures<'a>,
-    statement: &Stmt<'a>,
-) -> Result<Option<CoreStmt<'a>>, NoMemory> {
-    let Stmt::For { pos, body: row, .. } = statement else {
-        return Ok(None);
-    };
-    let head = for_head(checker, body, statement)?;
-    let row = turn(checker, body, procedures, row)?;
-    Ok(head.whole(*pos, row))
+    /// A condition.
+    pub(crate) fn condition(&mut self, value: &Expr<'a>) -> Option<&'a CoreExpr<'a>> {
+        let value = condition(&mut self.checker, value);
+        self.memory.found(value)
+    }
 }

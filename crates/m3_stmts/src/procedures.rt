@@ -1,69 +1,64 @@
-use crate::sequences::statements;
+use crate::walks::Walk;
 use m3_assignments::initial_values;
-use m3_base::NoMemory;
-use m3_bodies::{Body, Heading, Procedures, declare_formals, declare_locals, define, known};
+use m3_bodies::{Heading, declare_formals, declare_locals, define, known};
 use m3_core::CoreStmt;
 use m3_operand_types::result_type;
-use m3_operands::Checker;
 use m3_syntax::{Block, Decl};
 use m3_type_names::judge_declaration;
 
-/// Checks the procedure that a declaration declares with a body, and those inside it. `around` is
-/// the procedure around it.
-#[cycle(statements)]
-pub fn check_procedure<'a>(
-    checker: &mut Checker<'_, 'a>,
-    procedures: &mut Procedures<'a>,
-    around: Option<u32>,
-    declaration: &Decl<'a>,
-) -> Result<(), NoMemory> {
-    let Decl::Procedure {
-        pos,
-        name,
-        signature,
-        body: Some(declared),
-    } = declaration
-    else {
-        return Ok(());
-    };
-    let Some((kind, number)) = known(checker, *name) else {
-        return Ok(());
-    };
-    let mut body = Body::new(checker, number, result_type(checker, kind));
-    declare_formals(checker, &mut body, signature, kind)?;
-    let checked = block(checker, &mut body, procedures, &declared.block)?;
-    let heading = Heading {
-        name: *name,
-        kind,
-        around,
-        pos: *pos,
-        end: declared.block.end,
-    };
-    define(checker, procedures, body, &heading, checked)
-}
-
-/// A block: its variables, the procedures inside it, the initial values and the statements.
-#[cycle(statements)]
-pub fn block<'a>(
-    checker: &mut Checker<'_, 'a>,
-    body: &mut Body<'a>,
-    procedures: &mut Procedures<'a>,
-    block: &Block<'a>,
-) -> Result<CoreStmt<'a>, NoMemory> {
-    let variables = declare_locals(checker, body, block.declarations)?;
-    let level = checker.level;
-    for declaration in block.declarations {
-        judge_declaration(checker, declaration);
-        checker.level = level.saturating_add(1);
-        check_procedure(checker, procedures, Some(body.number), declaration)?;
-        checker.level = level;
+impl<'a> Walk<'_, 'a> {
+    /// Checks the procedure that a declaration declares with a body, and those inside it. `around`
+    /// is the procedure around it.
+    #[cycle(statements)]
+    pub fn procedure(&mut self, around: Option<u32>, declaration: &Decl<'a>) {
+        let Decl::Procedure {
+            pos,
+            name,
+            signature,
+            body: Some(declared),
+        } = declaration
+        else {
+            return;
+        };
+        let Some((kind, number)) = known(&self.checker, *name) else {
+            return;
+        };
+        let due = result_type(&self.checker, kind);
+        let outer = self.enter(number, due);
+        let formals = declare_formals(&mut self.checker, &mut self.body, signature, kind);
+        self.memory.made(formals);
+        let checked = self.block(&declared.block);
+        let body = self.leave(outer);
+        let heading = Heading {
+            name: *name,
+            kind,
+            around,
+            pos: *pos,
+            end: declared.block.end,
+        };
+        let defined = define(&self.checker, &mut self.procedures, body, &heading, checked);
+        self.memory.made(defined);
     }
-    let initial = initial_values(checker, block.declarations)?;
-    let statements = statements(checker, body, procedures, block.body)?;
-    Ok(CoreStmt::Block {
-        pos: block.pos,
-        variables,
-        initial,
-        body: statements,
-    })
+
+    /// A block: its variables, the procedures inside it, the initial values and the statements.
+    #[cycle(statements)]
+    pub(crate) fn block(&mut self, block: &Block<'a>) -> CoreStmt<'a> {
+        let variables = declare_locals(&mut self.checker, &mut self.body, block.declarations);
+        let variables = self.memory.row(variables);
+        let level = self.checker.level;
+        let around = Some(self.body.number);
+        for declaration in block.declarations {
+            judge_declaration(&mut self.checker, declaration);
+            self.checker.level = level.saturating_add(1);
+            self.procedure(around, declaration);
+            self.checker.level = level;
+        }
+        let initial = initial_values(&mut self.checker, block.declarations);
+        CoreStmt::Block {
+            pos: block.pos,
+            variables,
+            initial: self.memory.row(initial),
+            body: self.statements(block.body),
+        }
+    }
 }

@@ -1,61 +1,51 @@
-use crate::branches::{alternatives, choice, type_choice};
-use crate::exceptions::attempt;
-use crate::locks::locked;
-use crate::loops::{for_loop, plain_loop};
-use crate::procedures::block;
-use crate::withs::bound;
-use bumpalo::collections::into_bump_slice;
-use m3_base::NoMemory;
-use m3_bodies::{Body, Procedures};
+use crate::walks::Walk;
 use m3_core::CoreStmt;
 use m3_exceptions::simple;
-use m3_operands::Checker;
 use m3_syntax::Stmt;
 
-/// The checked statements of a row; those that were refused are left out.
-#[cycle(statements)]
-pub fn statements<'a>(
-    checker: &mut Checker<'_, 'a>,
-    body: &mut Body<'a>,
-    procedures: &mut Procedures<'a>,
-    row: &[Stmt<'a>],
-) -> Result<&'a [CoreStmt<'a>], NoMemory> {
-    let mut checked = Vec::new(checker.arena);
-    for one in row {
-        if let Some(found) = statement(checker, body, procedures, one)? {
-            checked.push(found)?;
+impl<'a> Walk<'_, 'a> {
+    /// The checked statements of a row; those that were refused are left out.
+    #[cycle(statements)]
+    pub fn statements(&mut self, row: &[Stmt<'a>]) -> &'a [CoreStmt<'a>] {
+        let around = self.open_row();
+        for one in row {
+            self.statement(one);
+        }
+        self.close_row(around)
+    }
+
+    /// Checks a statement, and adds it to the row in which it stands, if it isn't refused.
+    #[cycle(statements)]
+    fn statement(&mut self, statement: &Stmt<'a>) {
+        self.checker.steps.clear();
+        match statement {
+            Stmt::Assign { .. }
+            | Stmt::Call { .. }
+            | Stmt::Eval { .. }
+            | Stmt::Return { .. }
+            | Stmt::Raise { .. }
+            | Stmt::Exit { .. } => self.leaf(statement),
+            Stmt::Block(inner) => {
+                let checked = self.block(inner);
+                self.put(checked);
+            }
+            Stmt::Case { .. } => self.choice(statement),
+            Stmt::TypeCase { .. } => self.type_choice(statement),
+            Stmt::If { .. } => self.alternatives(statement),
+            Stmt::Lock { .. } | Stmt::With { .. } | Stmt::TryFinally { .. } => {
+                self.enclosed(statement)
+            }
+            Stmt::TryExcept { .. } => self.handled(statement),
+            Stmt::Loop { .. } | Stmt::While { .. } | Stmt::Repeat { .. } | Stmt::For { .. } => {
+                self.repeated(statement)
+            }
         }
     }
-    Ok(into_bump_slice(checked))
-}
 
-#[cycle(statements)]
-fn statement<'a>(
-    checker: &mut Checker<'_, 'a>,
-    body: &mut Body<'a>,
-    procedures: &mut Procedures<'a>,
-    statement: &Stmt<'a>,
-) -> Result<Option<CoreStmt<'a>>, NoMemory> {
-    checker.steps.clear();
-    match statement {
-        Stmt::Assign { .. }
-        | Stmt::Call { .. }
-        | Stmt::Eval { .. }
-        | Stmt::Return { .. }
-        | Stmt::Raise { .. }
-        | Stmt::Exit { .. } => simple(checker, body, statement),
-        Stmt::Block(inner) => Ok(Some(block(checker, body, procedures, inner)?)),
-        Stmt::Case { .. } => choice(checker, body, procedures, statement),
-        Stmt::TypeCase { .. } => type_choice(checker, body, procedures, statement),
-        Stmt::If { .. } => alternatives(checker, body, procedures, statement),
-        Stmt::Lock { .. } => locked(checker, body, procedures, statement),
-        Stmt::With { .. } => bound(checker, body, procedures, statement),
-        Stmt::For { .. } => for_loop(checker, body, procedures, statement),
-        Stmt::Loop { .. } | Stmt::While { .. } | Stmt::Repeat { .. } => {
-            plain_loop(checker, body, procedures, statement)
-        }
-        Stmt::TryExcept { .. } | Stmt::TryFinally { .. } => attempt(
-            checker, body, procedures, statement,
-        ),
+    /// A statement without statements in it.
+    fn leaf(&mut self, statement: &Stmt<'a>) {
+        let checked = simple(&mut self.checker, &self.body, statement);
+        let checked = self.memory.found(checked);
+        self.put_found(checked);
     }
 }
