@@ -8,7 +8,7 @@ use m3_syntax::{Actual, Expr, Operation, Selector};
 /// A call: what is called, the place of the parenthesis, and the actuals.
 #[derive(Clone, Copy)]
 pub struct Call<'a> {
-    pub callee: Expr<'a>,
+    pub callee: &'a Expr<'a>,
     pub parenthesis: Pos,
     pub actuals: &'a [Actual<'a>],
 }
@@ -23,13 +23,13 @@ pub fn call_of<'a>(reader: &mut Reader<'_, 'a>, expr: &Expr<'a>) -> Option<Call<
             pos,
             operand,
             selectors,
-        } => call_of_selected(pos, operand, selectors),
+        } => call_of_selected(reader, pos, operand, selectors),
         Expr::Operations { pos, first, rest } => {
             let (last, before) = rest.split_last()?;
             let call = call_of(reader, last.right)?;
-            let right = keep_expr(reader, call.callee);
+            let right = call.callee;
             let rest = with_last(reader, before, Operation { right, ..*last });
-            let callee = Expr::Operations { pos, first, rest };
+            let callee = keep_expr(reader, Expr::Operations { pos, first, rest });
             Some(Call { callee, ..call })
         }
         Expr::Not {
@@ -38,12 +38,12 @@ pub fn call_of<'a>(reader: &mut Reader<'_, 'a>, expr: &Expr<'a>) -> Option<Call<
             operand,
         } => {
             let call = call_of(reader, operand)?;
-            let operand = keep_expr(reader, call.callee);
-            let callee = Expr::Not {
+            let negation = Expr::Not {
                 pos,
                 words,
-                operand,
+                operand: call.callee,
             };
+            let callee = keep_expr(reader, negation);
             Some(Call { callee, ..call })
         }
         Expr::Signed {
@@ -52,12 +52,12 @@ pub fn call_of<'a>(reader: &mut Reader<'_, 'a>, expr: &Expr<'a>) -> Option<Call<
             operand,
         } => {
             let call = call_of(reader, operand)?;
-            let operand = keep_expr(reader, call.callee);
-            let callee = Expr::Signed {
+            let signed = Expr::Signed {
                 pos,
                 signs,
-                operand,
+                operand: call.callee,
             };
+            let callee = keep_expr(reader, signed);
             Some(Call { callee, ..call })
         }
         _ => None,
@@ -66,10 +66,13 @@ pub fn call_of<'a>(reader: &mut Reader<'_, 'a>, expr: &Expr<'a>) -> Option<Call<
 
 /// The call that the last selector is, if it is one.
 fn call_of_selected<'a>(
+    reader: &mut Reader<'_, 'a>,
     pos: Pos,
     operand: &'a Expr<'a>,
     selectors: &'a [Selector<'a>],
-) -> Option<Call<'a>> {
+) -> Option<Call<'a>>
+    ensures { Follows reader.old reader.new }
+{
     let [before @ .., last] = selectors else {
         return None;
     };
@@ -78,13 +81,14 @@ fn call_of_selected<'a>(
         _ => return None,
     };
     let callee = if before.is_empty() {
-        *operand
+        operand
     } else {
-        Expr::Selected {
+        let selected = Expr::Selected {
             pos,
             operand,
             selectors: before,
-        }
+        };
+        keep_expr(reader, selected)
     };
     Some(Call {
         callee,

@@ -11,8 +11,8 @@ use crate::loops::{
 };
 use m3_base::Pos;
 use m3_cursor::{Reader, begins_expression};
-use m3_phrases::{expression, keep_expr, statement_head};
-use m3_syntax::{Expr, Sign, Stmt, TokenKind, Word};
+use m3_phrases::{expression, no_expr, statement_head};
+use m3_syntax::{Sign, Stmt, TokenKind, Word};
 
 /// Statements, with semicolons between them and maybe behind the last.
 #[cycle(statements)]
@@ -64,7 +64,7 @@ fn statement<'a>(reader: &mut Reader<'_, 'a>, room: u32) -> Stmt<'a>
 {
     let pos = reader.pos();
     let Some(room) = reader.inside(room) else {
-        return missing_statement(reader, pos);
+        return missing_statement(pos);
     };
     match reader.kind() {
         Some(TokenKind::Keyword(word)) => match word {
@@ -93,10 +93,8 @@ fn statement<'a>(reader: &mut Reader<'_, 'a>, room: u32) -> Stmt<'a>
 }
 
 /// What stands behind an error.
-fn missing_statement<'a>(reader: &mut Reader<'_, 'a>, pos: Pos) -> Stmt<'a>
-    ensures { Follows reader.old reader.new }
-{
-    let value = keep_expr(reader, Expr::Missing { pos });
+fn missing_statement<'a>(pos: Pos) -> Stmt<'a> {
+    let value = no_expr();
     Stmt::Eval { pos, value }
 }
 
@@ -112,7 +110,7 @@ fn block_or_call<'a>(reader: &mut Reader<'_, 'a>, room: u32) -> Stmt<'a>
     if room == 1 {
         let pos = reader.take_word(Word::Procedure);
         reader.too_deep();
-        return missing_statement(reader, pos);
+        return missing_statement(pos);
     }
     assignment_or_call(reader, room)
 }
@@ -133,11 +131,11 @@ fn assignment_or_call<'a>(reader: &mut Reader<'_, 'a>, room: u32) -> Stmt<'a>
     }
     let Some(call) = call_of(reader, head) else {
         reader.unexpected();
-        return missing_statement(reader, pos);
+        return missing_statement(pos);
     };
     Stmt::Call {
         pos,
-        callee: keep_expr(reader, call.callee),
+        callee: call.callee,
         parenthesis: call.parenthesis,
         actuals: call.actuals,
     }
