@@ -24,42 +24,43 @@ fn show_statements(statements: &[Stmt], sheet: &mut Sheet) {
 
 #[cycle(statements)]
 fn show_statement(statement: &Stmt, sheet: &mut Sheet) {
-    if let Stmt::Block(block) = statement {
-        show_block(block, sheet);
-        return;
-    }
-    show_head(statement, sheet);
-    show_parts(statement, sheet);
-    sheet.close();
-}
-
-/// The lists of statements in a statement, with what stands between them.
-#[cycle(statements)]
-fn show_parts(statement: &Stmt, sheet: &mut Sheet) {
     match statement {
+        Stmt::Block(block) => show_block(block, sheet),
         Stmt::Case {
             branches,
             otherwise,
             ..
         } => {
+            show_head(statement, sheet);
             show_branches(branches, sheet);
-            show_otherwise(otherwise, sheet);
+            if let Some(last) = otherwise {
+                show_otherwise(last, sheet);
+            }
+            sheet.close();
         }
         Stmt::If {
             arms,
             otherwise,
             ..
         } => {
+            show_head(statement, sheet);
             show_arms(arms, sheet);
-            show_otherwise(otherwise, sheet);
+            if let Some(last) = otherwise {
+                show_otherwise(last, sheet);
+            }
+            sheet.close();
         }
         Stmt::TypeCase {
             branches,
             otherwise,
             ..
         } => {
+            show_head(statement, sheet);
             show_type_branches(branches, sheet);
-            show_otherwise(otherwise, sheet);
+            if let Some(last) = otherwise {
+                show_otherwise(last, sheet);
+            }
+            sheet.close();
         }
         Stmt::TryExcept {
             body,
@@ -67,31 +68,46 @@ fn show_parts(statement: &Stmt, sheet: &mut Sheet) {
             otherwise,
             ..
         } => {
+            show_head(statement, sheet);
             show_statements(body, sheet);
             sheet.word(b"EXCEPT");
             show_handlers(handlers, sheet);
-            show_otherwise(otherwise, sheet);
+            if let Some(last) = otherwise {
+                show_otherwise(last, sheet);
+            }
+            sheet.close();
         }
         Stmt::TryFinally { body, last, .. } => {
+            show_head(statement, sheet);
             show_statements(body, sheet);
             sheet.word(b"FINALLY");
             show_statements(last, sheet);
+            sheet.close();
         }
         Stmt::Repeat {
             body,
             condition,
             ..
         } => {
+            show_head(statement, sheet);
             show_statements(body, sheet);
             sheet.word(b"UNTIL");
             show_expr(condition, sheet);
+            sheet.close();
         }
         Stmt::For { body, .. }
         | Stmt::Lock { body, .. }
         | Stmt::Loop { body, .. }
         | Stmt::While { body, .. }
-        | Stmt::With { body, .. } => show_statements(body, sheet),
-        _ => {}
+        | Stmt::With { body, .. } => {
+            show_head(statement, sheet);
+            show_statements(body, sheet);
+            sheet.close();
+        }
+        _ => {
+            show_head(statement, sheet);
+            sheet.close();
+        }
     }
 }
 
@@ -195,13 +211,10 @@ fn show_bindings(bindings: &[Binding], sheet: &mut Sheet) {
     }
 }
 
-/// The statements behind ELSE, where there are some.
 #[cycle(statements)]
-fn show_otherwise(otherwise: &Option<&[Stmt]>, sheet: &mut Sheet) {
-    if let Some(statements) = otherwise {
-        sheet.word(b"ELSE");
-        show_statements(statements, sheet);
-    }
+fn show_otherwise(statements: &[Stmt], sheet: &mut Sheet) {
+    sheet.word(b"ELSE");
+    show_statements(statements, sheet);
 }
 
 #[cycle(statements)]

@@ -18,31 +18,16 @@ pub fn text_of_tree(alloc: Global, unit: &Unit, has_places: bool) -> Result<Vec<
 }
 
 fn head_of_unit(unit: &Unit) -> &'static [u8] {
-    match &unit.kind {
-        UnitKind::Interface { .. } | UnitKind::InterfaceInstance { .. } => {
-            head_of(unit.is_unsafe, b"UNSAFE-INTERFACE", b"INTERFACE")
+    match (&unit.kind, unit.is_unsafe) {
+        (UnitKind::Interface { .. } | UnitKind::InterfaceInstance { .. }, false) => b"INTERFACE",
+        (UnitKind::Interface { .. } | UnitKind::InterfaceInstance { .. }, true) => {
+            b"UNSAFE-INTERFACE"
         }
-        UnitKind::Module { .. } | UnitKind::ModuleInstance { .. } => {
-            head_of(unit.is_unsafe, b"UNSAFE-MODULE", b"MODULE")
-        }
-        UnitKind::GenericInterface { .. } => {
-            head_of(unit.is_unsafe, b"UNSAFE-GENERIC", b"GENERIC-INTERFACE")
-        }
-        UnitKind::GenericModule { .. } => {
-            head_of(unit.is_unsafe, b"UNSAFE-GENERIC", b"GENERIC-MODULE")
-        }
-    }
-}
-
-fn head_of(
-    is_unsafe: bool,
-    head_of_unsafe: &'static [u8],
-    head_of_safe: &'static [u8],
-) -> &'static [u8] {
-    if is_unsafe {
-        head_of_unsafe
-    } else {
-        head_of_safe
+        (UnitKind::Module { .. } | UnitKind::ModuleInstance { .. }, false) => b"MODULE",
+        (UnitKind::Module { .. } | UnitKind::ModuleInstance { .. }, true) => b"UNSAFE-MODULE",
+        (UnitKind::GenericInterface { .. }, false) => b"GENERIC-INTERFACE",
+        (UnitKind::GenericModule { .. }, false) => b"GENERIC-MODULE",
+        (_, true) => b"UNSAFE-GENERIC",
     }
 }
 
