@@ -154,12 +154,15 @@ fn words_kept(b: &Builder, variable: u32) -> u32 {
 pub fn exits_of<'m>(b: &mut Builder<'m, '_>, head: &Head) -> Exits {
     let outcome = outcome_of(b, head.result);
     let raised = left_by_exception(b, head);
+    // No EXIT stands outside loops: nothing comes there, and it needs nothing.
+    let code = ending(b, head);
+    let exit = b.seal(code);
     let exits = Exits {
         around: Around {
             scope: None,
             raised,
         },
-        exit: raised,
+        exit,
         returning: Returning::Ends,
         outcome,
     };
