@@ -27,8 +27,8 @@ pub enum Returning {
 pub struct Exits {
     /// What is shown at points, and where an exception goes on.
     pub around: Around,
-    /// Where EXIT goes on.
-    pub exit: u32,
+    /// Where EXIT goes on, None outside loops.
+    pub exit: Option<u32>,
     pub returning: Returning,
     pub outcome: Outcome,
 }

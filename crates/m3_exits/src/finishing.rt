@@ -51,8 +51,13 @@ pub fn dispatch<'m>(
     let raising = b.seal(raising);
     let returning = return_kept(b, exits);
     let returning = b.seal(returning);
-    let code = test(b, way, RETURNED, returning, exits.exit);
-    let others = b.seal(code);
+    let others = match exits.exit {
+        Some(exit) => {
+            let code = test(b, way, RETURNED, returning, exit);
+            b.seal(code)
+        }
+        None => returning,
+    };
     let code = test(b, way, RAISED, raising, others);
     let abnormal = b.seal(code);
     test(b, way, NORMALLY, next, abnormal)
@@ -102,9 +107,14 @@ pub fn overriding<'m>(b: &mut Builder<'m, '_>, exits: Exits) -> Exits {
     let raised = b.goto(exits.around.raised);
     let raised = given_up(b, slot, pointers.as_slice(), raised);
     let raised = b.seal(raised);
-    let exit = b.goto(exits.exit);
-    let exit = given_up(b, slot, pointers.as_slice(), exit);
-    let exit = b.seal(exit);
+    let exit = match exits.exit {
+        Some(exit) => {
+            let exit = b.goto(exit);
+            let exit = given_up(b, slot, pointers.as_slice(), exit);
+            Some(b.seal(exit))
+        }
+        None => None,
+    };
     Exits {
         around: Around {
             raised,

@@ -159,7 +159,7 @@ pub fn exits_of<'m>(b: &mut Builder<'m, '_>, head: &Head) -> Exits {
             scope: None,
             raised,
         },
-        exit: raised,
+        exit: None,
         returning: Returning::Ends,
         outcome,
     };

@@ -57,7 +57,7 @@ fn caught_at(exits: Exits, raised: u32, last: Option<u32>) -> Exits {
     match last {
         Some(block) => Exits {
             around,
-            exit: block,
+            exit: exits.exit.and(Some(block)),
             returning: Returning::Drops(block),
             outcome: exits.outcome,
         },
@@ -191,9 +191,14 @@ fn ways_out<'m>(
     let code = move_raised(b.raised, left.kept, code);
     let caught = clear_range(b, slots, code);
     let raised = b.reserve();
-    let code = left_as(b, left.way, EXITED, finish);
-    let code = clear_range(b, slots, code);
-    let exit = b.seal(code);
+    let exit = match exits.exit {
+        Some(_) => {
+            let code = left_as(b, left.way, EXITED, finish);
+            let code = clear_range(b, slots, code);
+            Some(b.seal(code))
+        }
+        None => None,
+    };
     let code = left_as(b, left.way, RETURNED, finish);
     let code = clear_range(b, slots, code);
     let returned = b.seal(code);

@@ -30,7 +30,7 @@ pub fn for_loop<'m>(
     let exit = b.seal(after);
     let course = course_of(b, *variable, last, *step, exit);
     let inside = Exits {
-        exit,
+        exit: Some(exit),
         ..showing(b, exits, &[*variable])
     };
     let turn = turn_of(b, inside, course);
@@ -96,10 +96,21 @@ pub fn plain_loop<'m>(
     let head = b.reserve();
     let shown = b.shown(exits.around);
     let turn = b.goto(head).after(MidOp::Point { shown });
-    let inside = Exits { exit, ..exits };
+    let inside = Exits {
+        exit: Some(exit),
+        ..exits
+    };
     let code = statements(b, inside, body, turn);
     b.set(head, code);
     b.goto(head)
+}
+
+/// EXIT: what follows the loop. Outside loops, where no valid program has it, it does nothing.
+pub fn leave_loop<'m>(b: &Builder<'m, '_>, exits: Exits, rest: Pending<'m>) -> Pending<'m> {
+    match exits.exit {
+        Some(block) => b.goto(block),
+        None => rest,
+    }
 }
 
 /// WHILE: the test, and the body with its point.
@@ -123,7 +134,10 @@ pub fn while_loop<'m>(
     let head = b.reserve();
     let shown = b.shown(exits.around);
     let turn = b.goto(head).after(MidOp::Point { shown });
-    let inside = Exits { exit, ..exits };
+    let inside = Exits {
+        exit: Some(exit),
+        ..exits
+    };
     let code = statements(b, inside, body, turn);
     let once = b.seal(code);
     let code = condition(b, exits.around, test, once, exit);
@@ -152,7 +166,10 @@ pub fn repeat_loop<'m>(
     let head = b.reserve();
     let shown = b.shown(exits.around);
     let turn = condition(b, exits.around, test, exit, head).after(MidOp::Point { shown });
-    let inside = Exits { exit, ..exits };
+    let inside = Exits {
+        exit: Some(exit),
+        ..exits
+    };
     let code = statements(b, inside, body, turn);
     b.set(head, code);
     b.goto(head)

@@ -1,7 +1,7 @@
 use crate::blocks::{block, with};
 use crate::branches::{case_of, if_arms, type_case};
 use crate::exceptions::{try_except, try_finally};
-use crate::loops::{for_loop, plain_loop, repeat_loop, while_loop};
+use crate::loops::{for_loop, leave_loop, plain_loop, repeat_loop, while_loop};
 use m3_builder::{Builder, Pending};
 use m3_core::CoreStmt;
 use m3_exits::Exits;
@@ -50,7 +50,7 @@ fn statement<'m>(
         } => change(b, exits, *pos, *is_decrement, target, *amount, rest),
         CoreStmt::Block { .. } => block(b, exits, s, rest),
         CoreStmt::Case { .. } => case_of(b, exits, s, rest),
-        CoreStmt::Exit { .. } => b.goto(exits.exit),
+        CoreStmt::Exit { .. } => leave_loop(b, exits, rest),
         CoreStmt::Eval { value, .. } => evaluate(b, exits, value, rest),
         CoreStmt::For { .. } => for_loop(b, exits, s, rest),
         CoreStmt::If { .. } => if_arms(b, exits, s, rest),
