@@ -5,7 +5,7 @@ ghost use Rattle.m3_grammar.specs.Tokens.{IsAt, IsToken, IsWritten, IsWord, IsSi
 ghost use Rattle.m3_cursor.specs.Readers.{Follows, Reads};
 
 use bumpalo::Bump;
-use m3_base::{NoMemory, Pos};
+use m3_base::Pos;
 use m3_grammar::{is_sign, is_word};
 use m3_stops::{Stop, Why};
 use m3_syntax::{Kept, Lexed, Name, Sign, Token, TokenKind, Word};
@@ -332,13 +332,13 @@ impl<'t, 'a> Reader<'t, 'a> {
         ensures follows { Follows self.old self.new }
         ensures stopped { IfNone result (IsSome self.new.stop) }
     {
-        match kept(self.arena, parts) {
-            Ok(kept) => Some(kept),
-            Err(_) => {
-                self.fail(Why::NoMemory);
-                None
+        if let Ok(parts) = Box::new(self.arena, parts) {
+            if let Ok(kept) = self.arena.try_alloc(parts) {
+                return Some(&*kept);
             }
         }
+        self.fail(Why::NoMemory);
+        None
     }
 
     /// Keeps a node. Where there is no memory for it, a spare one stands for it.
@@ -355,10 +355,4 @@ impl<'t, 'a> Reader<'t, 'a> {
             }
         }
     }
-}
-
-/// Keeps what a unit consists of in the arena.
-fn kept<'a, T: Copy>(arena: &'a Bump, parts: T) -> Result<Kept<'a, T>, NoMemory> {
-    let kept = arena.try_alloc(Box::new(arena, parts)?)?;
-    Ok(&*kept)
 }

@@ -9,7 +9,7 @@ use m3_base::Refused;
 use m3_cursor::{Heading, Reader, closing_name, name_list, names_between, unit_heading};
 use m3_statements::{block, declaration_list};
 use m3_stops::{counted, refusal_of};
-use m3_syntax::{Block, Decl, Import, ImportItem, Kept, Lexed, Name, Sign, Unit, UnitKind, Word};
+use m3_syntax::{Decl, Import, ImportItem, Kept, Lexed, Name, Sign, Unit, UnitKind, Word};
 use std::alloc::Global;
 
 /// How many constructs may be open at a place.
@@ -48,7 +48,13 @@ fn unit<'a>(reader: &mut Reader<'_, 'a>) -> Unit<'a>
         → result.closing.text.now ≡ result.name.text.now }
 {
     let heading = unit_heading(reader);
-    let kind = unit_kind(reader, &heading);
+    let kind = match unit_kind(reader, &heading) {
+        Some(kind) => kind,
+        None => UnitKind::InterfaceInstance {
+            generic: heading.name,
+            actuals: &[],
+        },
+    };
     let closing = closing_name(reader, &heading.name);
     Unit {
         pos: heading.pos,
@@ -60,40 +66,39 @@ fn unit<'a>(reader: &mut Reader<'_, 'a>) -> Unit<'a>
     }
 }
 
-/// What stands in a unit behind its name, up to its closing name.
-fn unit_kind<'a>(reader: &mut Reader<'_, 'a>, heading: &Heading<'a>) -> UnitKind<'a>
+/// What stands in a unit behind its name, up to its closing name. None where there is no memory to
+/// keep it; this holds of what it calls too.
+fn unit_kind<'a>(reader: &mut Reader<'_, 'a>, heading: &Heading<'a>) -> Option<UnitKind<'a>>
     ensures { Follows reader.old reader.new }
 {
     if heading.words.is_generic {
-        generic(reader, heading)
+        generic(reader, heading.words.is_interface)
     } else if heading.words.is_interface {
-        interface(reader, heading)
+        interface(reader)
     } else {
-        module(reader, heading)
+        module(reader)
     }
 }
 
 /// What stands in an interface behind its name, up to its closing name.
-fn interface<'a>(reader: &mut Reader<'_, 'a>, heading: &Heading<'a>) -> UnitKind<'a>
+fn interface<'a>(reader: &mut Reader<'_, 'a>) -> Option<UnitKind<'a>>
     ensures { Follows reader.old reader.new }
 {
     if reader.skip_sign(Sign::Equal) {
         let (generic, actuals) = instance(reader);
-        return UnitKind::InterfaceInstance { generic, actuals };
+        return Some(UnitKind::InterfaceInstance { generic, actuals });
     }
     reader.take_sign(Sign::Semicolon);
     let imports = imports(reader);
-    let Some(declarations) = kept_declarations(reader) else {
-        return no_kind(heading);
-    };
-    UnitKind::Interface {
+    let declarations = kept_declarations(reader)?;
+    Some(UnitKind::Interface {
         imports,
         declarations,
-    }
+    })
 }
 
 /// What stands in a module behind its name, up to its closing name.
-fn module<'a>(reader: &mut Reader<'_, 'a>, heading: &Heading<'a>) -> UnitKind<'a>
+fn module<'a>(reader: &mut Reader<'_, 'a>) -> Option<UnitKind<'a>>
     ensures { Follows reader.old reader.new }
 {
     let exports = if reader.skip_word(Word::Exports) {
@@ -103,75 +108,52 @@ fn module<'a>(reader: &mut Reader<'_, 'a>, heading: &Heading<'a>) -> UnitKind<'a
     };
     if reader.skip_sign(Sign::Equal) {
         let (generic, actuals) = instance(reader);
-        return UnitKind::ModuleInstance {
+        return Some(UnitKind::ModuleInstance {
             exports,
             generic,
             actuals,
-        };
+        });
     }
     reader.take_sign(Sign::Semicolon);
     let imports = imports(reader);
-    let Some(block) = kept_block(reader) else {
-        return no_kind(heading);
-    };
-    UnitKind::Module {
+    let block = block(reader, MAX_OPEN);
+    Some(UnitKind::Module {
         exports,
         imports,
-        block,
-    }
+        block: reader.parts(block)?,
+    })
 }
 
 /// What stands in a generic unit behind its name, up to its closing name.
-fn generic<'a>(reader: &mut Reader<'_, 'a>, heading: &Heading<'a>) -> UnitKind<'a>
+fn generic<'a>(reader: &mut Reader<'_, 'a>, is_interface: bool) -> Option<UnitKind<'a>>
     ensures { Follows reader.old reader.new }
 {
     let formals = names_between(reader, Sign::OpenParen, Sign::CloseParen);
     reader.take_sign(Sign::Semicolon);
     let imports = imports(reader);
-    if heading.words.is_interface {
-        let Some(declarations) = kept_declarations(reader) else {
-            return no_kind(heading);
-        };
-        return UnitKind::GenericInterface {
+    if is_interface {
+        let declarations = kept_declarations(reader)?;
+        return Some(UnitKind::GenericInterface {
             formals,
             imports,
             declarations,
-        };
+        });
     }
-    let Some(block) = kept_block(reader) else {
-        return no_kind(heading);
-    };
-    UnitKind::GenericModule {
+    let block = block(reader, MAX_OPEN);
+    Some(UnitKind::GenericModule {
         formals,
         imports,
-        block,
-    }
+        block: reader.parts(block)?,
+    })
 }
 
-/// What stands behind an error, where no memory was left for the parts of a unit.
-fn no_kind<'a>(heading: &Heading<'a>) -> UnitKind<'a> {
-    UnitKind::InterfaceInstance {
-        generic: heading.name,
-        actuals: &[],
-    }
-}
-
-/// The declarations of an interface, with the END behind them. None where there is no memory to
-/// keep them.
+/// The declarations of an interface, with the END behind them.
 fn kept_declarations<'a>(reader: &mut Reader<'_, 'a>) -> Option<Kept<'a, &'a [Decl<'a>]>>
     ensures { Follows reader.old reader.new }
 {
     let declarations = declaration_list(reader, MAX_OPEN);
     reader.take_word(Word::End);
     reader.parts(declarations)
-}
-
-/// The block of a module. None where there is no memory to keep it.
-fn kept_block<'a>(reader: &mut Reader<'_, 'a>) -> Option<Kept<'a, Block<'a>>>
-    ensures { Follows reader.old reader.new }
-{
-    let block = block(reader, MAX_OPEN);
-    reader.parts(block)
 }
 
 /// The generic's name and the actuals of an instance, with the END behind them.

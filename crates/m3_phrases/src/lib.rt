@@ -10,5 +10,5 @@ mod types;
 
 pub use expressions::{expression, statement_head};
 pub use members::{assigned, initial, signature};
-pub use trees::{keep_expr, no_expr};
+pub use trees::keep_expr;
 pub use types::type_expression;

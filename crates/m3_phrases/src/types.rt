@@ -50,8 +50,9 @@ pub fn opened_type<'a>(reader: &mut Reader<'_, 'a>, room: u32) -> &'a TypeExp<'a
                 reader.step();
                 named_type(reader, room, TypeName::Root(pos))
             }
-            Word::Untraced => untraced(reader, room),
-            Word::Ref | Word::Branded | Word::Object => reference_or_object(reader, room),
+            Word::Untraced | Word::Ref | Word::Branded | Word::Object => {
+                reference_or_object(reader, room)
+            }
             Word::Array => array(reader, room),
             Word::Bits => bits(reader, room),
             Word::Set => {
@@ -96,57 +97,33 @@ fn subrange<'a>(reader: &mut Reader<'_, 'a>, room: u32) -> &'a TypeExp<'a>
     keep_type(reader, TypeExp::Subrange { pos, first, last })
 }
 
-/// `UNTRACED ROOT`, or an untraced reference.
-#[cycle(expressions)]
-fn untraced<'a>(reader: &mut Reader<'_, 'a>, room: u32) -> &'a TypeExp<'a>
-    ensures { Follows reader.old reader.new }
-{
-    let pos = reader.take_word(Word::Untraced);
-    if reader.skip_word(Word::Root) {
-        return named_type(reader, room, TypeName::UntracedRoot(pos));
-    }
-    let brand = brand(reader, room);
-    reference(reader, room, pos, true, brand)
-}
-
+/// A reference or an object type, or `UNTRACED ROOT`.
 #[cycle(expressions)]
 fn reference_or_object<'a>(reader: &mut Reader<'_, 'a>, room: u32) -> &'a TypeExp<'a>
     ensures { Follows reader.old reader.new }
 {
     let pos = reader.pos();
-    let brand = brand(reader, room);
-    if reader.is_word(Word::Ref) {
-        return reference(reader, room, pos, false, brand);
+    let is_untraced = reader.skip_word(Word::Untraced);
+    if is_untraced && reader.skip_word(Word::Root) {
+        return named_type(reader, room, TypeName::UntracedRoot(pos));
     }
-    let parts = object_parts(reader, room, brand);
-    let object = TypeExp::Object {
-        pos,
-        parent: None,
-        parts,
+    let brand = brand(reader, room);
+    let kind = if is_untraced || reader.is_word(Word::Ref) {
+        reader.take_word(Word::Ref);
+        TypeExp::Ref {
+            pos,
+            is_untraced,
+            brand,
+            target: type_expression(reader, room),
+        }
+    } else {
+        TypeExp::Object {
+            pos,
+            parent: None,
+            parts: object_parts(reader, room, brand),
+        }
     };
-    keep_type(reader, object)
-}
-
-/// REF and its target.
-#[cycle(expressions)]
-fn reference<'a>(
-    reader: &mut Reader<'_, 'a>,
-    room: u32,
-    pos: Pos,
-    is_untraced: bool,
-    brand: Option<Brand<'a>>,
-) -> &'a TypeExp<'a>
-    ensures { Follows reader.old reader.new }
-{
-    reader.take_word(Word::Ref);
-    let target = type_expression(reader, room);
-    let reference = TypeExp::Ref {
-        pos,
-        is_untraced,
-        brand,
-        target,
-    };
-    keep_type(reader, reference)
+    keep_type(reader, kind)
 }
 
 #[cycle(expressions)]

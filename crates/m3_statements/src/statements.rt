@@ -9,9 +9,8 @@ use crate::loops::{
     for_statement, lock_statement, loop_statement, repeat_statement, while_statement,
     with_statement,
 };
-use m3_base::Pos;
 use m3_cursor::{Reader, begins_expression};
-use m3_phrases::{expression, no_expr, statement_head};
+use m3_phrases::{expression, statement_head};
 use m3_syntax::{Sign, Stmt, TokenKind, Word};
 
 /// Statements, with semicolons between them and maybe behind the last.
@@ -63,8 +62,9 @@ fn statement<'a>(reader: &mut Reader<'_, 'a>, room: u32) -> Stmt<'a>
     ensures { Follows reader.old reader.new }
 {
     let pos = reader.pos();
+    // Behind an error any statement serves.
     let Some(room) = reader.inside(room) else {
-        return missing_statement(pos);
+        return Stmt::Exit { pos };
     };
     match reader.kind() {
         Some(TokenKind::Keyword(word)) => match word {
@@ -92,12 +92,6 @@ fn statement<'a>(reader: &mut Reader<'_, 'a>, room: u32) -> Stmt<'a>
     }
 }
 
-/// What stands behind an error.
-fn missing_statement<'a>(pos: Pos) -> Stmt<'a> {
-    let value = no_expr();
-    Stmt::Eval { pos, value }
-}
-
 /// The statement that begins here with PROCEDURE: a block that begins with a procedure, or an
 /// expression that begins with a procedure type. A parenthesis tells which.
 #[cycle(statements)]
@@ -110,7 +104,7 @@ fn block_or_call<'a>(reader: &mut Reader<'_, 'a>, room: u32) -> Stmt<'a>
     if room == 1 {
         let pos = reader.take_word(Word::Procedure);
         reader.too_deep();
-        return missing_statement(pos);
+        return Stmt::Exit { pos };
     }
     assignment_or_call(reader, room)
 }
@@ -131,7 +125,7 @@ fn assignment_or_call<'a>(reader: &mut Reader<'_, 'a>, room: u32) -> Stmt<'a>
     }
     let Some(call) = call_of(reader, head) else {
         reader.unexpected();
-        return missing_statement(pos);
+        return Stmt::Exit { pos };
     };
     Stmt::Call {
         pos,

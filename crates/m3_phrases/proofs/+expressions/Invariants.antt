@@ -108,9 +108,6 @@ decreases-types::parenthesized_type l = 64 * l.room + 2
 abbrev pub decreases-types::record : goal.decreases-types::record
 decreases-types::record l = 64 * l.room + 6
 
-abbrev pub decreases-types::reference : goal.decreases-types::reference
-decreases-types::reference l = 64 * l.room + 2
-
 abbrev pub decreases-types::reference_or_object : goal.decreases-types::reference_or_object
 decreases-types::reference_or_object l = 64 * l.room + 12
 
@@ -119,9 +116,6 @@ decreases-types::subrange l = 64 * l.room + 2
 
 abbrev pub decreases-types::type_expression : goal.decreases-types::type_expression
 decreases-types::type_expression l = 64 * l.room + 0
-
-abbrev pub decreases-types::untraced : goal.decreases-types::untraced
-decreases-types::untraced l = 64 * l.room + 12
 
 abbrev pub invariant-operands::actuals-actuals : goal.invariant-operands::actuals-actuals
 invariant-operands::actuals-actuals l = record { follows : Follows l.initial.reader l.reader; reads : l.reader.stop ≡ None → ActualsBegun l.initial.reader.rest.now l.reader.rest.now l.actuals.items }
