@@ -1,9 +1,8 @@
 use crate::calls::expect_builtin;
 use crate::chains::{judge_array, judge_value};
-use crate::judge::Judge;
 use crate::rows::{expect_bindings, expect_fields, judge_bindings, judge_elements, judge_fields};
-use crate::tables::Form;
 use m3_core::{CoreExpr, Operation};
+use m3_core_judge::{Form, Judge};
 use m3_types::TypeId;
 
 /// The type of an expression; None for what gives nothing.

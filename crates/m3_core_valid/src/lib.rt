@@ -5,10 +5,8 @@
 mod calls;
 mod chains;
 mod expressions;
-mod judge;
 mod program;
 mod rows;
 mod statements;
-mod tables;
 
 pub use program::is_well_formed;

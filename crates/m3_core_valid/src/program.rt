@@ -1,9 +1,8 @@
 use crate::expressions::judge_expression;
-use crate::judge::Judge;
 use crate::statements::judge_statements;
-use crate::tables::{Form, Heading, Tables, Variable, variable_of};
 use m3_base::NoMemory;
 use m3_core::{Core, ExcDef, ProcDef, Value, ValueId, VarDef};
+use m3_core_judge::{Form, Heading, Judge, Tables, Variable, variable_of};
 use std::alloc::Global;
 
 /// Whether a checked tree is well formed: the graph of its types is, each variable, field, method,

@@ -1,6 +1,6 @@
 use crate::machine::{Activation, Machine, Stop};
-use crate::memory::Word;
 use m3_mid::{Actual, Callee, Raised};
+use m3_mid_memory::Word;
 
 /// How a call is left.
 #[derive(Clone, Copy)]

@@ -2,10 +2,8 @@
 //! parts. Tests compare what it gives with what a program has to give; nothing else stands on it.
 #![tactic(auto)]
 
-mod arithmetic;
 mod calls;
 mod machine;
-mod memory;
 mod points;
 mod services;
 mod stepping;

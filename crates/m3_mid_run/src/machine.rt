@@ -1,7 +1,7 @@
-use crate::memory::{Memory, STALE, Word};
 use crate::stepping::{start_body, step};
 use m3_base::{FaultKind, Pos};
 use m3_mid::{Operand, Proc, Raised};
+use m3_mid_memory::{Memory, STALE, Word};
 use std::alloc::{AllocError, Global};
 
 /// A type of cells as an image has it: a cell of a fixed size has so many words with its header,

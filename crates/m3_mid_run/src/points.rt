@@ -1,6 +1,6 @@
 use crate::machine::Machine;
-use crate::memory::{Memory, STALE, Word};
 use m3_mid::{Kind, Slot};
+use m3_mid_memory::{Memory, STALE, Word};
 
 impl<'a> Machine<'a> {
     /// Passes a point, at which a collection may move each cell. What is no number of Kind Number

@@ -1,7 +1,7 @@
 use crate::machine::{Machine, Stop};
-use crate::memory::{GLOBALS, Word};
 use m3_base::{FaultKind, Pos};
 use m3_mid::{Operand, Service};
+use m3_mid_memory::{GLOBALS, Word};
 
 const NOTHING: Word = Word {
     part: 0,

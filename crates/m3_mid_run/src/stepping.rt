@@ -1,6 +1,6 @@
 use crate::machine::{Activation, Machine, Stop};
-use crate::memory::Word;
 use m3_mid::{Actual, Callee, MidOp, Proc, Raised};
+use m3_mid_memory::Word;
 
 /// Goes on at the start of a module body.
 pub(crate) fn start_body(machine: &mut Machine<'_>, procs: &[Proc<'_>], body: u32) {

@@ -1,10 +1,9 @@
-use crate::arithmetic::{combined, holds};
 use crate::calls::Left;
 use crate::machine::{Machine, Stop};
-use crate::memory::{CONSTANTS, Word};
 use m3_base::Pos;
 use m3_mid::{CheckedOperator, End, MemoryWord, Operand, Relation, WordOperator};
 use m3_mid_meaning::checked_value;
+use m3_mid_memory::{CONSTANTS, Word, combined, holds};
 
 impl<'a> Machine<'a> {
     /// What an operator makes of two operands.

@@ -5,7 +5,7 @@ use m3_mid_meaning::{is_related, operator_value};
 /// What an operator makes of two words; none where it isn't defined. A pointer and a number have a
 /// sum and a difference, and two pointers into one part of memory have a distance. That two
 /// pointers differ is told by a number, which stands for the bits in which they do.
-pub(crate) fn combined(operator: WordOperator, left: Word, right: Word) -> Option<Word> {
+pub fn combined(operator: WordOperator, left: Word, right: Word) -> Option<Word> {
     match operator {
         WordOperator::Add => sum(left, right),
         WordOperator::Subtract => difference(left, right),
@@ -39,7 +39,7 @@ fn difference(left: Word, right: Word) -> Option<Word> {
 }
 
 /// Whether a relation holds between two words; none where it isn't defined.
-pub(crate) fn holds(relation: Relation, left: Word, right: Word) -> Option<bool> {
+pub fn holds(relation: Relation, left: Word, right: Word) -> Option<bool> {
     match relation {
         Relation::Equal => Some(left == right),
         Relation::NotEqual => Some(left != right),

@@ -3,26 +3,26 @@ use std::alloc::{AllocError, Global};
 /// A word: the number of a part of memory and a distance from its start, modulo 2^64. Part 0 is
 /// none, so a number is a distance from it.
 #[derive(Clone, Copy, PartialEq, Eq)]
-pub(crate) struct Word {
+pub struct Word {
     pub part: u32,
     pub distance: u64,
 }
 
 /// The part of all global words.
-pub(crate) const GLOBALS: u32 = 1;
+pub const GLOBALS: u32 = 1;
 
 /// The number under which the first constant word stands.
-pub(crate) const CONSTANTS: u64 = 1 << 50;
+pub const CONSTANTS: u64 = 1 << 50;
 
 /// What no operation may use: a word that a collection could have changed.
-pub(crate) const STALE: Word = Word {
+pub const STALE: Word = Word {
     part: u32::MAX,
     distance: 0,
 };
 
 /// What is in a part of memory.
 #[derive(Clone, Copy)]
-pub(crate) enum Form {
+pub enum Form {
     Globals,
     Frame,
     /// A heap cell, with the number of its type.
@@ -30,7 +30,7 @@ pub(crate) enum Form {
 }
 
 #[derive(Drop)]
-pub(crate) struct Part {
+pub struct Part {
     pub form: Form,
     pub words: Vec<Word>,
     /// Whether it is a mutex that is held.
@@ -39,7 +39,7 @@ pub(crate) struct Part {
 
 /// All memory. The parts of frames that are left are used again.
 #[derive(Drop)]
-pub(crate) struct Memory<'a> {
+pub struct Memory<'a> {
     alloc: Global,
     parts: Vec<Part>,
     free: Vec<u32>,
@@ -47,7 +47,7 @@ pub(crate) struct Memory<'a> {
 }
 
 impl Word {
-    pub(crate) fn number(number: u64) -> Word {
+    pub fn number(number: u64) -> Word {
         Word {
             part: 0,
             distance: number,
@@ -55,7 +55,7 @@ impl Word {
     }
 
     /// The address of a word of the globals.
-    pub(crate) fn global(word: u32) -> Word {
+    pub fn global(word: u32) -> Word {
         Word {
             part: GLOBALS,
             distance: u64::from(word),
@@ -63,7 +63,7 @@ impl Word {
     }
 
     /// The number that a word is, if it is one.
-    pub(crate) fn as_number(self) -> Option<u64> {
+    pub fn as_number(self) -> Option<u64> {
         if self.part == 0 {
             Some(self.distance)
         } else {
@@ -72,7 +72,7 @@ impl Word {
     }
 
     /// The word so many words further on.
-    pub(crate) fn further(self, words: u64) -> Word {
+    pub fn further(self, words: u64) -> Word {
         Word {
             part: self.part,
             distance: self.distance.wrapping_add(words),
@@ -82,7 +82,7 @@ impl Word {
 
 impl<'a> Memory<'a> {
     /// A memory with so many global words.
-    pub(crate) fn new(
+    pub fn new(
         alloc: Global,
         global_words: u32,
         constants: &'a [u64],
@@ -110,12 +110,12 @@ impl<'a> Memory<'a> {
     }
 
     /// The part of a new cell of a type, whose words are 0.
-    pub(crate) fn make(&mut self, kind: u32, words: u64) -> Result<u32, AllocError> {
+    pub fn make(&mut self, kind: u32, words: u64) -> Result<u32, AllocError> {
         self.add(Form::Cell(kind), words)
     }
 
     /// The part of a new frame of so many words.
-    pub(crate) fn enter(&mut self, words: u64) -> Result<u32, AllocError> {
+    pub fn enter(&mut self, words: u64) -> Result<u32, AllocError> {
         let Some(part) = self.free.pop() else {
             return self.add(Form::Frame, words);
         };
@@ -127,7 +127,7 @@ impl<'a> Memory<'a> {
     }
 
     /// The frame's words are gone.
-    pub(crate) fn leave(&mut self, frame: Word) -> Result<(), AllocError> {
+    pub fn leave(&mut self, frame: Word) -> Result<(), AllocError> {
         if let Some(part) = self.parts.get_mut(frame.part as usize) {
             part.words = Vec::new(self.alloc);
             self.free.push(frame.part)?;
@@ -136,7 +136,7 @@ impl<'a> Memory<'a> {
     }
 
     /// The word at an address; none where there is no word.
-    pub(crate) fn load(&self, at: Word) -> Option<Word> {
+    pub fn load(&self, at: Word) -> Option<Word> {
         if at.part == 0 {
             let place = at.distance.checked_sub(CONSTANTS)?;
             let word = self.constants.get(place as usize)?;
@@ -147,7 +147,7 @@ impl<'a> Memory<'a> {
     }
 
     /// Stores a word, and tells whether there is a place for it.
-    pub(crate) fn store(&mut self, at: Word, word: Word) -> bool {
+    pub fn store(&mut self, at: Word, word: Word) -> bool {
         if let Some(part) = self.parts.get_mut(at.part as usize)
             && let Some(old) = part.words.get_mut(at.distance as usize)
         {
@@ -158,7 +158,7 @@ impl<'a> Memory<'a> {
     }
 
     /// The type of the cell that begins at an address.
-    pub(crate) fn cell_type(&self, cell: Word) -> Option<u32> {
+    pub fn cell_type(&self, cell: Word) -> Option<u32> {
         if cell.part == 0 {
             // a text of the program
             return if self.load(cell).is_some() {
@@ -185,17 +185,17 @@ impl<'a> Memory<'a> {
     }
 
     /// Whether a word points into the heap, or to what was in it.
-    pub(crate) fn is_in_heap(&self, word: Word) -> bool {
+    pub fn is_in_heap(&self, word: Word) -> bool {
         matches!(self.form(word.part), Some(Form::Cell(_)) | None)
     }
 
     /// Whether a word is NIL or the start of a cell.
-    pub(crate) fn is_tidy(&self, word: Word) -> bool {
+    pub fn is_tidy(&self, word: Word) -> bool {
         word == Word::number(0) || self.cell_type(word).is_some()
     }
 
     /// Whether the mutex that begins at an address is held.
-    pub(crate) fn is_held(&self, cell: Word) -> Option<bool> {
+    pub fn is_held(&self, cell: Word) -> Option<bool> {
         match self.parts.get(cell.part as usize) {
             Some(part) => Some(part.is_held),
             None => None,
@@ -203,19 +203,19 @@ impl<'a> Memory<'a> {
     }
 
     /// Notes whether the mutex that begins at an address is held.
-    pub(crate) fn hold(&mut self, cell: Word, is_held: bool) {
+    pub fn hold(&mut self, cell: Word, is_held: bool) {
         if let Some(part) = self.parts.get_mut(cell.part as usize) {
             part.is_held = is_held;
         }
     }
 
     /// The length of the text that begins at an address.
-    pub(crate) fn text_length(&self, text: Word) -> Option<u64> {
+    pub fn text_length(&self, text: Word) -> Option<u64> {
         self.load(text.further(1))?.as_number()
     }
 
     /// So many bytes of the text that begins at an address, or all that are there.
-    pub(crate) fn bytes(&self, text: Word, length: u64) -> Result<Vec<u8>, AllocError> {
+    pub fn bytes(&self, text: Word, length: u64) -> Result<Vec<u8>, AllocError> {
         let mut bytes = Vec::new(self.alloc);
         for place in 0..length {
             match self.byte(text, place) {
@@ -227,7 +227,7 @@ impl<'a> Memory<'a> {
     }
 
     /// The byte of a text at a place.
-    pub(crate) fn byte(&self, text: Word, place: u64) -> Option<u8> {
+    pub fn byte(&self, text: Word, place: u64) -> Option<u8> {
         let word = self
             .load(text.further((place / 8).wrapping_add(2)))?
             .as_number()?;
@@ -236,7 +236,7 @@ impl<'a> Memory<'a> {
     }
 
     /// The part of a new text of some bytes.
-    pub(crate) fn make_text(&mut self, bytes: &[u8]) -> Result<u32, AllocError> {
+    pub fn make_text(&mut self, bytes: &[u8]) -> Result<u32, AllocError> {
         let length = bytes.len() as u64;
         let words = (length.saturating_add(7) / 8).saturating_add(2);
         let part = self.make(0, words)?;
