@@ -25,9 +25,10 @@ pub fn check_module<'a>(
     let Some(number) = walk.checker.declared.module_number(walk.checker.unit) else {
         return Ok(());
     };
-    let around = walk.enter(number, None);
+    let own = Body::new(&walk.checker, number, None);
+    let around = std::mem::replace(&mut walk.body, own);
     let checked = module_block(walk, block);
-    let body = walk.leave(around);
+    let body = std::mem::replace(&mut walk.body, around);
     let module = module_of(&mut walk.checker, body, heading, checked)?;
     walk.procedures.push((number, module))?;
     Ok(())

@@ -1,4 +1,5 @@
 use crate::walks::Walk;
+use bumpalo::collections::into_bump_slice;
 use m3_core::CoreStmt;
 use m3_exceptions::simple;
 use m3_syntax::Stmt;
@@ -7,11 +8,12 @@ impl<'a> Walk<'_, 'a> {
     /// The checked statements of a row; those that were refused are left out.
     #[cycle(statements)]
     pub fn statements(&mut self, row: &[Stmt<'a>]) -> &'a [CoreStmt<'a>] {
-        let around = self.open_row();
+        let own = Vec::new(self.checker.arena);
+        let around = std::mem::replace(&mut self.open, own);
         for one in row {
             self.statement(one);
         }
-        self.close_row(around)
+        into_bump_slice(std::mem::replace(&mut self.open, around))
     }
 
     /// Checks a statement, and adds it to the row in which it stands, if it isn't refused.
