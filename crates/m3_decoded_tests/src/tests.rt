@@ -38,8 +38,8 @@ impl Bytes {
     }
 }
 
-/// The bytes of an image of POINT, ENDP, POINT, ENDP with these types and tables, where procedure 0 has
-/// a frame.
+/// The bytes of an image of POINT, ENDP, POINT, ENDP with these types and tables, where procedure 0
+/// has a frame.
 fn image(alloc: Global, frame: u32, types: &Bytes, tables: &Bytes) -> Result<Bytes, NoMemory> {
     let mut code = Bytes::new(alloc);
     code.words(&[47, 0, 50, 0, 47, 0, 50, 0])?;
@@ -150,8 +150,9 @@ fn types_in_a_tree(rt: HostRuntime) -> Result<(), Fail> {
 
 #[test]
 fn pointers_of_each_form(rt: HostRuntime) -> Result<(), Fail> {
-    // Type 2 is fixed, of 200 words with the pointers 1, 63, 64 and 199. Type 3 is open in two dimensions,
-    // of elements of 3 words with the pointers 0 and 2. Type 4 is open with elements of no words.
+    // Type 2 is fixed, of 200 words with the pointers 1, 63, 64 and 199. Type 3 is open in two
+    // dimensions, of elements of 3 words with the pointers 0 and 2. Type 4 is open with elements of
+    // no words.
     let mut types = first_types(rt.alloc())?;
     types.words(&[0, u32::MAX, 200, 0, 0, 4, 1, 63, 64, 199])?;
     types.words(&[1, u32::MAX, 3, 2, 0, 2, 0, 2])?;

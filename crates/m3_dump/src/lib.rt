@@ -1,4 +1,5 @@
-//! The text of an image: its procedures with their instructions, the rows of its points, and its variables.
+//! The text of an image: its procedures with their instructions, the rows of its points, and its
+//! variables.
 #![tactic(auto)]
 
 mod lines;

@@ -14,10 +14,10 @@ use m3_image::{Pairs, ProcPart, VarView};
 use m3_isa::Instr;
 use std::alloc::Global;
 
-/// The text of an image. For each procedure a line with its body and frame; for each of its instructions a
-/// line with its number, its name and its fields; behind a point instruction the row of that point: the tidy
-/// places, the arguments, the places that the caller describes, and the derived words with the bases of
-/// each way. Then a line for each variable.
+/// The text of an image. For each procedure a line with its body and frame; for each of its
+/// instructions a line with its number, its name and its fields; behind a point instruction the row
+/// of that point: the tidy places, the arguments, the places that the caller describes, and the
+/// derived words with the bases of each way. Then a line for each variable.
 pub fn dump(alloc: Global, image: &Decoded<'_>) -> Result<Vec<u8>, NoMemory>
     ensures { IfOk result (λ text. IsDump (image_of image.now) text.items) }
 {

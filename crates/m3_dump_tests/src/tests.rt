@@ -56,9 +56,10 @@ var 2 n ordinal 6:s8
 var global A.g reference g5
 ";
 
-/// An image of three points in procedure 0, of version 1. At the first r3 and slot 5 are tidy, slot 4 is an argument,
-/// r9 is described by the caller, and r7 is derived by slot 3 in two ways: r3 and slot 4 less slot 5,
-/// or nothing; the second is the same; at the third r3 is gone, and r1 and slot 2 came.
+/// An image of three points in procedure 0, of version 1. At the first r3 and slot 5 are tidy, slot
+/// 4 is an argument, r9 is described by the caller, and r7 is derived by slot 3 in two ways: r3 and
+/// slot 4 less slot 5, or nothing; the second is the same; at the third r3 is gone, and r1 and slot
+/// 2 came.
 const WAYS: [u8; 358] = [
     77, 51, 73, 77, 1, 0, 0, 0, // magic and version
     64, 0, 0, 0, // code

@@ -7,8 +7,8 @@ use crate::frame::Frame;
 use m3_decoded::Decoded;
 use m3_isa::Op;
 
-/// The frame that begins at a place of a stack and has an instruction. None exactly where the instruction has no
-/// row, or the frame isn't wholly in the stack.
+/// The frame that begins at a place of a stack and has an instruction. None exactly where the
+/// instruction has no row, or the frame isn't wholly in the stack.
 pub fn frame_at(image: &Decoded<'_>, stack: &[u64], first: usize, instr: u32) -> Option<Frame>
     ensures { MatchOption result ((f : Frame) → IsFrame (image_of image.now).program stack.now first instr f → ⊥) (λ f. IsFrame (image_of image.now).program stack.now first instr f) }
 {
@@ -42,8 +42,9 @@ fn is_call_at(image: &Decoded<'_>, pc: u32) -> bool
     }
 }
 
-/// The frame below another one in a stack whose first address is `base`. None exactly where its instruction is no
-/// call or has no row, or it isn't wholly in the stack, or doesn't begin below the newer one.
+/// The frame below another one in a stack whose first address is `base`. None exactly where its
+/// instruction is no call or has no row, or it isn't wholly in the stack, or doesn't begin below
+/// the newer one.
 pub fn older_frame(image: &Decoded<'_>, base: u64, stack: &[u64], newer: &Frame) -> Option<Frame>
     ensures { MatchOption result ((f : Frame) → IsOlder (image_of image.now).program base stack.now newer.now f → ⊥) (λ f. IsOlder (image_of image.now).program base stack.now newer.now f) }
 {

@@ -32,8 +32,9 @@ const RICH: [u8; 585] = [
     255, 255, 255, 255, 5, 0, 0, 0, 3, 0, 0, 0, 65, 46, 103, 1, 0, 0, 0, 0,
 ];
 
-/// A stack of 20 words from address 1000 on, in which procedure 0 called procedure 2 at instruction 1: its frame
-/// begins at word 4, behind the body of procedure 0, and has instruction 2 to go back to.
+/// A stack of 20 words from address 1000 on, in which procedure 0 called procedure 2 at instruction
+/// 1: its frame begins at word 4, behind the body of procedure 0, and has instruction 2 to go back
+/// to.
 const STACK: [u64; 20] = [
     18446744073709551615,
     0,

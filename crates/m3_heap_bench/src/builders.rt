@@ -12,8 +12,8 @@ pub fn set(heap: &mut SemiSpace, cell: u64, place: u64, word: u64)
     let _is_set = heap.store(cell.saturating_add(place), word);
 }
 
-/// A list of as many links as fit, but no more than so many, numbered from the last one on: the first link
-/// and how many there are.
+/// A list of as many links as fit, but no more than so many, numbered from the last one on: the
+/// first link and how many there are.
 pub fn list(heap: &mut SemiSpace, links: u64) -> (u64, u64)
     requires { heap.old.halves.heap.is_open ≡ false }
     ensures { heap.new.halves.heap.is_open ≡ false }
@@ -30,8 +30,8 @@ pub fn list(heap: &mut SemiSpace, links: u64) -> (u64, u64)
     (first, links)
 }
 
-/// A complete binary tree of so many nodes, as far as they fit, each numbered by its place from the root,
-/// level by level: the root and how many nodes there are.
+/// A complete binary tree of so many nodes, as far as they fit, each numbered by its place from the
+/// root, level by level: the root and how many nodes there are.
 pub fn tree(alloc: Global, heap: &mut SemiSpace, nodes: u64) -> Result<(u64, u64), AllocError>
     requires { heap.old.halves.heap.is_open ≡ false }
     ensures { heap.new.halves.heap.is_open ≡ false }
@@ -57,8 +57,8 @@ pub fn tree(alloc: Global, heap: &mut SemiSpace, nodes: u64) -> Result<(u64, u64
     Ok((made.first().copied().unwrap_or(0), made.len() as u64))
 }
 
-/// An array of so many references, each to a cell with its place as its number, as far as they fit: the
-/// array and how many cells there are.
+/// An array of so many references, each to a cell with its place as its number, as far as they fit:
+/// the array and how many cells there are.
 pub fn array(heap: &mut SemiSpace, size: u64) -> (u64, u64)
     requires { heap.old.halves.heap.is_open ≡ false }
     ensures { heap.new.halves.heap.is_open ≡ false }

@@ -4,8 +4,8 @@ use crate::layouts::Layouts;
 use m3_heap::{SemiSpace, Steps, Store};
 use std::sync::ledger::Ledger;
 
-/// A whole collection, the roots updated. False says that a root or a pointer of a reached cell lies where
-/// heaps lie and is no cell's start.
+/// A whole collection, the roots updated. False says that a root or a pointer of a reached cell
+/// lies where heaps lie and is no cell's start.
 pub fn collect<L: Ledger>(heap: &mut SemiSpace, roots: &mut [u64], steps: &mut Steps<L>) -> bool
     requires { heap.old.halves.heap.is_open ≡ false }
     ensures { heap.new.halves.heap.is_open ≡ false }

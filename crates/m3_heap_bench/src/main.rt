@@ -1,5 +1,5 @@
-//! Makes heaps of several shapes, collects each of them some times, and prints how many words were moved.
-//! An argument says how many times; without one it is 10.
+//! Makes heaps of several shapes, collects each of them some times, and prints how many words were
+//! moved. An argument says how many times; without one it is 10.
 #![tactic(auto)]
 
 ghost use Rattle.std.specs.Prelude.{◌≡◌, false, IfOk};
@@ -70,8 +70,8 @@ fn report(rt: &impl Print, shape: &str, moved: io::Result<Moved>) -> io::Result<
     println!(rt; "{shape} of {cells} cells: {words} words moved")
 }
 
-/// Fills a half with small cells in one list, in one tree, in one array of references, and in a list that no
-/// root leads to, and collects each heap so many times.
+/// Fills a half with small cells in one list, in one tree, in one array of references, and in a
+/// list that no root leads to, and collects each heap so many times.
 fn run<L: Ledger>(rt: &impl Print, alloc: Global, rounds: u64, blank: Blank) -> io::Result<()>
     requires name { blank.name ≡ L.name }
     requires parts { blank.parts ≡ L.parts }

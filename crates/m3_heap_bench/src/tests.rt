@@ -57,7 +57,8 @@ fn list_moves(rt: &impl Abort, alloc: Global, words: u64, links: u64, free: u64)
     Ok(())
 }
 
-/// How many links, in order from the second half's first word on, lead to the next one and count down.
+/// How many links, in order from the second half's first word on, lead to the next one and count
+/// down.
 fn links_in_order(heap: &SemiSpace, links: u64) -> u64
     requires { heap.now.halves.heap.is_open ≡ false }
 {
@@ -148,8 +149,8 @@ fn nothing_is_reached(rt: HostRuntime) -> Result<(), Fail> {
     Ok(())
 }
 
-/// What lies where heaps lie and is no cell's start is refused, where it is reached. Two links are made, the
-/// second leads to the first, and the first holds the word.
+/// What lies where heaps lie and is no cell's start is refused, where it is reached. Two links are
+/// made, the second leads to the first, and the first holds the word.
 #[test]
 fn bad_pointers(rt: HostRuntime) -> Result<(), Fail> {
     let words = [

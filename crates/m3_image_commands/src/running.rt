@@ -65,7 +65,8 @@ fn schedule_refusal_line(alloc: Global, refusal: ScheduleRefusal) -> Result<Vec<
     Vec::from_slice(alloc, text.as_bytes())
 }
 
-/// The schedule that the lines of a switch file say, or what the command answers where they say none.
+/// The schedule that the lines of a switch file say, or what the command answers where they say
+/// none.
 pub fn schedule_of(
     alloc: Global,
     switches: &[u8],

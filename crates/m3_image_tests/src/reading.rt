@@ -235,8 +235,8 @@ fn changes_of_a_rich_image(rt: HostRuntime) {
         refused(&[(96, 2)], ImageRefusal::Target(10)),
         taken(&[(93, 15)]),
         refused(&[(93, 16)], ImageRefusal::Target(10)),
-        // A method of a procedure that isn't there, pointers that don't rise or lie outside, a parent that isn't
-        // before its type, and an open type without a dimension.
+        // A method of a procedure that isn't there, pointers that don't rise or lie outside, a
+        // parent that isn't before its type, and an open type without a dimension.
         refused(&[(236, 4)], ImageRefusal::Section(3)),
         refused(&[(252, 1)], ImageRefusal::Section(3)),
         refused(&[(252, 3)], ImageRefusal::Section(3)),
@@ -249,7 +249,8 @@ fn changes_of_a_rich_image(rt: HostRuntime) {
         refused(&[(300, 5)], ImageRefusal::Section(4)),
         // A place in a file that isn't there.
         refused(&[(348, 1)], ImageRefusal::Section(6)),
-        // A tidy slot past the frame, a derived word of the call in a register, and a slot of a plain row.
+        // A tidy slot past the frame, a derived word of the call in a register, and a slot of a
+        // plain row.
         refused(&[(424, 22)], ImageRefusal::Table(0)),
         refused(&[(469, 5)], ImageRefusal::Table(1)),
         refused(&[(515, 25)], ImageRefusal::Table(3)),

@@ -36,7 +36,8 @@ const EMPTY_ROWS: [u8; 54] = [
     0, 0, 0, 0, 0, 0, 0, 0, 0, 0, 0, 0, 0, 0, 0, 0, 0, 0, 0, 0, 0, 0, 0,
 ];
 
-/// An image with something of each kind. Its second row is a change and its third the same as the second.
+/// An image with something of each kind. Its second row is a change and its third the same as the
+/// second.
 const RICH: [u8; 577] = [
     77, 51, 73, 77, 2, 0, 0, 0, // M3IM, version 2
     96, 0, 0, 0, // the code

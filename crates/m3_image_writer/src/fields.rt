@@ -1,4 +1,5 @@
-//! The fields of a section: numbers with the lowest byte first, and lists and texts behind their counts.
+//! The fields of a section: numbers with the lowest byte first, and lists and texts behind their
+//! counts.
 ghost use Rattle.std.specs.Prelude.{◌≡◌, ◌<◌, ◌^◌, ◌++◌, length, OnOk};
 ghost use Rattle.std.specs.List.{flat_map, AllByRecursion};
 ghost use Rattle.m3_table_writer.specs.Writing.{word_bytes, list_bytes};

@@ -36,8 +36,9 @@ fn put_sections(alloc: Global, out: &mut Vec<u8>, parts: &ImageParts) -> Result<
     Ok(())
 }
 
-/// The bytes of an image: `M3IM`, the version, and each section behind its length, of at most 4,294,967,295 bytes
-/// in all. The parts have to keep what the reader of images asks of every image. The only error is want of memory.
+/// The bytes of an image: `M3IM`, the version, and each section behind its length, of at most
+/// 4,294,967,295 bytes in all. The parts have to keep what the reader of images asks of every
+/// image. The only error is want of memory.
 #[tactic(auto, unfolding(crate::specs::Image::image_bytes))]
 pub fn write_image(alloc: Global, parts: &ImageParts) -> Result<Vec<u8>, NoMemory>
     requires form { AreParts parts.now }

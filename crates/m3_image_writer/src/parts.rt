@@ -3,11 +3,11 @@ use m3_image::ProcPart;
 use m3_isa::Instr;
 use m3_tables::Location;
 
-/// A type of cells, numbered from 0. `kind` is 0 for cells of a fixed size, 1 for open arrays and 2 for texts.
-/// `parent` is the number of the supertype, a lower one, or 4294967295 for none. `words` are those of a fixed
-/// cell, or of an element of an open array, which has `dims` dimensions. Each method is the number of its
-/// procedure and 1, or 0 where there is none. `pointers` are the offsets of the words that are pointers,
-/// rising.
+/// A type of cells, numbered from 0. `kind` is 0 for cells of a fixed size, 1 for open arrays and 2
+/// for texts. `parent` is the number of the supertype, a lower one, or 4294967295 for none. `words`
+/// are those of a fixed cell, or of an element of an open array, which has `dims` dimensions. Each
+/// method is the number of its procedure and 1, or 0 where there is none. `pointers` are the
+/// offsets of the words that are pointers, rising.
 #[derive(Drop)]
 pub struct TypePart {
     pub kind: u32,
@@ -25,16 +25,18 @@ pub struct GlobalPart {
     pub pointers: Vec<u32>,
 }
 
-/// The names of the source files, and the places that faults name: the number of a file, and a line.
+/// The names of the source files, and the places that faults name: the number of a file, and a
+/// line.
 #[derive(Drop)]
 pub struct PlacePart {
     pub files: Vec<Bytes>,
     pub places: Vec<(u32, u32)>,
 }
 
-/// A variable that can be shown: its procedure, or 4294967295 for a global one; the word of a global, else
-/// 0; its name, of a global with its unit's name and a dot before it; its form, 0 for an ordinal value and
-/// 1 for a reference; and where it is at each instruction at which it is in scope, rising.
+/// A variable that can be shown: its procedure, or 4294967295 for a global one; the word of a
+/// global, else 0; its name, of a global with its unit's name and a dot before it; its form, 0 for
+/// an ordinal value and 1 for a reference; and where it is at each instruction at which it is in
+/// scope, rising.
 #[derive(Drop)]
 pub struct VarPart {
     pub proc: u32,
@@ -44,8 +46,8 @@ pub struct VarPart {
     pub spans: Vec<(u32, Location)>,
 }
 
-/// An image to be written: one list for each of its sections. `tables` are the bytes of the section of the
-/// tables. An image with variables has version 2, one without them version 1.
+/// An image to be written: one list for each of its sections. `tables` are the bytes of the section
+/// of the tables. An image with variables has version 2, one without them version 1.
 #[derive(Drop)]
 pub struct ImageParts {
     pub code: Vec<Instr>,

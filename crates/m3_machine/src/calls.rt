@@ -15,7 +15,8 @@ use m3_new_cells::Parts;
 use m3_strides::Progress;
 use m3_strides::near::{Place, called_method, enter, is_of_type, leave, method_of, truth};
 
-/// CALL, CALLR and CALLM: a procedure that was found is called, by the running thread, which stands at a place.
+/// CALL, CALLR and CALLM: a procedure that was found is called, by the running thread, which stands
+/// at a place.
 pub(crate) fn call<S: Store>(
     parts: &mut Parts<'_, S>,
     callee: Result<u32, Outcome>,

@@ -1,5 +1,5 @@
-//! The machine that runs images: it passes points, chooses threads, carries out their instructions and collects the
-//! heap. The definitions of its states, steps and runs are those of m3_strides.
+//! The machine that runs images: it passes points, chooses threads, carries out their instructions
+//! and collects the heap. The definitions of its states, steps and runs are those of m3_strides.
 #![tactic(auto)]
 
 mod acts;

@@ -1,8 +1,8 @@
 use m3_heap::Store;
 use m3_new_cells::Parts;
 
-/// A machine that runs an image: its words, the thread that went last, the place in the input, and how many
-/// points were passed, instructions executed and collections made.
+/// A machine that runs an image: its words, the thread that went last, the place in the input, and
+/// how many points were passed, instructions executed and collections made.
 #[derive(Drop)]
 pub struct Machine<'a, S: Store> {
     pub(crate) parts: Parts<'a, S>,

@@ -60,8 +60,8 @@ pub(crate) fn spent<S: Store>(parts: &Parts<'_, S>) -> Outcome
     }
 }
 
-/// Collects the heap where an entry asks for it. False comes exactly where that has to stop, in trap 9; or where an
-/// earlier collection did.
+/// Collects the heap where an entry asks for it. False comes exactly where that has to stop, in
+/// trap 9; or where an earlier collection did.
 fn collect_if<S: Store>(parts: &mut Parts<'_, S>, asked: bool) -> bool
     ensures rest { rest_of parts.new ≡ record (rest_of parts.old) { stuck = parts.new.stuck } }
     ensures going { result ≡ true → parts.new.stuck ≡ parts.old.stuck }
@@ -72,8 +72,8 @@ fn collect_if<S: Store>(parts: &mut Parts<'_, S>, asked: bool) -> bool
     if asked { parts.collect() } else { true }
 }
 
-/// Passes a point: an entry is taken, the heap is collected where it says so, and the thread that goes is
-/// chosen. Or the run ends here.
+/// Passes a point: an entry is taken, the heap is collected where it says so, and the thread that
+/// goes is chosen. Or the run ends here.
 pub(crate) fn pass_point<S: Store>(parts: &mut Parts<'_, S>, entry: Entry) -> Option<Outcome>
     ensures rest { rest_of parts.new ≡ record (rest_of parts.old) { stuck = parts.new.stuck } }
     ensures going { result ≡ None → parts.new.stuck ≡ parts.old.stuck }

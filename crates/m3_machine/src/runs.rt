@@ -31,7 +31,8 @@ fn may_wait(op: Op) -> bool
     }
 }
 
-/// How far a turn has come: how many instructions it has had, and how many points may be passed without a choice.
+/// How far a turn has come: how many instructions it has had, and how many points may be passed
+/// without a choice.
 #[derive(Clone, Copy, Debug)]
 pub(crate) struct Turn {
     pub(crate) done: u64,
@@ -60,7 +61,8 @@ fn free_points<S: Store>(parts: &Parts<'_, S>, turn: &Turn) -> u64
     }
 }
 
-/// Goes on with the running thread, as far as nothing has to be chosen or done between its instructions.
+/// Goes on with the running thread, as far as nothing has to be chosen or done between its
+/// instructions.
 fn go_far<S: Store>(parts: &mut Parts<'_, S>, turn: &mut Turn) -> Halt
     ensures ahead { to_come turn.new ≤ to_come turn.old }
     ensures fewer { turn.new.points ≤ turn.old.points }
@@ -99,8 +101,8 @@ fn go_far<S: Store>(parts: &mut Parts<'_, S>, turn: &mut Turn) -> Halt
     halt
 }
 
-/// What follows where the running thread has come to a point instruction: it stands there, and its turn is over, or
-/// the next begins at once where no choice is left.
+/// What follows where the running thread has come to a point instruction: it stands there, and its
+/// turn is over, or the next begins at once where no choice is left.
 fn settle_at_point<S: Store>(parts: &mut Parts<'_, S>, turn: &mut Turn, i: Instr) -> Progress
     requires instruction { IsInstruction i }
     requires point { is_point i.op ≡ true }
@@ -123,8 +125,9 @@ fn settle_at_point<S: Store>(parts: &mut Parts<'_, S>, turn: &mut Turn, i: Instr
     Progress::Goes
 }
 
-/// What follows where the running thread has come to an instruction that the machine has to look at: at a point
-/// instruction the turn is over, else it goes on, if so many instructions may still be executed.
+/// What follows where the running thread has come to an instruction that the machine has to look
+/// at: at a point instruction the turn is over, else it goes on, if so many instructions may still
+/// be executed.
 fn settle<S: Store>(parts: &mut Parts<'_, S>, turn: &mut Turn) -> Progress
     ensures ahead { to_come turn.new ≤ to_come turn.old }
     ensures fewer { turn.new.points ≤ turn.old.points }
@@ -146,8 +149,8 @@ fn settle<S: Store>(parts: &mut Parts<'_, S>, turn: &mut Turn) -> Progress
     Progress::Goes
 }
 
-/// Goes on to the next instruction that isn't carried out in passing, if there is one in this turn or one that begins
-/// at once.
+/// Goes on to the next instruction that isn't carried out in passing, if there is one in this turn
+/// or one that begins at once.
 fn go_to_act<S: Store>(parts: &mut Parts<'_, S>, turn: &mut Turn) -> Progress
     ensures ahead { to_come turn.new ≤ to_come turn.old }
     ensures fewer { turn.new.points ≤ turn.old.points }
@@ -184,8 +187,8 @@ fn act_next<S: Store, O: Sink>(
     Ok(progress)
 }
 
-/// Goes on to a point instruction at which the machine has to choose or to act, to the thread's end or to the
-/// run's.
+/// Goes on to a point instruction at which the machine has to choose or to act, to the thread's end
+/// or to the run's.
 pub(crate) fn take_turn<S: Store, O: Sink>(
     parts: &mut Parts<'_, S>,
     turn: &mut Turn,

@@ -18,7 +18,8 @@ use m3_roots::Room;
 use m3_threads::Threads;
 use std::alloc::Global;
 
-/// The globals at the start: the header of the main thread's cell, of type 1 and four words, and zeros.
+/// The globals at the start: the header of the main thread's cell, of type 1 and four words, and
+/// zeros.
 fn first_globals(alloc: Global, words: u32) -> Result<Vec<u64>, NoMemory>
     ensures words { IfOk result (λ v. v.items ≡ globals_at_start words) }
     ensures count { IfOk result (λ v. length v.items ≡ words) }
@@ -63,8 +64,8 @@ fn most_dims(image: &ImageView<'_>) -> u32
 }
 
 impl<'a, S: Store> Machine<'a, S> {
-    /// A machine at the start of an image: the main thread alone, at its first instruction. All memory is taken
-    /// here.
+    /// A machine at the start of an image: the main thread alone, at its first instruction. All
+    /// memory is taken here.
     pub fn new(
         alloc: Global,
         image: ImageView<'a>,

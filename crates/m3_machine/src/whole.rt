@@ -52,7 +52,8 @@ fn know_image<S: Store>(parts: &Parts<'_, S>)
     let _length = parts.image.image().code_len();
 }
 
-/// How many of the points that are left may be passed without a choice: none where an entry is left.
+/// How many of the points that are left may be passed without a choice: none where an entry is
+/// left.
 fn free_points(later: &[Entry], left: u64) -> u64
     ensures few { result ≤ left }
     ensures free { 1 ≤ result → later.now ≡ [] }
@@ -99,9 +100,10 @@ fn next_turn<S: Store, O: Sink>(
 }
 
 impl<'a, S: Store> Machine<'a, S> {
-    /// Runs on, with a schedule and so many points at most. SinkFailed comes only where a put failed, and the sink's
-    /// count of faults rose; an outcome says that the sink took all output. A machine that is new or whose last run
-    /// used up its points may run so long as all of its points together are below 2^63.
+    /// Runs on, with a schedule and so many points at most. SinkFailed comes only where a put
+    /// failed, and the sink's count of faults rose; an outcome says that the sink took all output.
+    /// A machine that is new or whose last run used up its points may run so long as all of its
+    /// points together are below 2^63.
     pub fn run<O: Sink>(
         &mut self,
         schedule: &[Entry],

@@ -1,5 +1,5 @@
-//! How instructions run over a memory of several parts: an array of globals and a heap. What a store keeps
-//! of the heap, an instruction keeps.
+//! How instructions run over a memory of several parts: an array of globals and a heap. What a
+//! store keeps of the heap, an instruction keeps.
 #![tactic(auto)]
 
 mod parts;

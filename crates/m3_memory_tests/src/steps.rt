@@ -6,8 +6,8 @@ use crate::parts::Parts;
 use m3_heap::Store;
 use m3_isa::{Instr, Regs, Step, step};
 
-/// Carries out one plain instruction over both parts. Whatever the instruction is, as many words are free
-/// afterwards as before, and no collection was counted.
+/// Carries out one plain instruction over both parts. Whatever the instruction is, as many words
+/// are free afterwards as before, and no collection was counted.
 pub fn step_over<S: Store>(i: &Instr, regs: &mut Regs, memory: &mut Parts<S>) -> Step
     requires { IsInstruction i.now }
     ensures free { (S.heap memory.new.heap.store).free ≡ (S.heap memory.old.heap.store).free }

@@ -22,8 +22,8 @@ fn instruction(rt: &impl Abort, op: Op, a: u8, b: u8, imm: i32) -> Instr
     i
 }
 
-// A cell of four words in a heap of 64, its address in register 1 and that of the globals in register 2:
-// words are put and loaded in both, a header isn't put, and 60 words stay free.
+// A cell of four words in a heap of 64, its address in register 1 and that of the globals in
+// register 2: words are put and loaded in both, a header isn't put, and 60 words stay free.
 #[test]
 fn both_parts(rt: HostRuntime) -> Result<(), Fail> {
     let mut heap = SemiSpace::new(rt.alloc(), 64)?;

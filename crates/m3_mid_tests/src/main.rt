@@ -1,6 +1,6 @@
-//! Tries what is lowered. Each procedure of each program has to be well formed, and its frame has to
-//! be within its share. What a program does as middle code, the text of a procedure and the order
-//! of its tests have to be what is wanted. Cases that come out otherwise are shown.
+//! Tries what is lowered. Each procedure of each program has to be well formed, and its frame has
+//! to be within its share. What a program does as middle code, the text of a procedure and the
+//! order of its tests have to be what is wanted. Cases that come out otherwise are shown.
 #![tactic(auto)]
 
 mod examples;

@@ -18,8 +18,8 @@ use m3_image::TypeView;
 use m3_isa::{Instr, Words};
 use m3_strides::Progress;
 
-/// The words of a cell of so many dimensions, by the product of its sizes and the words of an element, as far as a
-/// word can say it.
+/// The words of a cell of so many dimensions, by the product of its sizes and the words of an
+/// element, as far as a word can say it.
 fn words_asked(product: u64, element: u32, dims: u32) -> u64
     ensures { result ≡ min (min (product * element) (2 ^ 64 - 1) + (1 + dims)) (2 ^ 64 - 1) }
 {
@@ -126,8 +126,8 @@ impl<'a, S: Store> Parts<'a, S> {
         self.sizes.clear();
     }
 
-    /// Reads so many sizes at an address, and gives their product, as far as a word can say it. They are kept as far
-    /// as there is room for them.
+    /// Reads so many sizes at an address, and gives their product, as far as a word can say it.
+    /// They are kept as far as there is room for them.
     fn read_sizes(&mut self, at: u64, dims: u32) -> Result<u64, Outcome>
         ensures rest { rest_of self.new ≡ rest_of self.old }
         ensures same { state_of self.new ≡ state_of self.old }

@@ -42,7 +42,8 @@ fn collect_in<S: Store, L: Ledger>(
     collect(threads, globals, &mut heap.store, image, room, steps)
 }
 
-/// A collection over the threads and the memory outside their stacks. False comes exactly where it ends in trap 9.
+/// A collection over the threads and the memory outside their stacks. False comes exactly where it
+/// ends in trap 9.
 fn collect_outside<S: Store, L: Ledger>(
     outside: &mut Outside<S>,
     threads: &mut Threads,
@@ -130,7 +131,8 @@ fn collect_now<S: Store>(
 }
 
 impl<'a, S: Store> Parts<'a, S> {
-    /// Collects the heap. False comes exactly where that has to stop, in trap 9; or where an earlier collection did.
+    /// Collects the heap. False comes exactly where that has to stop, in trap 9; or where an
+    /// earlier collection did.
     pub fn collect(&mut self) -> bool
         ensures rest { rest_of self.new ≡ record (rest_of self.old) { stuck = self.new.stuck } }
         ensures sizes { self.new.sizes.items ≡ self.old.sizes.items }

@@ -78,8 +78,8 @@ impl<'a, S: Store> Parts<'a, S> {
         }
     }
 
-    /// A new thread's cell gets its number, the thread stands at its first instruction, and the running one goes on with
-    /// the cell.
+    /// A new thread's cell gets its number, the thread stands at its first instruction, and the
+    /// running one goes on with the cell.
     fn finish_fork(&mut self, a: u8, cell: u64, number: u64, first: u32) -> Progress
         requires register { a < 16 }
         requires low { cell + 4 ≤ 2 ^ 63 }

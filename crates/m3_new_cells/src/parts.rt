@@ -9,8 +9,8 @@ use m3_heap::Store;
 use m3_memory::Memory;
 use m3_roots::Room;
 
-/// What a machine has: the image that it runs, the input, its words, the thread that went last, the place in the
-/// input, and how many points were passed, instructions executed and collections made.
+/// What a machine has: the image that it runs, the input, its words, the thread that went last, the
+/// place in the input, and how many points were passed, instructions executed and collections made.
 #[derive(Drop)]
 pub struct Parts<'a, S: Store> {
     pub image: Decoded<'a>,

@@ -197,7 +197,8 @@ impl<'a, S: Store> Parts<'a, S> {
         }
     }
 
-    /// Fills a new text with the bytes of two parts, if their words are there, and the thread goes on with it.
+    /// Fills a new text with the bytes of two parts, if their words are there, and the thread goes
+    /// on with it.
     fn finish_text(&mut self, a: u8, blank: Blank, left: Part, right: Part) -> Progress
         requires register { a < 16 }
         requires left { IsWithin left }
@@ -241,8 +242,8 @@ impl<'a, S: Store> Parts<'a, S> {
         Ok((left, right))
     }
 
-    /// CAT: the lengths are loaded, then the cell is made, then the bytes are loaded, by registers that are read
-    /// again.
+    /// CAT: the lengths are loaded, then the cell is made, then the bytes are loaded, by registers
+    /// that are read again.
     pub fn join_texts(&mut self, i: Instr) -> Progress
         requires answer { i.a < 16 }
         requires left { i.b < 16 }
@@ -363,7 +364,8 @@ impl<'a, S: Store> Parts<'a, S> {
         }
     }
 
-    /// Makes a text of what lies from a byte on in a text of so many bytes, no more than so many of it.
+    /// Makes a text of what lies from a byte on in a text of so many bytes, no more than so many of
+    /// it.
     fn make_cut(&mut self, i: Instr, bytes: u64, from: u64, most: u64) -> Progress
         requires answer { i.a < 16 }
         requires text { i.b < 16 }

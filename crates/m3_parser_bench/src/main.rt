@@ -1,5 +1,5 @@
-//! Lexes and parses a text of a given number of MiB, in files of one MiB each, and prints how many tokens
-//! they have. An argument gives the number; without one it is 8.
+//! Lexes and parses a text of a given number of MiB, in files of one MiB each, and prints how many
+//! tokens they have. An argument gives the number; without one it is 8.
 #![tactic(auto)]
 
 use bumpalo::Bump;

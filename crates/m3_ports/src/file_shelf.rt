@@ -8,7 +8,8 @@ use std::marker::Model;
 use std::rt::Files;
 use std::{fs, io};
 
-/// The system's files, by their paths. It tells nothing of what they hold, and counts what goes wrong.
+/// The system's files, by their paths. It tells nothing of what they hold, and counts what goes
+/// wrong.
 #[derive(Drop)]
 pub struct FileShelf<'a, R> {
     rt: &'a R,

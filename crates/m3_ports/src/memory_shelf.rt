@@ -11,8 +11,8 @@ use std::alloc::Global;
 use std::collections::VecDeque;
 use std::marker::Model;
 
-/// A shelf in memory, which tells what it holds. Its calls are numbered from 1, and those that it was
-/// told to fail answer `Failed`, unless they answer `Absent`, `TooLong` or `NoMemory`.
+/// A shelf in memory, which tells what it holds. Its calls are numbered from 1, and those that it
+/// was told to fail answer `Failed`, unless they answer `Absent`, `TooLong` or `NoMemory`.
 #[derive(Drop)]
 pub struct MemShelf {
     /// What was stored, the newest first.

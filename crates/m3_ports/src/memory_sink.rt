@@ -8,8 +8,8 @@ use m3_base::NoMemory;
 use std::alloc::Global;
 use std::marker::Model;
 
-/// A sink in memory, of a fixed room, that tells what it took. Its puts are numbered from 1. Those that
-/// it was told to fail, and those that exceed its room, take nothing.
+/// A sink in memory, of a fixed room, that tells what it took. Its puts are numbered from 1. Those
+/// that it was told to fail, and those that exceed its room, take nothing.
 #[derive(Drop)]
 pub struct MemSink {
     bytes: Vec<u8>,

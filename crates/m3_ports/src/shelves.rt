@@ -18,8 +18,9 @@ pub enum ShelfFault {
     NoMemory,
 }
 
-/// Files under names. A shelf counts what goes wrong: faults of fetching and of storing, absences and
-/// files that were too long. It may tell what it holds; where it does, the clauses speak of that too.
+/// Files under names. A shelf counts what goes wrong: faults of fetching and of storing, absences
+/// and files that were too long. It may tell what it holds; where it does, the clauses speak of
+/// that too.
 pub trait Shelf {
     /// The files, where the shelf tells them.
     ghost held: { Self → Option Files };
@@ -32,8 +33,9 @@ pub trait Shelf {
 
     ghost excesses: { Self → ℕ };
 
-    /// Adds the bytes of the named file to `into`, if they are at most `cap`. After an error `into` has
-    /// grown by a front of them: by nothing where the file is absent, by `cap` bytes where it is too long.
+    /// Adds the bytes of the named file to `into`, if they are at most `cap`. After an error `into`
+    /// has grown by a front of them: by nothing where the file is absent, by `cap` bytes where it
+    /// is too long.
     fn fetch(
         &mut self,
         alloc: Global,
@@ -52,8 +54,8 @@ pub trait Shelf {
         ensures too_long { IsErrOf result ShelfFault.TooLong → Rose (excesses self.old) (excesses self.new) }
         ensures failed { IsErrOf result ShelfFault.Failed → Rose (faults self.old) (faults self.new) };
 
-    /// Keeps the bytes under the name, in the place of what was there. A write that failed may have left
-    /// a front of them; want of memory leaves all as it was.
+    /// Keeps the bytes under the name, in the place of what was there. A write that failed may have
+    /// left a front of them; want of memory leaves all as it was.
     fn store(&mut self, alloc: Global, name: &str, bytes: &[u8]) -> Result<(), ShelfFault>
         ensures faults { faults self.old ≤ faults self.new }
         ensures store_faults { store_faults self.old ≤ store_faults self.new }

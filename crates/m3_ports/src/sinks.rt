@@ -13,7 +13,8 @@ pub trait Sink {
 
     ghost faults: { Self → ℕ };
 
-    /// Takes a piece. After a fault it has taken a front of it, and the count of faults rose. It takes no memory.
+    /// Takes a piece. After a fault it has taken a front of it, and the count of faults rose. It
+    /// takes no memory.
     fn put(&mut self, piece: &[u8]) -> Result<(), SinkFailed>
         ensures faults { faults self.old ≤ faults self.new }
         ensures told { is_some (taken self.new) ≡ is_some (taken self.old) }

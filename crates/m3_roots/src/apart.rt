@@ -12,8 +12,8 @@ use m3_frames::Frame;
 use m3_heap::Steps;
 use std::sync::ledger::Ledger;
 
-/// Subtracts the bases of all derived words from them, from the newest frame to the oldest. False comes exactly
-/// where a path is past its ways.
+/// Subtracts the bases of all derived words from them, from the newest frame to the oldest. False
+/// comes exactly where a path is past its ways.
 pub fn take_apart<L: Ledger>(
     image: &Decoded<'_>,
     frames: &[Frame],

@@ -30,7 +30,8 @@ fn sum_of<L: Ledger>(
     sum
 }
 
-/// The way of an entry that the word of its path picks. None comes exactly where that is past the ways.
+/// The way of an entry that the word of its path picks. None comes exactly where that is past the
+/// ways.
 fn way_of<'a>(
     r: &[u64; 16],
     stack: &[u64],
@@ -53,7 +54,8 @@ fn way_of<'a>(
     ways.next()
 }
 
-/// The signed sum of the bases of an entry, modulo 2^64. None comes exactly where its path is past its ways.
+/// The signed sum of the bases of an entry, modulo 2^64. None comes exactly where its path is past
+/// its ways.
 fn bases_of<L: Ledger>(
     r: &[u64; 16],
     stack: &[u64],
@@ -69,7 +71,8 @@ fn bases_of<L: Ledger>(
     Some(added.wrapping_sub(subtracted))
 }
 
-/// Subtracts the bases of a derived word from it. False comes exactly where its path is past its ways.
+/// Subtracts the bases of a derived word from it. False comes exactly where its path is past its
+/// ways.
 fn subtract<L: Ledger>(
     first: usize,
     entry: &Derivation<'_>,

@@ -27,8 +27,8 @@ use m3_isa::Regs;
 use m3_threads::Threads;
 use std::sync::ledger::Ledger;
 
-/// Lists the frames of a thread, and gives its registers. None comes exactly where one of the frames isn't as
-/// frames are, if there is room for as many as its stack has words.
+/// Lists the frames of a thread, and gives its registers. None comes exactly where one of the
+/// frames isn't as frames are, if there is room for as many as its stack has words.
 #[tactic(auto, using(crate::proofs::Named::is_named))]
 fn frames_of(image: &Decoded<'_>, threads: &Threads, thread: u64, room: &mut Room) -> Option<Regs>
     ensures there { IfSome result (λ _. IsSome (thread_named threads.now thread)) }
@@ -127,8 +127,8 @@ fn visit_threads<S: Store, L: Ledger>(
     true
 }
 
-/// Opens a collection, takes the derived words of all threads apart, and visits the tidy words of the threads and of
-/// the globals.
+/// Opens a collection, takes the derived words of all threads apart, and visits the tidy words of
+/// the threads and of the globals.
 fn visit_roots<S: Store, L: Ledger>(
     image: &Decoded<'_>,
     threads: &mut Threads,
@@ -183,8 +183,8 @@ fn mend_thread<L: Ledger>(
     fits
 }
 
-/// Puts the derived words of all threads together again. Where their words were gathered, it answers true, and the
-/// words are moved.
+/// Puts the derived words of all threads together again. Where their words were gathered, it
+/// answers true, and the words are moved.
 fn mend_threads<L: Ledger>(
     image: &Decoded<'_>,
     threads: &mut Threads,
@@ -208,11 +208,11 @@ fn mend_threads<L: Ledger>(
     true
 }
 
-/// Collects the heap over all frames of all threads, by the rows of the image. Bases are subtracted from derived
-/// words from the newest frame to the oldest, the tidy words are visited, and once all that they lead to is
-/// moved, the bases are added again from the oldest frame to the newest. With room for the threads' stacks, false
-/// comes exactly where a frame, a value or the lists of the rows aren't as they have to be (trap 9); then nothing is
-/// said of words and cells.
+/// Collects the heap over all frames of all threads, by the rows of the image. Bases are subtracted
+/// from derived words from the newest frame to the oldest, the tidy words are visited, and once all
+/// that they lead to is moved, the bases are added again from the oldest frame to the newest. With
+/// room for the threads' stacks, false comes exactly where a frame, a value or the lists of the
+/// rows aren't as they have to be (trap 9); then nothing is said of words and cells.
 pub fn collect<S: Store, L: Ledger>(
     threads: &mut Threads,
     globals: &mut [u64],

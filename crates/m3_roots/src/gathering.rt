@@ -19,9 +19,9 @@ use m3_frames::Frame;
 use m3_heap::{Steps, Store};
 use std::sync::ledger::Ledger;
 
-/// Takes the derived words of a thread with these frames apart and visits its tidy words. False comes exactly where
-/// what the rows list together isn't as it may be, a path is past its ways, or a tidy word lies where heaps lie and is
-/// no cell's start.
+/// Takes the derived words of a thread with these frames apart and visits its tidy words. False
+/// comes exactly where what the rows list together isn't as it may be, a path is past its ways, or
+/// a tidy word lies where heaps lie and is no cell's start.
 pub(crate) fn gather<S: Store, L: Ledger>(
     image: &Decoded<'_>,
     frames: &[Frame],
@@ -51,8 +51,8 @@ pub(crate) fn gather<S: Store, L: Ledger>(
     visit_frames(image, frames, r, stack, store, steps)
 }
 
-/// Puts the derived words of a thread with these frames together again. Where its words were gathered, it answers
-/// true, and the words are moved.
+/// Puts the derived words of a thread with these frames together again. Where its words were
+/// gathered, it answers true, and the words are moved.
 pub(crate) fn mend<L: Ledger>(
     image: &Decoded<'_>,
     frames: &[Frame],

@@ -119,7 +119,8 @@ fn bar_row(marks: &mut [Mark], first: usize, row: &Row<'_>) -> bool
     bar_paths(marks, first, row) && bases_are_plain(marks, first, row)
 }
 
-/// Marks the first two words of a frame and its paths as words that no row may list, and looks at its bases.
+/// Marks the first two words of a frame and its paths as words that no row may list, and looks at
+/// its bases.
 pub(crate) fn bar_all(marks: &mut [Mark], first: usize, row: &Row<'_>) -> bool
     ensures { MarksAll marks.old marks.new (bar_acts first (derived_from first (derived_in row.now))) result }
 {

@@ -1,5 +1,5 @@
-//! What the rows of a thread's frames may list together: no word twice, no path and no first or second word of a
-//! frame, and no derived word of a newer frame as the base of an older one.
+//! What the rows of a thread's frames may list together: no word twice, no path and no first or
+//! second word of a frame, and no derived word of a newer frame as the base of an older one.
 ghost use Rattle.std.specs.Prelude.{◌≡◌, ◌≤◌, ◌<◌, ◌+◌, ◌^◌, ℕ, List, length, map, true, false};
 ghost use Rattle.std.specs.List.{AllByRecursion};
 ghost use Rattle.m3_tables.specs.Numbers.{word_in};
@@ -86,8 +86,8 @@ fn end_of(frames: &[Frame]) -> usize
     end
 }
 
-/// Whether what the rows of the frames of a stack list together is as it may be, where there is a mark for each
-/// register and each word of the stack.
+/// Whether what the rows of the frames of a stack list together is as it may be, where there is a
+/// mark for each register and each word of the stack.
 pub fn lists_fit(image: &Decoded<'_>, frames: &[Frame], marks: &mut [Mark]) -> bool
     ensures fit { (base fp pc : ℕ) (stack : List ℕ) → AreFramesAt (image_of image.now).program base stack fp pc frames.now → length stack + 16 ≤ length marks.old
         → result ≡ true → ListsFit (image_of image.now).program frames.now }

@@ -1,4 +1,5 @@
-//! Marks of what is known of the words of a thread: which of them the rows list, and which they may not.
+//! Marks of what is known of the words of a thread: which of them the rows list, and which they may
+//! not.
 ghost use Rattle.std.specs.Prelude.{◌≡◌, ◌<◌, ◌≤◌, ◌∷◌, [], ℕ, length, Some};
 ghost use Rattle.std.specs.List.{slice_get};
 ghost use Rattle.m3_roots.specs.ThreadWords.{place_from};

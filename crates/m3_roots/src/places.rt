@@ -1,9 +1,10 @@
-//! The words of a thread by their places: the registers are 0 to 15, and 16 and more are the words of its stack.
+//! The words of a thread by their places: the registers are 0 to 15, and 16 and more are the words
+//! of its stack.
 ghost use Rattle.std.specs.Prelude.{◌≡◌, ◌++◌, nat_lt, if◌then◌else◌, Some, None, slice_set};
 ghost use Rattle.m3_roots.specs.ThreadWords.{word_at_place, place_from};
 
-/// The place that a row's number stands for in a frame that begins at a word of the stack. None exactly where it
-/// isn't before an end.
+/// The place that a row's number stands for in a frame that begins at a word of the stack. None
+/// exactly where it isn't before an end.
 #[inline]
 pub fn place_before(end: usize, first: usize, number: u32) -> Option<usize>
     ensures { result ≡ (if nat_lt (place_from first number) end then Some (place_from first number) else None) }

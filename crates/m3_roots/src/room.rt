@@ -6,8 +6,8 @@ use m3_base::NoMemory;
 use m3_frames::Frame;
 use std::alloc::Global;
 
-/// What a collection needs beside the machine's words, for one thread at a time: a list of frames, and marks
-/// for the sixteen registers and each word of a stack. It is made once.
+/// What a collection needs beside the machine's words, for one thread at a time: a list of frames,
+/// and marks for the sixteen registers and each word of a stack. It is made once.
 #[derive(Drop)]
 pub struct Room {
     pub(crate) frames: Vec<Frame>,

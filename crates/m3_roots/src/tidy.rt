@@ -82,8 +82,8 @@ fn visit_each<S: Store, L: Ledger>(
     true
 }
 
-/// Visits the tidy words of all frames, and puts the new words in their places. False comes exactly where one of
-/// them lies where heaps lie and is no cell's start.
+/// Visits the tidy words of all frames, and puts the new words in their places. False comes exactly
+/// where one of them lies where heaps lie and is no cell's start.
 pub fn visit_frames<S: Store, L: Ledger>(
     image: &Decoded<'_>,
     frames: &[Frame],

@@ -10,8 +10,8 @@ use m3_heap::{Steps, Store};
 use m3_tables::Numbers;
 use std::sync::ledger::Ledger;
 
-/// Visits the word that a row's number stands for, and puts its new value in its place. False comes exactly where
-/// it lies where heaps lie and is no cell's start.
+/// Visits the word that a row's number stands for, and puts its new value in its place. False comes
+/// exactly where it lies where heaps lie and is no cell's start.
 fn visit_at<S: Store, L: Ledger>(
     first: usize,
     number: u32,

@@ -23,8 +23,9 @@ pub fn row_of<'a>(image: &Decoded<'a>, frame: &Frame) -> Option<Row<'a>>
     tables.at(frame.row as u32)
 }
 
-/// Lists the frames of a thread whose stack has its first word at an address, the newest first. False comes
-/// exactly where one of them isn't as frames are, if there is room for as many as the stack has words.
+/// Lists the frames of a thread whose stack has its first word at an address, the newest first.
+/// False comes exactly where one of them isn't as frames are, if there is room for as many as the
+/// stack has words.
 pub fn list_frames(
     image: &Decoded<'_>,
     base: u64,

@@ -203,8 +203,9 @@ fn exec_one<O: Sink>(
     exec_sources(alloc, &sources, &given, no_options(), out, image)
 }
 
-/// Runs the program of one file, without options: `exec FILE` where its text is there already. Output
-/// goes to `out`, one line to `err`, and the bytes of the image to `image`. Gives the status.
+/// Runs the program of one file, without options: `exec FILE` where its text is there already.
+/// Output goes to `out`, one line to `err`, and the bytes of the image to `image`. Gives the
+/// status.
 pub fn exec_text<O: Sink, E: Sink>(
     alloc: Global,
     name: &str,

@@ -45,8 +45,8 @@ fn refuse(
     }
 }
 
-/// Whether each text is shorter than the checker wants, as every file is that was fetched within its
-/// cap.
+/// Whether each text is shorter than the checker wants, as every file is that was fetched within
+/// its cap.
 fn are_short(sources: &[Source<'_>]) -> bool
     ensures { result ≡ true → All (λ source. length source.text.now < 4294967295) sources.now }
 {

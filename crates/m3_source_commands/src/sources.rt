@@ -43,8 +43,8 @@ impl<'a> Sources<'a> {
     }
 }
 
-/// Fetches a FILE behind the others, within its cap and what is left for all, and gives what is left
-/// then.
+/// Fetches a FILE behind the others, within its cap and what is left for all, and gives what is
+/// left then.
 fn fetch_next<'a, F: Shelf>(
     alloc: Global,
     shelf: &mut F,

@@ -1,5 +1,5 @@
-//! What stands between a command and its standard streams: output is gathered into large pieces, and
-//! the line about the run waits until the output before it has gone.
+//! What stands between a command and its standard streams: output is gathered into large pieces,
+//! and the line about the run waits until the output before it has gone.
 #![tactic(auto)]
 
 mod gathered;

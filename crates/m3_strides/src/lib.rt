@@ -1,6 +1,7 @@
-//! The steps of a machine and the loop over them. The definitions (`specs/`) say what a machine is: its state, what
-//! each instruction does to it, the point between two turns, and a run. The code carries out the instructions of one
-//! thread after another, as far as nothing has to be chosen between them.
+//! The steps of a machine and the loop over them. The definitions (`specs/`) say what a machine is:
+//! its state, what each instruction does to it, the point between two turns, and a run. The code
+//! carries out the instructions of one thread after another, as far as nothing has to be chosen
+//! between them.
 #![tactic(auto)]
 
 mod halts;

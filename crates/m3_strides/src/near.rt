@@ -1,5 +1,5 @@
-//! Calls, returns and what a cell's type tells, for a thread whose registers stand beside its next instruction and
-//! its newest frame. An Err is how the run ends there; then nothing was done.
+//! Calls, returns and what a cell's type tells, for a thread whose registers stand beside its next
+//! instruction and its newest frame. An Err is how the run ends there; then nothing was done.
 ghost use Rattle.std.specs.Prelude.{◌≡◌, ◌<◌, ◌+◌, ◌%◌, ◌^◌, ℕ, length, slice_index, Ok, IfOk, OnErr};
 ghost use Rattle.m3_isa.specs.Arithmetic.{flag};
 ghost use Rattle.m3_isa.specs.Effects.{at_hand, answered};

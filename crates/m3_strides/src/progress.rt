@@ -3,8 +3,8 @@ ghost use Rattle.m3_strides.specs.Progress.{trapped};
 
 use m3_base::Outcome;
 
-/// What became of an instruction: its thread goes on in its turn, it rests since it fell asleep or ended, or the
-/// run ends.
+/// What became of an instruction: its thread goes on in its turn, it rests since it fell asleep or
+/// ended, or the run ends.
 #[derive(Clone, Copy, Debug, PartialEq, Eq)]
 pub enum Progress {
     Goes,

@@ -1,5 +1,5 @@
-//! Instructions that aren't plain, where nothing has to be chosen or done before them. None says that nothing was
-//! done.
+//! Instructions that aren't plain, where nothing has to be chosen or done before them. None says
+//! that nothing was done.
 ghost use Rattle.std.specs.Prelude.{◌≡◌, ◌<◌, ◌≤◌, length, slice_get, Ok, IfSome, IfNone};
 ghost use Rattle.m3_isa.specs.Effects.{at_hand};
 ghost use Rattle.m3_isa.specs.declared.instructions.Op.TheVariants.{Ret, Meth, Subt, New, Point};
@@ -133,7 +133,8 @@ pub(crate) fn make_near<S: Store>(
     }
 }
 
-/// CALL, CALLR and CALLM: a procedure that was found is called, where the stack has room for its frame.
+/// CALL, CALLR and CALLM: a procedure that was found is called, where the stack has room for its
+/// frame.
 #[inline(always)]
 pub(crate) fn call_near<S: Store>(
     image: &Decoded<'_>,

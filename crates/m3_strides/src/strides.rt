@@ -1,4 +1,5 @@
-//! A thread's instructions one after another, over points too where nothing else may go between them.
+//! A thread's instructions one after another, over points too where nothing else may go between
+//! them.
 ghost use Rattle.std.specs.Prelude.{◌≡◌, ◌<◌, ◌≤◌, ◌+◌, ◌-◌, ◌*◌, ◌^◌, true, false, Some, Option, length, slice_get, IfSome, IfNone};
 ghost use Rattle.m3_isa.specs.Instructions.{IsInstruction, is_point, is_plain as plain};
 ghost use Rattle.m3_isa.specs.declared.instructions.Instr.{Instr as Instruction};
@@ -19,8 +20,8 @@ use m3_memory::Memory;
 // After so many instructions the counts are added up.
 const MOST: u64 = 1 << 62;
 
-/// How many instructions a turn may have, how many this turn may still have, and how many points may be passed
-/// without a choice.
+/// How many instructions a turn may have, how many this turn may still have, and how many points
+/// may be passed without a choice.
 #[derive(Clone, Copy, Debug)]
 pub struct Pace {
     pub limit: u64,
@@ -28,8 +29,8 @@ pub struct Pace {
     pub points: u64,
 }
 
-/// What falls by one with each instruction, and where it is when the turn may have no more; and the points that
-/// may be passed without a choice.
+/// What falls by one with each instruction, and where it is when the turn may have no more; and the
+/// points that may be passed without a choice.
 #[derive(Clone, Copy, Debug)]
 struct Fuel {
     left: u64,
@@ -54,7 +55,8 @@ impl Fuel {
         }
     }
 
-    /// Whether one point more may be passed without a choice, and the counts needn't be added up first.
+    /// Whether one point more may be passed without a choice, and the counts needn't be added up
+    /// first.
     #[inline(always)]
     fn may_pass(&self) -> bool
         ensures points { result ≡ true → 1 ≤ self.now.points }
@@ -75,7 +77,8 @@ impl Fuel {
     }
 }
 
-/// An instruction that is no point, if nothing has to be done before it. None says that nothing was done.
+/// An instruction that is no point, if nothing has to be done before it. None says that nothing was
+/// done.
 #[inline(always)]
 fn stay_near<S: Store>(
     image: &Decoded<'_>,
@@ -97,7 +100,8 @@ fn stay_near<S: Store>(
     }
 }
 
-/// A point instruction, if nothing has to be done between the point and it. None says that nothing was done.
+/// A point instruction, if nothing has to be done between the point and it. None says that nothing
+/// was done.
 #[inline(always)]
 fn point_step<S: Store>(
     image: &Decoded<'_>,
@@ -130,7 +134,8 @@ fn point_step<S: Store>(
     }
 }
 
-/// A point and the instruction behind it, if no choice comes before it. None says that nothing was done.
+/// A point and the instruction behind it, if no choice comes before it. None says that nothing was
+/// done.
 #[inline(always)]
 fn pass_near<S: Store>(
     image: &Decoded<'_>,
@@ -290,7 +295,8 @@ fn go_on<S: Store>(
     }
 }
 
-/// Goes on as long as instructions are plain, or nothing has to be chosen or done before or after them.
+/// Goes on as long as instructions are plain, or nothing has to be chosen or done before or after
+/// them.
 #[inline(always)]
 fn go<S: Store>(
     image: &Decoded<'_>,
@@ -321,8 +327,8 @@ fn go<S: Store>(
     Halt::Other
 }
 
-/// Carries out the running thread's instructions, as long as nothing has to be chosen or done before or after them.
-/// Says why the row ended, and how many were executed.
+/// Carries out the running thread's instructions, as long as nothing has to be chosen or done
+/// before or after them. Says why the row ended, and how many were executed.
 #[inline(never)]
 pub fn stride<S: Store>(
     image: &Decoded<'_>,

@@ -194,8 +194,8 @@ fn instruction(row: &RowPlain) -> u32
     row.instr
 }
 
-/// The section of the tables with these rows. Each sixteenth row tells all its tidy places, another row that
-/// says the same as the one before is a single byte, and any other tells the change.
+/// The section of the tables with these rows. Each sixteenth row tells all its tidy places, another
+/// row that says the same as the one before is a single byte, and any other tells the change.
 pub fn write_rows(alloc: Global, rows: &[RowPlain]) -> Result<Vec<u8>, NoMemory>
     requires form { AllByRecursion IsRow rows.now }
     requires rising { IsTrue (rises (map (λ r. r.instr) rows.now)) }

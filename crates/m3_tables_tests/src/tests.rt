@@ -17,9 +17,9 @@ const EMPTY: [u8; 54] = [
     0, 0, 0, 0, 0, 0, 0, 0, 0, 0, 0, 0, 0, 0, 0, 0, 0, 0, 0, 0, 0, 0, 0,
 ];
 
-/// Row 0 at instruction 4: r1 and slot 0 are tidy, r2 is an argument, slot 3 is passed. r5 is derived by the
-/// number in r6: r1 less r7, or slot 0; r7 is derived from slot 3. Row 1 at instruction 9 takes r1 away
-/// and brings r3, and has r4 derived from r3.
+/// Row 0 at instruction 4: r1 and slot 0 are tidy, r2 is an argument, slot 3 is passed. r5 is
+/// derived by the number in r6: r1 less r7, or slot 0; r7 is derived from slot 3. Row 1 at
+/// instruction 9 takes r1 away and brings r3, and has r4 derived from r3.
 const RICH: [u8; 140] = [
     2, 0, 0, 0, 4, 0, 0, 0, 0, 0, 0, 0, 9, 0, 0, 0, 75, 0, 0, 0, // the directory
     0, 2, 0, 0, 0, 1, 0, 0, 0, 16, 0, 0, 0, // tidy, from 20 on

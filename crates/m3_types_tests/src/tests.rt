@@ -98,7 +98,8 @@ fn add(types: &mut TypeGraph, reveal: Reveal) -> Result<(), Fail> {
     Ok(())
 }
 
-// 0 to 11: INTEGER, BOOLEAN, CHAR, NULL, REFANY, TEXT, MUTEX, ROOT, CARDINAL, [1..4], [0..3], [5..4]
+// 0 to 11: INTEGER, BOOLEAN, CHAR, NULL, REFANY, TEXT, MUTEX, ROOT, CARDINAL, [1..4], [0..3],
+// [5..4]
 fn put_basic(types: &mut TypeGraph) -> Result<(), Fail> {
     for node in [
         TypeNode::Integer,
@@ -119,8 +120,8 @@ fn put_basic(types: &mut TypeGraph) -> Result<(), Fail> {
     Ok(())
 }
 
-// 12 to 22: {a, b} twice, {FALSE, TRUE}; ARRAY [1..4] and [0..3] OF INTEGER, [0..3] OF CHAR, OF CHAR,
-// OF INTEGER, ARRAY [1..4] OF ARRAY [0..3] OF INTEGER, ARRAY OF 16, ARRAY OF ARRAY OF INTEGER
+// 12 to 22: {a, b} twice, {FALSE, TRUE}; ARRAY [1..4] and [0..3] OF INTEGER, [0..3] OF CHAR, OF
+// CHAR, OF INTEGER, ARRAY [1..4] OF ARRAY [0..3] OF INTEGER, ARRAY OF 16, ARRAY OF ARRAY OF INTEGER
 fn put_arrays<'a>(bump: &'a Bump, types: &mut TypeGraph<'a>) -> Result<(), Fail> {
     put(types, enumeration(bump, b"a", b"b")?)?;
     put(types, enumeration(bump, b"a", b"b")?)?;
@@ -140,8 +141,8 @@ fn put_arrays<'a>(bump: &'a Bump, types: &mut TypeGraph<'a>) -> Result<(), Fail>
     Ok(())
 }
 
-// 23 to 33: A = REF RECORD n: A END, B likewise, REF RECORD m: A END; REF INTEGER, with two brands of
-// its own, and twice with the brand "x"
+// 23 to 33: A = REF RECORD n: A END, B likewise, REF RECORD m: A END; REF INTEGER, with two brands
+// of its own, and twice with the brand "x"
 fn put_references<'a>(bump: &'a Bump, types: &mut TypeGraph<'a>) -> Result<(), Fail> {
     put(types, TypeNode::RefTo(None, TypeId(24)))?;
     put(types, record(bump, b"n", 23)?)?;
@@ -162,8 +163,9 @@ fn put_references<'a>(bump: &'a Bump, types: &mut TypeGraph<'a>) -> Result<(), F
     put(types, text_brand())
 }
 
-// 34 to 45: OBJECT f: INTEGER END, 34 OBJECT END, 34 again; PROCEDURE (), with RAISES {1}, with RAISES
-// ANY, (x: INTEGER), (y: INTEGER), (VAR x: INTEGER), (): INTEGER; SET OF [1..4], SET OF [0..3]
+// 34 to 45: OBJECT f: INTEGER END, 34 OBJECT END, 34 again; PROCEDURE (), with RAISES {1}, with
+// RAISES ANY, (x: INTEGER), (y: INTEGER), (VAR x: INTEGER), (): INTEGER; SET OF [1..4], SET OF
+// [0..3]
 fn put_objects<'a>(bump: &'a Bump, types: &mut TypeGraph<'a>) -> Result<(), Fail> {
     put(types, object(bump, None, 7)?)?;
     put(types, bare_object(None, 34))?;
@@ -212,7 +214,8 @@ pub(crate) fn graph<'a>(alloc: Global, bump: &'a Bump) -> Result<TypeGraph<'a>, 
     Ok(types)
 }
 
-// view, the two types, whether they are the same, whether the first is a subtype, how it is assigned
+// view, the two types, whether they are the same, whether the first is a subtype, how it is
+// assigned
 type Row = (u32, u32, u32, bool, bool, Assign);
 
 fn check_rows(rt: &impl Abort, alloc: Global, rows: &[Row]) -> Result<(), Fail> {
@@ -367,9 +370,9 @@ fn procedures_and_opaque_types(rt: HostRuntime) -> Result<(), Fail> {
     )
 }
 
-// Two families of count references to records: the i-th record has the next reference and another one,
-// and the last record of the second family has other names if it is to differ. All places are reserved
-// first and set from the last one on.
+// Two families of count references to records: the i-th record has the next reference and another
+// one, and the last record of the second family has other names if it is to differ. All places are
+// reserved first and set from the last one on.
 pub(crate) fn families<'a>(
     alloc: Global,
     bump: &'a Bump,
@@ -468,9 +471,9 @@ fn long_parents(rt: HostRuntime) -> Result<(), Fail> {
     Ok(())
 }
 
-// A chain of 60,000 opaque types, each bounded by the one before: from 1 on the opaque types have odd
-// places, and behind each stands the branded object type that fully reveals it in view 1, whose parent
-// is the opaque type before.
+// A chain of 60,000 opaque types, each bounded by the one before: from 1 on the opaque types have
+// odd places, and behind each stands the branded object type that fully reveals it in view 1, whose
+// parent is the opaque type before.
 #[test]
 fn long_opaque_types(rt: HostRuntime) -> Result<(), Fail> {
     let alloc = rt.alloc();
@@ -542,8 +545,8 @@ fn put_pair<'a>(
     put(types, TypeNode::Constant(ConstValue::Fields(fields)))
 }
 
-// Constants are compared by value: 1 to 10 are 5, 5, 6, the texts ab, ab and ac, (5, ab) twice by other
-// places, (6, ab), and NIL.
+// Constants are compared by value: 1 to 10 are 5, 5, 6, the texts ab, ab and ac, (5, ab) twice by
+// other places, (6, ab), and NIL.
 #[test]
 fn constants(rt: HostRuntime) -> Result<(), Fail> {
     let alloc = rt.alloc();

@@ -1,5 +1,5 @@
-//! The workload of `bench`: a program of twenty small units and a module Main with four threads, and
-//! a schedule, each fixed by a number.
+//! The workload of `bench`: a program of twenty small units and a module Main with four threads,
+//! and a schedule, each fixed by a number.
 #![tactic(auto)]
 
 mod schedules;

@@ -37,10 +37,10 @@ const FILE_CAP: u64 = 1_048_576;
 
 /// Carries out the command that the words give, without the program's name, and gives its status.
 ///
-/// The commands are `build IMAGE FILE..`, `run IMAGE`, `exec FILE..`, `dump IMAGE` and `bench N`. Output
-/// goes to `out`, one line to `err`, and the bytes of the image that was built, run or dumped to
-/// `image`. `exec FILE` of a text in the plain form is compiled by the generator that is proved, and
-/// leaves no image. No such status but 4 comes where a sink failed.
+/// The commands are `build IMAGE FILE..`, `run IMAGE`, `exec FILE..`, `dump IMAGE` and `bench N`.
+/// Output goes to `out`, one line to `err`, and the bytes of the image that was built, run or
+/// dumped to `image`. `exec FILE` of a text in the plain form is compiled by the generator that is
+/// proved, and leaves no image. No such status but 4 comes where a sink failed.
 pub fn m3c<F: Shelf, O: Sink, E: Sink>(
     alloc: Global,
     words: Vec<String>,
@@ -115,7 +115,8 @@ fn texts_of<'w>(alloc: Global, words: &'w [String]) -> Result<Vec<&'w str>, NoMe
     Ok(texts)
 }
 
-// `exec FILE`: a text in the plain form by the generator that is proved, every other by the compiler.
+// `exec FILE`: a text in the plain form by the generator that is proved, every other by the
+// compiler.
 fn exec_file<F: Shelf, O: Sink, E: Sink>(
     alloc: Global,
     name: &str,
@@ -184,8 +185,8 @@ fn tell<E: Sink>(err: &mut E, status: u8, line: &[u8]) -> u8
     }
 }
 
-// Fetches the file, compiles it and runs it. The line for err is added, and the status given; a text
-// that isn't in the plain form comes back.
+// Fetches the file, compiles it and runs it. The line for err is added, and the status given; a
+// text that isn't in the plain form comes back.
 fn execute<F: Shelf, O: Sink>(
     alloc: Global,
     name: &str,

@@ -27,7 +27,8 @@ pub struct Machine {
     points: u64,
 }
 
-/// What became of an instruction: the run goes on, it has ended, or this machine lacks the instruction.
+/// What became of an instruction: the run goes on, it has ended, or this machine lacks the
+/// instruction.
 #[derive(Clone, Copy, Debug)]
 pub enum Turn {
     GoesOn,

@@ -22,8 +22,8 @@ impl Stack {
     ghost use Rattle.m3_build.specs.Machine.{first_memory};
     ghost use Rattle.m3c.specs.Stacks.{stack_holds};
 
-    /// A stack as a thread finds it: its first frame was called by nobody, in the environment of the
-    /// globals.
+    /// A stack as a thread finds it: its first frame was called by nobody, in the environment of
+    /// the globals.
     pub fn new(alloc: Global) -> Result<Stack, NoMemory>
         ensures { IfOk result (λ stack. (at : ℕ) → stack_holds stack at ≡ first_memory at) }
     {

@@ -3,8 +3,9 @@ use m3_ports::FileShelf;
 use std::rt::Files;
 use std::{fs, io};
 
-/// Runs the programs of examples/ on files of the system, each as a line of the file `examples/cases` says: the
-/// status that is wanted, the file with the output that is wanted, and the words of the command.
+/// Runs the programs of examples/ on files of the system, each as a line of the file
+/// `examples/cases` says: the status that is wanted, the file with the output that is wanted, and
+/// the words of the command.
 pub fn try_examples(rt: &(impl Print + Files + AllocGlobal)) -> io::Result<()> {
     let cases = fs::read_to_string(rt, "examples/cases")?;
     let mut tally = Tally::new();

@@ -9,8 +9,8 @@ const LEAST_OPTION: u64 = 64;
 /// The points that have a line in the file with a collection at each point.
 const POINTS: u32 = 3000;
 
-/// Whether a command answers alike with this heap and a collection at each point, and finds a heap of one
-/// word less full.
+/// Whether a command answers alike with this heap and a collection at each point, and finds a heap
+/// of one word less full.
 pub fn suffices(
     rt: &(impl Print + AllocGlobal),
     words: &str,

@@ -1,5 +1,5 @@
-//! Tries whole commands: the example programs on files of the system, tables of programs with what each
-//! command answers, and texts of odd forms.
+//! Tries whole commands: the example programs on files of the system, tables of programs with what
+//! each command answers, and texts of odd forms.
 #![tactic(auto)]
 
 mod answers;

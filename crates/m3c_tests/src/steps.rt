@@ -19,7 +19,8 @@ pub struct Wanted<'a> {
 }
 
 impl<'a> Wanted<'a> {
-    /// The same, but for the count of instructions and what stands behind it, which change with collections.
+    /// The same, but for the count of instructions and what stands behind it, which change with
+    /// collections.
     pub fn before_instructions(self) -> Wanted<'a> {
         let (front, _) = self
             .err

@@ -5,9 +5,9 @@ use std::alloc::Global;
 use std::rt::Files;
 use std::{fs, io};
 
-/// Tries each case of a table: a title behind `== `, files behind `--- NAME`, whose last line ends with
-/// their last byte, and steps behind `>>> `, each the words of a command and what it has to answer. The
-/// commands of a case share one shelf.
+/// Tries each case of a table: a title behind `== `, files behind `--- NAME`, whose last line ends
+/// with their last byte, and steps behind `>>> `, each the words of a command and what it has to
+/// answer. The commands of a case share one shelf.
 pub fn try_table(rt: &(impl Print + Files + AllocGlobal), name: &str) -> io::Result<()> {
     let content = fs::read_to_string(rt, name)?;
     let mut tally = Tally::new();
