@@ -3,7 +3,7 @@ ghost use Rattle.m3_cursor.specs.Readers.{Follows, Reads};
 
 use m3_base::Pos;
 use m3_cursor::Reader;
-use m3_syntax::{Expr, Qualid, Selector, TypeExp, TypeName};
+use m3_syntax::{Expr, Name, Qualid, Selector, TypeExp, TypeName};
 
 /// No place: that of a node behind an error.
 const NOWHERE: Pos = Pos {
@@ -56,13 +56,21 @@ pub fn qualid_of<'a>(expr: &Expr<'a>) -> Option<Qualid<'a>> {
             selectors,
             ..
         } => match *operand {
-            Expr::Name(first) => match selectors {
-                [Selector::Member(second)] => Some(Qualid {
-                    first: *first,
-                    second: Some(*second),
-                }),
-                _ => None,
-            },
+            Expr::Name(first) => member_of(*first, selectors),
+            _ => None,
+        },
+        _ => None,
+    }
+}
+
+/// A name with one selector, where that is a name too.
+fn member_of<'a>(first: Name<'a>, selectors: &[Selector<'a>]) -> Option<Qualid<'a>> {
+    match selectors {
+        [selector] => match selector {
+            Selector::Member(second) => Some(Qualid {
+                first,
+                second: Some(*second),
+            }),
             _ => None,
         },
         _ => None,
