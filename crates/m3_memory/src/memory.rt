@@ -17,21 +17,50 @@ impl<S: Store> Words for Memory<S> {
     ghost use Rattle.m3_memory.specs.Addresses.{outside_of, settable_of};
     ghost use Rattle.m3_memory.specs.Kept.{KeepsMemory};
     ghost use Rattle.m3_memory.specs.OutsideLaws.{readable_outside, low_outside};
-    ghost use Rattle.m3_memory.specs.MemoryLaws.{readable_memory, low_memory, keeps_itself, keeps_on};
+    ghost use Rattle.m3_memory.specs.MemoryLaws.{readable_memory, low_memory, keeps_itself};
+    ghost use Rattle.m3_memory.specs.MemoryLaws.{keeps_on};
 
-    ghost holds = { λ m. held m.threads (outside_of m.outside.globals.items m.outside.constants.items (S.heap m.outside.heap.store).cells) };
+    ghost holds = { λ m. held m.threads (outside_of m.outside.globals.items
+        m.outside.constants.items (S.heap m.outside.heap.store).cells) };
 
-    ghost writable = { λ m. replaceable m.threads (settable_of (length m.outside.globals.items) (S.heap m.outside.heap.store).cells) };
+    ghost writable = { λ m. replaceable m.threads
+        (settable_of (length m.outside.globals.items) (S.heap m.outside.heap.store).cells) };
 
-    ghost keeps = { λ old new. KeepsMemory old.threads new.threads old.outside.globals.items new.outside.globals.items old.outside.constants.items new.outside.constants.items (S.heap old.outside.heap.store) (S.heap new.outside.heap.store) × ((shapes : List Shape) → S.fits old.outside.heap.store shapes → S.fits new.outside.heap.store shapes) };
+    ghost keeps = { λ old new. KeepsMemory old.threads new.threads old.outside.globals.items
+        new.outside.globals.items old.outside.constants.items new.outside.constants.items
+        (S.heap old.outside.heap.store) (S.heap new.outside.heap.store)
+        × ((shapes : List Shape) → S.fits old.outside.heap.store shapes
+        → S.fits new.outside.heap.store shapes) };
 
-    ghost readable = { λ m x h. readable_memory m.threads (outside_of m.outside.globals.items m.outside.constants.items (S.heap m.outside.heap.store).cells) (settable_of (length m.outside.globals.items) (S.heap m.outside.heap.store).cells) x (readable_outside m.outside.globals.items m.outside.constants.items (S.heap m.outside.heap.store).cells x (S.sound m.outside.heap.store).cells.in_heap m.outside.few m.outside.small) h };
+    ghost readable = { λ m x h. readable_memory m.threads
+        (outside_of m.outside.globals.items m.outside.constants.items
+        (S.heap m.outside.heap.store).cells) (settable_of (length m.outside.globals.items)
+        (S.heap m.outside.heap.store).cells) x
+        (readable_outside m.outside.globals.items m.outside.constants.items
+        (S.heap m.outside.heap.store).cells x (S.sound m.outside.heap.store).cells.in_heap
+        m.outside.few m.outside.small) h };
 
-    ghost low = { λ m x h. low_memory m.threads (outside_of m.outside.globals.items m.outside.constants.items (S.heap m.outside.heap.store).cells) x (low_outside m.outside.globals.items m.outside.constants.items (S.heap m.outside.heap.store).cells x (S.sound m.outside.heap.store).cells.in_heap m.outside.few m.outside.small) h };
+    ghost low = { λ m x h. low_memory m.threads
+        (outside_of m.outside.globals.items m.outside.constants.items
+        (S.heap m.outside.heap.store).cells) x
+        (low_outside m.outside.globals.items m.outside.constants.items
+        (S.heap m.outside.heap.store).cells x (S.sound m.outside.heap.store).cells.in_heap
+        m.outside.few m.outside.small) h };
 
-    ghost keeps_itself = { λ m. (keeps_itself m.threads m.outside.globals.items m.outside.constants.items (S.heap m.outside.heap.store), λ _ f. f) };
+    ghost keeps_itself = { λ m. (
+      keeps_itself m.threads m.outside.globals.items
+          m.outside.constants.items (S.heap m.outside.heap.store),
+      λ _ f. f,
+    ) };
 
-    ghost keeps_on = { λ s t u p q. (keeps_on s.threads t.threads u.threads s.outside.globals.items t.outside.globals.items u.outside.globals.items s.outside.constants.items t.outside.constants.items u.outside.constants.items (S.heap s.outside.heap.store) (S.heap t.outside.heap.store) (S.heap u.outside.heap.store) p.0 q.0, λ shapes f. q.1 shapes (p.1 shapes f)) };
+    ghost keeps_on = { λ s t u p q. (
+      keeps_on s.threads t.threads u.threads s.outside.globals.items
+          t.outside.globals.items u.outside.globals.items s.outside.constants.items
+          t.outside.constants.items u.outside.constants.items (S.heap s.outside.heap.store)
+          (S.heap t.outside.heap.store) (S.heap u.outside.heap.store) p.0 q.0,
+      λ shapes f. q.1 shapes
+          (p.1 shapes f),
+    ) };
 
     #[inline]
     fn load(&self, at: u64) -> Option<u64> {

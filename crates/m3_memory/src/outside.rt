@@ -31,14 +31,18 @@ impl<S: Store> Outside<S> {
     pub fn allocate(&mut self, kind: u32, words: u64) -> Option<u64>
         requires { 1 ≤ words }
         ensures none { IsNone result ↔ ((S.heap self.old.heap.store).free < words) }
-        ensures made { IfSome result (λ start. AddsCell (S.heap self.old.heap.store).cells (new_cell start kind words) (S.heap self.new.heap.store).cells) }
-        ensures refused { IfNone result ((S.heap self.new.heap.store).cells ≡ (S.heap self.old.heap.store).cells) }
-        ensures asked { (S.heap self.new.heap.store).asked ≡ (if is_some result then (S.heap self.old.heap.store).asked else words) }
+        ensures made { IfSome result (λ start. AddsCell (S.heap self.old.heap.store).cells
+            (new_cell start kind words) (S.heap self.new.heap.store).cells) }
+        ensures refused { IfNone result ((S.heap self.new.heap.store).cells ≡
+            (S.heap self.old.heap.store).cells) }
+        ensures asked { (S.heap self.new.heap.store).asked ≡
+            (if is_some result then (S.heap self.old.heap.store).asked else words) }
         ensures counts { KeepsCounts (S.heap self.old.heap.store) (S.heap self.new.heap.store) }
         ensures globals { self.new.globals.items ≡ self.old.globals.items }
         ensures constants { self.new.constants.items ≡ self.old.constants.items }
         ensures words { length self.new.globals.items ≡ length self.old.globals.items }
-        ensures fitting { (shapes : List Shape) → S.fits self.old.heap.store shapes → S.fits self.new.heap.store shapes }
+        ensures fitting { (shapes : List Shape) → S.fits self.old.heap.store shapes
+            → S.fits self.new.heap.store shapes }
     {
         self.heap.allocate(kind, words)
     }
@@ -49,21 +53,36 @@ impl<S: Store> Words for Outside<S> {
     ghost use Rattle.m3_heap.specs.Shapes.{Shape};
     ghost use Rattle.m3_memory.specs.Addresses.{outside_of, settable_of};
     ghost use Rattle.m3_memory.specs.Kept.{KeepsOutside};
-    ghost use Rattle.m3_memory.specs.OutsideLaws.{readable_outside, low_outside, outside_keeps_itself, outside_keeps_on};
+    ghost use Rattle.m3_memory.specs.OutsideLaws.{readable_outside, low_outside};
+    ghost use Rattle.m3_memory.specs.OutsideLaws.{outside_keeps_itself, outside_keeps_on};
 
     ghost holds = { λ m. outside_of m.globals.items m.constants.items (S.heap m.heap.store).cells };
 
     ghost writable = { λ m. settable_of (length m.globals.items) (S.heap m.heap.store).cells };
 
-    ghost keeps = { λ old new. KeepsOutside old.globals.items new.globals.items old.constants.items new.constants.items (S.heap old.heap.store) (S.heap new.heap.store) × ((shapes : List Shape) → S.fits old.heap.store shapes → S.fits new.heap.store shapes) };
+    ghost keeps = { λ old new. KeepsOutside old.globals.items new.globals.items old.constants.items
+        new.constants.items (S.heap old.heap.store) (S.heap new.heap.store)
+        × ((shapes : List Shape) → S.fits old.heap.store shapes → S.fits new.heap.store shapes) };
 
-    ghost readable = { λ m x h. readable_outside m.globals.items m.constants.items (S.heap m.heap.store).cells x (S.sound m.heap.store).cells.in_heap m.few m.small h };
+    ghost readable = { λ m x h. readable_outside m.globals.items m.constants.items
+        (S.heap m.heap.store).cells x (S.sound m.heap.store).cells.in_heap m.few m.small h };
 
-    ghost low = { λ m x h. low_outside m.globals.items m.constants.items (S.heap m.heap.store).cells x (S.sound m.heap.store).cells.in_heap m.few m.small h };
+    ghost low = { λ m x h. low_outside m.globals.items m.constants.items (S.heap m.heap.store).cells
+        x (S.sound m.heap.store).cells.in_heap m.few m.small h };
 
-    ghost keeps_itself = { λ m. (outside_keeps_itself m.globals.items m.constants.items (S.heap m.heap.store), λ _ f. f) };
+    ghost keeps_itself = { λ m. (
+      outside_keeps_itself m.globals.items m.constants.items
+          (S.heap m.heap.store),
+      λ _ f. f,
+    ) };
 
-    ghost keeps_on = { λ s t u p q. (outside_keeps_on s.globals.items t.globals.items u.globals.items s.constants.items t.constants.items u.constants.items (S.heap s.heap.store) (S.heap t.heap.store) (S.heap u.heap.store) p.0 q.0, λ shapes f. q.1 shapes (p.1 shapes f)) };
+    ghost keeps_on = { λ s t u p q. (
+      outside_keeps_on s.globals.items t.globals.items
+          u.globals.items s.constants.items t.constants.items u.constants.items (S.heap s.heap.store)
+          (S.heap t.heap.store) (S.heap u.heap.store) p.0 q.0,
+      λ shapes f. q.1 shapes
+          (p.1 shapes f),
+    ) };
 
     #[inline]
     fn load(&self, at: u64) -> Option<u64> {
