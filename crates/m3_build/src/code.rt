@@ -1,9 +1,11 @@
 // From what a module puts to instructions.
 
-ghost use Rattle.std.specs.Prelude.{◌≡◌, ◌≤◌, ◌<◌, ◌+◌, ◌*◌, ◌^◌, ◌++◌, [], ◌∷◌, pos, length, vec_len, IsTrue, IfOk, OnOk};
+ghost use Rattle.std.specs.Prelude.{◌≡◌, ◌≤◌, ◌<◌, ◌+◌, ◌*◌, ◌^◌, ◌++◌, [], ◌∷◌, pos, length};
+ghost use Rattle.std.specs.Prelude.{vec_len, IsTrue, IfOk, OnOk};
 ghost use Rattle.m3_base.specs.Integers.{is_integer};
 ghost use Rattle.m3_build.specs.Terms.{AreIntegers, term_of, terms_of, nodes, all_nodes};
-ghost use Rattle.m3_build.specs.Code.{on_first, term_code, term_lines, apply_code, number_code, code_size, operators};
+ghost use Rattle.m3_build.specs.Code.{on_first, term_code, term_lines, apply_code, number_code};
+ghost use Rattle.m3_build.specs.Code.{code_size, operators};
 ghost use Rattle.m3_build.specs.Machine.{Puts};
 
 use crate::plain::{Arith, Plain};
@@ -46,9 +48,12 @@ fn emit_term(built: &mut PlainCode, term: &Plain, depth: u32) -> Result<(), NoMe
     requires depth { depth + nodes (term_of term.now) ≤ 2 ^ 20 }
     ensures code { OnOk result (built.new.code.items ≡ built.old.code.items
         ++ term_code (vec_len built.old.code) (vec_len built.old.lines) depth (term_of term.now)) }
-    ensures lines { OnOk result (built.new.lines.items ≡ built.old.lines.items ++ term_lines (term_of term.now)) }
-    ensures code_len { OnOk result (vec_len built.new.code ≡ vec_len built.old.code + code_size (term_of term.now)) }
-    ensures lines_len { OnOk result (vec_len built.new.lines ≡ vec_len built.old.lines + operators (term_of term.now)) }
+    ensures lines { OnOk result (built.new.lines.items
+        ≡ built.old.lines.items ++ term_lines (term_of term.now)) }
+    ensures code_len { OnOk result (vec_len built.new.code
+        ≡ vec_len built.old.code + code_size (term_of term.now)) }
+    ensures lines_len { OnOk result (vec_len built.new.lines
+        ≡ vec_len built.old.lines + operators (term_of term.now)) }
     ensures integers { OnOk result (AreIntegers (term_of term.now)) }
 {
     match term {

@@ -1,7 +1,9 @@
 // From a text to its tokens.
 
-ghost use Rattle.std.specs.Prelude.{◌≡◌, ◌-◌, ◌<◌, ◌≤◌, ◌^◌, length, [], Option, Some, None, OnOk, OnErr, IfOk, IsErrOf};
-ghost use Rattle.m3_build.specs.Lexing.{keyword, literal, word_kind, sign_kind, with_token, with_word, with_byte, lexed};
+ghost use Rattle.std.specs.Prelude.{◌≡◌, ◌-◌, ◌<◌, ◌≤◌, ◌^◌, length, [], Option, Some, None, OnOk};
+ghost use Rattle.std.specs.Prelude.{OnErr, IfOk, IsErrOf};
+ghost use Rattle.m3_build.specs.Lexing.{keyword, literal, word_kind, sign_kind, with_token};
+ghost use Rattle.m3_build.specs.Lexing.{with_word, with_byte, lexed};
 
 use crate::plain::{Arith, PlainRefused};
 use crate::tokens::{Kind, Token};
@@ -37,7 +39,8 @@ pub fn lex(alloc: Global, text: &[u8]) -> Result<Vec<Token>, PlainRefused>
 // Adds the token of the word or the number that has ended.
 fn end_word(tokens: &mut Vec<Token>, line: u32, word: &[u8]) -> Result<(), PlainRefused>
     ensures ok { OnOk result (with_word tokens.old.items line word.now ≡ Some tokens.new.items) }
-    ensures not_built { IsErrOf result PlainRefused.NotBuilt → with_word tokens.old.items line word.now ≡ None }
+    ensures not_built { IsErrOf result PlainRefused.NotBuilt
+        → with_word tokens.old.items line word.now ≡ None }
 {
     if word.is_empty() {
         return Ok(());
@@ -48,7 +51,8 @@ fn end_word(tokens: &mut Vec<Token>, line: u32, word: &[u8]) -> Result<(), Plain
 // Adds the token of a sign; white space adds none.
 fn take_byte(tokens: &mut Vec<Token>, line: u32, b: u8) -> Result<(), PlainRefused>
     ensures ok { OnOk result (with_byte tokens.old.items line b ≡ Some tokens.new.items) }
-    ensures not_built { IsErrOf result PlainRefused.NotBuilt → with_byte tokens.old.items line b ≡ None }
+    ensures not_built { IsErrOf result PlainRefused.NotBuilt
+        → with_byte tokens.old.items line b ≡ None }
 {
     if matches!(b, 9..=13 | b' ') {
         return Ok(());
@@ -58,7 +62,8 @@ fn take_byte(tokens: &mut Vec<Token>, line: u32, b: u8) -> Result<(), PlainRefus
 
 fn add_token(tokens: &mut Vec<Token>, line: u32, kind: Option<Kind>) -> Result<(), PlainRefused>
     ensures ok { OnOk result (with_token tokens.old.items line kind ≡ Some tokens.new.items) }
-    ensures not_built { IsErrOf result PlainRefused.NotBuilt → with_token tokens.old.items line kind ≡ None }
+    ensures not_built { IsErrOf result PlainRefused.NotBuilt
+        → with_token tokens.old.items line kind ≡ None }
 {
     let Some(kind) = kind else {
         return Err(PlainRefused::NotBuilt);

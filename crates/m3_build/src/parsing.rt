@@ -1,10 +1,13 @@
 // From tokens to what the statements put.
 
-ghost use Rattle.std.specs.Prelude.{◌≡◌, ◌≢◌, Bool, ◌++◌, ◌∷◌, [], ℕ, List, Option, Some, None, IfOk, IfSome, IfNone, IsTrue, ◌↔◌, IsErrOf};
+ghost use Rattle.std.specs.Prelude.{◌≡◌, ◌≢◌, Bool, ◌++◌, ◌∷◌, [], ℕ, List, Option, Some, None};
+ghost use Rattle.std.specs.Prelude.{IfOk, IfSome, IfNone, IsTrue, ◌↔◌, IsErrOf};
 ghost use Rattle.m3_build.specs.declared.tokens.Token.{Token};
-ghost use Rattle.m3_build.specs.declared.tokens.Kind.TheVariants.{Io, Dot, PutInt, Open, Close, Semicolon};
+ghost use Rattle.m3_build.specs.declared.tokens.Kind.TheVariants.{Io, Dot, PutInt, Open, Close};
+ghost use Rattle.m3_build.specs.declared.tokens.Kind.TheVariants.{Semicolon};
 ghost use Rattle.m3_build.specs.Terms.{Term, Apply, term_of, terms_of};
-ghost use Rattle.m3_build.specs.Parsing.{After, left_after, product_after, literal_at, operator_at, sum_at, left_of, joined, PutAt, IsEnd, Parses};
+ghost use Rattle.m3_build.specs.Parsing.{After, left_after, product_after, literal_at, operator_at};
+ghost use Rattle.m3_build.specs.Parsing.{sum_at, left_of, joined, PutAt, IsEnd, Parses};
 
 use crate::plain::{Arith, Plain, PlainRefused};
 use crate::tokens::{Kind, Token};
@@ -28,7 +31,8 @@ const TRAILER: [Kind; 3] = [Kind::End, Kind::Main, Kind::Dot];
 /// What the statements of a module put, or `NotBuilt` where the tokens are no such module.
 pub fn parse(alloc: Global, tokens: &[Token]) -> Result<Vec<Plain>, PlainRefused>
     ensures ok { IfOk result (λ puts. Parses tokens.now (terms_of puts.items)) }
-    ensures not_built { IsErrOf result PlainRefused.NotBuilt → (puts : List Term) → Parses tokens.now puts → ⊥ }
+    ensures not_built { IsErrOf result PlainRefused.NotBuilt → (puts : List Term)
+        → Parses tokens.now puts → ⊥ }
 {
     let mut puts = Vec::new(alloc);
     let mut rest = after(tokens, &HEADER)?;
@@ -75,7 +79,8 @@ fn is(token: Token, kind: Kind) -> bool
 // The rest after tokens of these kinds.
 fn after<'t>(tokens: &'t [Token], kinds: &[Kind]) -> Result<&'t [Token], PlainRefused>
     ensures ok { IfOk result (λ rest. After kinds.now tokens.now rest.now) }
-    ensures not_built { IsErrOf result PlainRefused.NotBuilt → (rest : List Token) → After kinds.now tokens.now rest → ⊥ }
+    ensures not_built { IsErrOf result PlainRefused.NotBuilt → (rest : List Token)
+        → After kinds.now tokens.now rest → ⊥ }
 {
     let mut left = tokens;
     for kind in kinds {
@@ -93,7 +98,8 @@ fn after<'t>(tokens: &'t [Token], kinds: &[Kind]) -> Result<&'t [Token], PlainRe
 // One statement's Sum, and the rest after the statement.
 fn statement(alloc: Global, tokens: &[Token]) -> Result<(Plain, &[Token]), PlainRefused>
     ensures ok { IfOk result (λ found. PutAt tokens.now (term_of found.0) found.1.now) }
-    ensures not_built { IsErrOf result PlainRefused.NotBuilt → (put : Term) (rest : List Token) → PutAt tokens.now put rest → ⊥ }
+    ensures not_built { IsErrOf result PlainRefused.NotBuilt → (put : Term) (rest : List Token)
+        → PutAt tokens.now put rest → ⊥ }
 {
     let (put, close) = sum(alloc, after(tokens, &CALL)?)?;
     let rest = after(close, &[Kind::Close])?;
@@ -128,8 +134,10 @@ fn go_on(
     line: u32,
     number: i64,
 ) -> Result<(Option<(Plain, Arith, u32)>, Plain), PlainRefused>
-    ensures left { IfOk result (λ found. left_of found.0 ≡ left_after op line (left_of left) (term_of product)) }
-    ensures product { IfOk result (λ found. term_of found.1 ≡ product_after op line (term_of product) number) }
+    ensures left { IfOk result (λ found. left_of found.0
+        ≡ left_after op line (left_of left) (term_of product)) }
+    ensures product { IfOk result (λ found. term_of found.1
+        ≡ product_after op line (term_of product) number) }
     ensures built { IsErrOf result PlainRefused.NotBuilt → ⊥ }
 {
     match op {
@@ -146,7 +154,8 @@ fn go_on(
 
 // The operator at the front, its line, and the rest.
 fn operator(tokens: &[Token]) -> Option<(Arith, u32, &[Token])>
-    ensures found { IfSome result (λ found. operator_at tokens.now ≡ Some (found.0, (found.1, found.2.now))) }
+    ensures found { IfSome result (λ found. operator_at tokens.now
+        ≡ Some (found.0, (found.1, found.2.now))) }
     ensures none { IfNone result (operator_at tokens.now ≡ None) }
 {
     match tokens {

@@ -15,9 +15,11 @@ use std::alloc::Global;
 /// `MODULE Main; IMPORT IO; BEGIN S END Main.`, where S is statements `IO.PutInt(Sum)`.
 pub fn read_plain(alloc: Global, text: &[u8]) -> Result<Vec<Plain>, PlainRefused>
     ensures plain { IfOk result (λ puts. IsPlain text.now (terms_of puts.items)) }
-    ensures only { IfOk result (λ puts. (others : List Term) → IsPlain text.now others → others ≡ terms_of puts.items) }
+    ensures only { IfOk result (λ puts. (others : List Term) → IsPlain text.now others
+        → others ≡ terms_of puts.items) }
     ensures few { IfOk result (λ puts. all_nodes (terms_of puts.items) ≤ 2000) }
-    ensures not_built { IsErrOf result PlainRefused.NotBuilt → (puts : List Term) → IsPlain text.now puts → ⊥ }
+    ensures not_built { IsErrOf result PlainRefused.NotBuilt → (puts : List Term)
+        → IsPlain text.now puts → ⊥ }
 {
     if text.len() >= u32::MAX as usize {
         return Err(PlainRefused::NotBuilt);

@@ -3,7 +3,9 @@ ghost use Rattle.std.specs.Prelude.{◌≡◌, ◌++◌, ◌+◌, ◌≤◌, len
 ghost use Rattle.m3_decoded.specs.Ready.{image_of};
 ghost use Rattle.m3_sections.specs.PartViews.{variable_of, pairs_of, variables_list};
 ghost use Rattle.std.specs.List.{flat_map};
-ghost use Rattle.m3_dump.specs.Texts.{proc_line, instruction_line, owner_word, form_word, global_word, span_word, variable_words, variable_line, Adds, CodeText, ProcsText, IsDump};
+ghost use Rattle.m3_dump.specs.Texts.{proc_line, instruction_line, owner_word, form_word};
+ghost use Rattle.m3_dump.specs.Texts.{global_word, span_word, variable_words, variable_line, Adds};
+ghost use Rattle.m3_dump.specs.Texts.{CodeText, ProcsText, IsDump};
 
 use crate::names::name_of;
 use crate::rows::put_row_at;
@@ -29,7 +31,8 @@ pub fn dump(alloc: Global, image: &Decoded<'_>) -> Result<Vec<u8>, NoMemory>
 
 /// The procedures in their order, each with its instructions.
 fn put_procs(alloc: Global, text: &mut Vec<u8>, image: &Decoded<'_>) -> Result<(), NoMemory>
-    ensures { OnOk result (Adds (ProcsText (image_of image.now).program (image_of image.now).program.procs) text.old.items text.new.items) }
+    ensures { OnOk result (Adds (ProcsText (image_of image.now).program
+        (image_of image.now).program.procs) text.old.items text.new.items) }
 {
     image.image().keeps_its_form();
     let mut number: u64 = 0;
@@ -61,7 +64,8 @@ fn put_code(
     proc: &ProcPart,
 ) -> Result<(), NoMemory>
     requires { proc.now.first + proc.now.count ≤ length (image_of image.now).program.code }
-    ensures { OnOk result (Adds (CodeText (image_of image.now).program proc.now.first proc.now.count) text.old.items text.new.items) }
+    ensures { OnOk result (Adds (CodeText (image_of image.now).program proc.now.first
+        proc.now.count) text.old.items text.new.items) }
 {
     let past = proc.end().min(image.image().code_len() as u64) as u32;
     'code: for pc in proc.first..past {
@@ -88,7 +92,8 @@ fn put_instruction(text: &mut Vec<u8>, pc: u32, i: &Instr) -> Result<(), NoMemor
 }
 
 fn put_variables(text: &mut Vec<u8>, image: &Decoded<'_>) -> Result<(), NoMemory>
-    ensures { OnOk result (text.new.items ≡ text.old.items ++ flat_map variable_line (image_of image.now).variables) }
+    ensures { OnOk result (text.new.items ≡ text.old.items ++ flat_map variable_line
+        (image_of image.now).variables) }
 {
     'variables: for variable in image.image().variables() {
         put_variable(text, &variable)?;
@@ -97,7 +102,8 @@ fn put_variables(text: &mut Vec<u8>, image: &Decoded<'_>) -> Result<(), NoMemory
 }
 
 fn put_variable(text: &mut Vec<u8>, variable: &VarView<'_>) -> Result<(), NoMemory>
-    ensures { OnOk result (text.new.items ≡ text.old.items ++ variable_line (variable_of variable.now)) }
+    ensures { OnOk result (text.new.items ≡ text.old.items ++ variable_line
+        (variable_of variable.now)) }
 {
     put_variable_words(text, variable)?;
     put_word(text, variable)?;
@@ -108,7 +114,8 @@ fn put_variable(text: &mut Vec<u8>, variable: &VarView<'_>) -> Result<(), NoMemo
 /// What a variable is: its procedure, its name and its form.
 #[tactic(auto, unfolding(crate::specs::Texts::variable_words))]
 fn put_variable_words(text: &mut Vec<u8>, variable: &VarView<'_>) -> Result<(), NoMemory>
-    ensures { OnOk result (text.new.items ≡ text.old.items ++ variable_words (variable_of variable.now)) }
+    ensures { OnOk result (text.new.items ≡ text.old.items ++ variable_words
+        (variable_of variable.now)) }
 {
     put(text, b"var")?;
     put_owner(text, variable)?;
@@ -120,7 +127,8 @@ fn put_variable_words(text: &mut Vec<u8>, variable: &VarView<'_>) -> Result<(), 
 /// The procedure of a variable.
 #[tactic(auto, unfolding(crate::specs::Texts::owner_word))]
 fn put_owner(text: &mut Vec<u8>, variable: &VarView<'_>) -> Result<(), NoMemory>
-    ensures { OnOk result (text.new.items ≡ text.old.items ++ owner_word (variable_of variable.now)) }
+    ensures { OnOk result (text.new.items ≡ text.old.items ++ owner_word
+        (variable_of variable.now)) }
 {
     if variable.proc == u32::MAX {
         put(text, b" global")
@@ -131,7 +139,8 @@ fn put_owner(text: &mut Vec<u8>, variable: &VarView<'_>) -> Result<(), NoMemory>
 
 #[tactic(auto, unfolding(crate::specs::Texts::form_word))]
 fn put_form(text: &mut Vec<u8>, variable: &VarView<'_>) -> Result<(), NoMemory>
-    ensures { OnOk result (text.new.items ≡ text.old.items ++ form_word (variable_of variable.now)) }
+    ensures { OnOk result (text.new.items ≡ text.old.items ++ form_word
+        (variable_of variable.now)) }
 {
     put(
         text,
@@ -146,7 +155,8 @@ fn put_form(text: &mut Vec<u8>, variable: &VarView<'_>) -> Result<(), NoMemory>
 /// The word of a global.
 #[tactic(auto, unfolding(crate::specs::Texts::global_word))]
 fn put_word(text: &mut Vec<u8>, variable: &VarView<'_>) -> Result<(), NoMemory>
-    ensures { OnOk result (text.new.items ≡ text.old.items ++ global_word (variable_of variable.now)) }
+    ensures { OnOk result (text.new.items ≡ text.old.items ++ global_word
+        (variable_of variable.now)) }
 {
     if variable.proc != u32::MAX {
         return Ok(());
@@ -157,7 +167,8 @@ fn put_word(text: &mut Vec<u8>, variable: &VarView<'_>) -> Result<(), NoMemory>
 
 /// Where a variable is, point by point.
 fn put_spans(text: &mut Vec<u8>, spans: Pairs<'_>) -> Result<(), NoMemory>
-    ensures { OnOk result (text.new.items ≡ text.old.items ++ flat_map span_word (pairs_of spans.entry)) }
+    ensures { OnOk result (text.new.items ≡ text.old.items ++ flat_map span_word
+        (pairs_of spans.entry)) }
 {
     'spans: for (instr, place) in spans {
         put_number_word(text, instr as u64)?;

@@ -5,7 +5,8 @@ ghost use Rattle.m3_tables.specs.Views.{entry_of, bases_of, numbers_of};
 ghost use Rattle.m3_tables.specs.Tables.{section_of_row, number_of_row};
 ghost use Rattle.m3_tables.specs.Sections.{contents_in};
 ghost use Rattle.m3_decoded.specs.Ready.{image_of};
-ghost use Rattle.m3_dump.specs.Texts.{place_text, place_word, way_text, ways_text, path_text, entry_word, row_line, InOrder, Adds, RowText};
+ghost use Rattle.m3_dump.specs.Texts.{place_text, place_word, way_text, ways_text, path_text};
+ghost use Rattle.m3_dump.specs.Texts.{entry_word, row_line, InOrder, Adds, RowText};
 
 use crate::words::{put, put_place, put_place_word, put_places};
 use m3_base::NoMemory;
@@ -20,7 +21,8 @@ pub(crate) fn put_row_at(
     image: &Decoded<'_>,
     pc: u32,
 ) -> Result<(), NoMemory>
-    ensures { OnOk result (Adds (RowText (image_of image.now).program.tables pc) text.old.items text.new.items) }
+    ensures { OnOk result (Adds (RowText (image_of image.now).program.tables pc) text.old.items
+        text.new.items) }
 {
     let Some(row) = image.row(pc) else {
         return Ok(());
@@ -42,7 +44,8 @@ fn in_order(alloc: Global, places: &[u32]) -> Result<Vec<u32>, NoMemory>
 }
 
 fn put_row(text: &mut Vec<u8>, tidy: &[u32], row: &Row<'_>) -> Result<(), NoMemory>
-    ensures { OnOk result (text.new.items ≡ text.old.items ++ row_line tidy.now (contents_in (section_of_row row.now) (number_of_row row.now))) }
+    ensures { OnOk result (text.new.items ≡ text.old.items ++ row_line tidy.now
+        (contents_in (section_of_row row.now) (number_of_row row.now))) }
 {
     put(text, b"point T")?;
     put_tidy(text, tidy)?;
@@ -66,7 +69,8 @@ fn put_tidy(text: &mut Vec<u8>, tidy: &[u32]) -> Result<(), NoMemory>
 
 /// The derived words of a row.
 fn put_entries(text: &mut Vec<u8>, row: &Row<'_>) -> Result<(), NoMemory>
-    ensures { OnOk result (text.new.items ≡ text.old.items ++ flat_map entry_word (contents_in (section_of_row row.now) (number_of_row row.now)).derived) }
+    ensures { OnOk result (text.new.items ≡ text.old.items ++ flat_map entry_word
+        (contents_in (section_of_row row.now) (number_of_row row.now)).derived) }
 {
     'entries: for entry in row.derivations() {
         put_entry(text, &entry)?;
@@ -119,7 +123,8 @@ fn put_way(text: &mut Vec<u8>, way: &WayView<'_>) -> Result<(), NoMemory>
 }
 
 fn put_bases(text: &mut Vec<u8>, sign: &[u8], bases: Numbers<'_>) -> Result<(), NoMemory>
-    ensures { OnOk result (text.new.items ≡ text.old.items ++ flat_map (λ l. sign.now ++ place_text l) (numbers_of bases.entry)) }
+    ensures { OnOk result (text.new.items ≡ text.old.items ++ flat_map
+        (λ l. sign.now ++ place_text l) (numbers_of bases.entry)) }
 {
     'bases: for base in bases {
         put(text, sign)?;

@@ -63,7 +63,8 @@ pub(crate) fn put_place_word(text: &mut Vec<u8>, place: u32) -> Result<(), NoMem
 
 /// Places, each behind a space.
 pub(crate) fn put_places(text: &mut Vec<u8>, places: Numbers<'_>) -> Result<(), NoMemory>
-    ensures { OnOk result (text.new.items ≡ text.old.items ++ flat_map place_word (numbers_of places.entry)) }
+    ensures { OnOk result (text.new.items ≡ text.old.items ++ flat_map place_word
+        (numbers_of places.entry)) }
 {
     'places: for place in places {
         put_place_word(text, place)?;

@@ -10,7 +10,9 @@ use m3_isa::Op;
 /// The frame that begins at a place of a stack and has an instruction. None exactly where the
 /// instruction has no row, or the frame isn't wholly in the stack.
 pub fn frame_at(image: &Decoded<'_>, stack: &[u64], first: usize, instr: u32) -> Option<Frame>
-    ensures { MatchOption result ((f : Frame) → IsFrame (image_of image.now).program stack.now first instr f → ⊥) (λ f. IsFrame (image_of image.now).program stack.now first instr f) }
+    ensures { MatchOption result ((f : Frame)
+        → IsFrame (image_of image.now).program stack.now first instr f → ⊥)
+        (λ f. IsFrame (image_of image.now).program stack.now first instr f) }
 {
     image.image().keeps_together();
     let row = image.row(instr)?;
@@ -46,7 +48,9 @@ fn is_call_at(image: &Decoded<'_>, pc: u32) -> bool
 /// instruction is no call or has no row, or it isn't wholly in the stack, or doesn't begin below
 /// the newer one.
 pub fn older_frame(image: &Decoded<'_>, base: u64, stack: &[u64], newer: &Frame) -> Option<Frame>
-    ensures { MatchOption result ((f : Frame) → IsOlder (image_of image.now).program base stack.now newer.now f → ⊥) (λ f. IsOlder (image_of image.now).program base stack.now newer.now f) }
+    ensures { MatchOption result ((f : Frame)
+        → IsOlder (image_of image.now).program base stack.now newer.now f → ⊥)
+        (λ f. IsOlder (image_of image.now).program base stack.now newer.now f) }
 {
     if newer.first >= stack.len() || stack.len() - newer.first < 2 {
         return None;

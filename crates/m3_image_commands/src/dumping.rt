@@ -17,10 +17,11 @@ fn dump_view<O: Sink>(
     image: ImageView<'_>,
     out: &mut O,
 ) -> Result<Answer, Refusal<'static>>
-    ensures { (bytes : List ℕ) → read_of bytes ≡ Ok (image_view image.entry) → DumpsBytes bytes (record {
-      taken = (O.taken out.old, O.taken out.new);
-      faults = (O.faults out.old, O.faults out.new);
-    }) result }
+    ensures { (bytes : List ℕ) → read_of bytes ≡ Ok (image_view image.entry)
+        → DumpsBytes bytes (record {
+          taken = (O.taken out.old, O.taken out.new);
+          faults = (O.faults out.old, O.faults out.new);
+        }) result }
 {
     let Ok(decoded) = Decoded::of(alloc, image) else {
         return Err(Refusal::NO_MEMORY);

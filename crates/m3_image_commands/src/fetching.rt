@@ -1,7 +1,8 @@
 ghost use Rattle.std.specs.Prelude.{◌≡◌, ℕ, [], IfOk, OnOk};
 ghost use Rattle.std.specs.Option.{option_map};
 ghost use Rattle.m3_ports.specs.Files.{TakesFile};
-ghost use Rattle.m3_image_commands.specs.Statuses.{Causes, Fetches, IsGiven, Only, OfOptions, Shelving, Unfetched};
+ghost use Rattle.m3_image_commands.specs.Statuses.{Causes, Fetches, IsGiven, Only, OfOptions};
+ghost use Rattle.m3_image_commands.specs.Statuses.{Shelving, Unfetched};
 
 use crate::answers::Refusal;
 use m3_command_line::RunOptions;
@@ -59,7 +60,8 @@ pub fn fetch<'a, F: Shelf>(
       absences = (F.absences shelf.old, F.absences shelf.new);
       excesses = (F.excesses shelf.old, F.excesses shelf.new);
     }) (Only name.now cap) result }
-    ensures ok { OnOk result (TakesFile (F.held shelf.old) name.now cap into.old.items into.new.items) }
+    ensures ok { OnOk result (TakesFile (F.held shelf.old) name.now cap into.old.items
+        into.new.items) }
 {
     match shelf.fetch(alloc, name, cap, into) {
         Ok(()) => Ok(()),
@@ -81,8 +83,10 @@ fn fetch_named<'a, F: Shelf>(
       store_faults = (F.store_faults shelf.old, F.store_faults shelf.new);
       absences = (F.absences shelf.old, F.absences shelf.new);
       excesses = (F.excesses shelf.old, F.excesses shelf.new);
-    }) (OfOptions (option_map (λ n. n.now) name.entry) (option_map (λ n. n.now) name.entry)) result }
-    ensures ok { OnOk result (IsGiven (F.held shelf.old) (option_map (λ n. n.now) name.entry) into.new.items) }
+    }) (OfOptions (option_map (λ n. n.now) name.entry) (option_map (λ n. n.now) name.entry))
+        result }
+    ensures ok { OnOk result (IsGiven (F.held shelf.old) (option_map (λ n. n.now) name.entry)
+        into.new.items) }
 {
     match name {
         Some(name) => fetch(alloc, shelf, name, FILE_CAP, into),
@@ -102,9 +106,12 @@ pub fn fetch_run_files<'a, F: Shelf>(
       store_faults = (F.store_faults shelf.old, F.store_faults shelf.new);
       absences = (F.absences shelf.old, F.absences shelf.new);
       excesses = (F.excesses shelf.old, F.excesses shelf.new);
-    }) (OfOptions (option_map (λ n. n.now) options.entry.switches) (option_map (λ n. n.now) options.entry.input)) result }
-    ensures switches { IfOk result (λ files. IsGiven (F.held shelf.old) (option_map (λ n. n.now) options.entry.switches) files.switches.items) }
-    ensures input { IfOk result (λ files. IsGiven (F.held shelf.old) (option_map (λ n. n.now) options.entry.input) files.input.items) }
+    }) (OfOptions (option_map (λ n. n.now) options.entry.switches)
+        (option_map (λ n. n.now) options.entry.input)) result }
+    ensures switches { IfOk result (λ files. IsGiven (F.held shelf.old)
+        (option_map (λ n. n.now) options.entry.switches) files.switches.items) }
+    ensures input { IfOk result (λ files. IsGiven (F.held shelf.old)
+        (option_map (λ n. n.now) options.entry.input) files.input.items) }
 {
     let mut files = RunFiles {
         switches: Vec::new(alloc),

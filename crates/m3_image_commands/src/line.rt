@@ -1,11 +1,13 @@
 //! The line for err, in memory that is taken before it is known.
-ghost use Rattle.std.specs.Prelude.{◌≡◌, ◌+◌, ◌≤◌, ◌<◌, ◌^◌, ◌++◌, [], length, codes, decimal, slice_get, vec_len, vec_capacity};
+ghost use Rattle.std.specs.Prelude.{◌≡◌, ◌+◌, ◌≤◌, ◌<◌, ◌^◌, ◌++◌, [], length, codes, decimal};
+ghost use Rattle.std.specs.Prelude.{slice_get, vec_len, vec_capacity};
 ghost use Rattle.std.specs.Option.{option_map};
 ghost use Rattle.m3_base.specs.Faults.{name_of_fault};
 ghost use Rattle.m3_base.specs.declared.outcomes.Outcome.TheVariants.{Fault, Uncaught, Trap};
 ghost use Rattle.m3_image.specs.Views.{image_view};
 ghost use Rattle.m3_sections.specs.PartViews.{names_of};
-ghost use Rattle.m3_image_commands.specs.Reports.{end_status, name_bytes, ending, with_counts, with_collections, report, longest, longest_name};
+ghost use Rattle.m3_image_commands.specs.Reports.{end_status, name_bytes, ending, with_counts};
+ghost use Rattle.m3_image_commands.specs.Reports.{with_collections, report, longest, longest_name};
 
 use crate::answers::Answer;
 use itoa::Buffer;
@@ -94,7 +96,8 @@ fn file_name<'a>(image: &ImageView<'a>, file: u32) -> &'a [u8]
 
 /// The name of an exception, or nothing where there is none of that number.
 fn exception_name<'a>(image: &ImageView<'a>, exception: u32) -> &'a [u8]
-    ensures value { result.now ≡ name_bytes (slice_get (image_view image.now).program.exceptions exception) }
+    ensures value { result.now ≡ name_bytes (slice_get (image_view image.now).program.exceptions
+        exception) }
     ensures short { length result.now ≤ longest_name (image_view image.now) }
 {
     name_bytes(image.exception(exception))
@@ -183,7 +186,8 @@ fn add_ending(line: &mut Vec<u8>, image: &ImageView<'_>, outcome: Outcome) -> u8
 /// Adds the points and the instructions of a machine.
 fn add_counts<S: Store>(line: &mut Vec<u8>, machine: &Machine<'_, S>)
     requires { vec_len line.old + 100 ≤ vec_capacity line.old }
-    ensures items { line.new.items ≡ with_counts line.old.items machine.now.parts.points machine.now.parts.instructions }
+    ensures items { line.new.items ≡ with_counts line.old.items machine.now.parts.points
+        machine.now.parts.instructions }
     ensures len { vec_len line.new ≤ vec_len line.old + 100 }
     ensures capacity { vec_capacity line.old ≤ vec_capacity line.new }
 {
@@ -196,7 +200,8 @@ fn add_counts<S: Store>(line: &mut Vec<u8>, machine: &Machine<'_, S>)
 /// Adds the collections of a machine, if they are to be told.
 fn add_collections<S: Store>(line: &mut Vec<u8>, machine: &Machine<'_, S>, tells: bool)
     requires { vec_len line.old + 40 ≤ vec_capacity line.old }
-    ensures items { line.new.items ≡ with_collections tells line.old.items machine.now.parts.collections }
+    ensures items { line.new.items ≡ with_collections tells line.old.items
+        machine.now.parts.collections }
     ensures len { vec_len line.new ≤ vec_len line.old + 40 }
     ensures capacity { vec_capacity line.old ≤ vec_capacity line.new }
 {

@@ -4,8 +4,10 @@ ghost use Rattle.m3_base.specs.Schedules.{IsSchedule};
 ghost use Rattle.m3_sections.specs.Reading.{seen};
 ghost use Rattle.m3_image.specs.Images.{read_of};
 ghost use Rattle.m3_image.specs.Views.{image_view};
-ghost use Rattle.m3_image_commands.specs.Statuses.{Fetches, IsGiven, IsRead, Only, RefusesBy, image_cap};
-ghost use Rattle.m3_image_commands.specs.ImageCommands.{Ends, IsNoSchedule, OfRun, Runs, RunsBytes, RunsImage};
+ghost use Rattle.m3_image_commands.specs.Statuses.{Fetches, IsGiven, IsRead, Only, RefusesBy};
+ghost use Rattle.m3_image_commands.specs.Statuses.{image_cap};
+ghost use Rattle.m3_image_commands.specs.ImageCommands.{Ends, IsNoSchedule, OfRun, Runs, RunsBytes};
+ghost use Rattle.m3_image_commands.specs.ImageCommands.{RunsImage};
 
 use crate::answers::{Answer, Refusal};
 use crate::fetching::{RunFiles, fetch, fetch_run_files};
@@ -202,14 +204,15 @@ pub fn run_image<'a, F: Shelf, O: Sink>(
     }) (record {
       taken = (O.taken out.old, O.taken out.new);
       faults = (O.faults out.old, O.faults out.new);
-    }) name.now (option_map (λ n. n.now) options.entry.switches) (option_map (λ n. n.now) options.entry.input) (record {
-      points = options.entry.limits.points;
-      heap = options.entry.limits.heap;
-      stack = options.entry.limits.stack;
-      threads = options.entry.limits.threads;
-      schedule = [];
-      input = [];
-    }) image.new.items result }
+    }) name.now (option_map (λ n. n.now) options.entry.switches)
+        (option_map (λ n. n.now) options.entry.input) (record {
+          points = options.entry.limits.points;
+          heap = options.entry.limits.heap;
+          stack = options.entry.limits.stack;
+          threads = options.entry.limits.threads;
+          schedule = [];
+          input = [];
+        }) image.new.items result }
 {
     let files = match fetch_all(alloc, name, options, shelf, image) {
         Ok(files) => files,
@@ -239,10 +242,13 @@ fn fetch_all<'a, F: Shelf>(
       store_faults = (F.store_faults shelf.old, F.store_faults shelf.new);
       absences = (F.absences shelf.old, F.absences shelf.new);
       excesses = (F.excesses shelf.old, F.excesses shelf.new);
-    }) (OfRun name.now (option_map (λ n. n.now) options.entry.switches) (option_map (λ n. n.now) options.entry.input)) result }
+    }) (OfRun name.now (option_map (λ n. n.now) options.entry.switches)
+        (option_map (λ n. n.now) options.entry.input)) result }
     ensures image { OnOk result (IsRead (F.held shelf.old) name.now image_cap image.new.items) }
-    ensures switches { IfOk result (λ files. IsGiven (F.held shelf.old) (option_map (λ n. n.now) options.entry.switches) files.switches.items) }
-    ensures input { IfOk result (λ files. IsGiven (F.held shelf.old) (option_map (λ n. n.now) options.entry.input) files.input.items) }
+    ensures switches { IfOk result (λ files. IsGiven (F.held shelf.old)
+        (option_map (λ n. n.now) options.entry.switches) files.switches.items) }
+    ensures input { IfOk result (λ files. IsGiven (F.held shelf.old)
+        (option_map (λ n. n.now) options.entry.input) files.input.items) }
 {
     match fetch_image(alloc, name, shelf, image) {
         Ok(()) => fetch_run_files(alloc, shelf, options),

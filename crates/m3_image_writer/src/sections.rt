@@ -3,12 +3,15 @@ ghost use Rattle.std.specs.Prelude.{◌≡◌, ◌<◌, ◌^◌, ◌++◌, lengt
 ghost use Rattle.std.specs.List.{flat_map, AllByRecursion};
 ghost use Rattle.m3_isa.specs.Instructions.{IsInstruction};
 ghost use Rattle.m3_isa.specs.CodeBytes.{bytes_of, instruction_in};
-ghost use Rattle.m3_sections.specs.Parts.{proc_in, procs_at, type_at, types_at, globals_at, constants_at, pair_in, places_at, names_at};
+ghost use Rattle.m3_sections.specs.Parts.{proc_in, procs_at, type_at, types_at, globals_at};
+ghost use Rattle.m3_sections.specs.Parts.{constants_at, pair_in, places_at, names_at};
 ghost use Rattle.m3_sections.specs.Reading.{code_of};
 ghost use Rattle.m3_image_writer.specs.Again.{Reads, ReadsAll, ReadsFixed};
 ghost use Rattle.m3_image_writer.specs.Views.{cell_type, globals_of, places_of};
 ghost use Rattle.m3_image_writer.specs.Fields.{place_bytes, text_bytes};
-ghost use Rattle.m3_image_writer.specs.Sections.{code_bytes, proc_bytes, procs_bytes, type_bytes, types_bytes, globals_bytes, constants_bytes, places_bytes, exceptions_bytes};
+ghost use Rattle.m3_image_writer.specs.Sections.{code_bytes, proc_bytes, procs_bytes, type_bytes};
+ghost use Rattle.m3_image_writer.specs.Sections.{types_bytes, globals_bytes, constants_bytes};
+ghost use Rattle.m3_image_writer.specs.Sections.{places_bytes, exceptions_bytes};
 
 use crate::fields::{put_list, put_long, put_text, put_texts, put_word};
 use crate::parts::{GlobalPart, PlacePart, TypePart};
@@ -33,7 +36,8 @@ pub(crate) fn put_code(alloc: Global, out: &mut Vec<u8>, code: &[Instr]) -> Resu
     requires form { AllByRecursion IsInstruction code.now }
     requires size { length (code_bytes code.now) < 2 ^ 32 }
     ensures again { OnOk result (code_of (code_bytes code.now) ≡ Ok code.now) }
-    ensures bytes { OnOk result (out.new.items ≡ out.old.items ++ text_bytes (code_bytes code.now)) }
+    ensures bytes { OnOk result (out.new.items
+        ≡ out.old.items ++ text_bytes (code_bytes code.now)) }
 {
     let mut section = Vec::new(alloc);
     for instr in code {
@@ -61,7 +65,8 @@ pub(crate) fn put_procs(
 ) -> Result<(), NoMemory>
     requires { length (procs_bytes procs.now) < 2 ^ 32 }
     ensures again { OnOk result (ReadsAll procs_at (procs_bytes procs.now) procs.now) }
-    ensures bytes { OnOk result (out.new.items ≡ out.old.items ++ text_bytes (procs_bytes procs.now)) }
+    ensures bytes { OnOk result (out.new.items
+        ≡ out.old.items ++ text_bytes (procs_bytes procs.now)) }
 {
     let mut section = Vec::new(alloc);
     for proc in procs {
@@ -87,7 +92,8 @@ fn put_type(out: &mut Vec<u8>, part: &TypePart) -> Result<(), NoMemory>
 
 fn put_each_type(out: &mut Vec<u8>, types: &[TypePart]) -> Result<(), NoMemory>
     requires { AllByRecursion (λ part. length (type_bytes part) < 2 ^ 32) types.now }
-    ensures again { OnOk result (AllByRecursion (λ part. Reads type_at (type_bytes part) (cell_type part)) types.now) }
+    ensures again { OnOk result (AllByRecursion
+        (λ part. Reads type_at (type_bytes part) (cell_type part)) types.now) }
     ensures bytes { OnOk result (out.new.items ≡ out.old.items ++ flat_map type_bytes types.now) }
 {
     for part in types {
@@ -103,8 +109,10 @@ pub(crate) fn put_types(
     types: &[TypePart],
 ) -> Result<(), NoMemory>
     requires { length (types_bytes types.now) < 2 ^ 32 }
-    ensures again { OnOk result (ReadsAll types_at (types_bytes types.now) (map cell_type types.now)) }
-    ensures bytes { OnOk result (out.new.items ≡ out.old.items ++ text_bytes (types_bytes types.now)) }
+    ensures again { OnOk result (ReadsAll types_at (types_bytes types.now)
+        (map cell_type types.now)) }
+    ensures bytes { OnOk result (out.new.items
+        ≡ out.old.items ++ text_bytes (types_bytes types.now)) }
 {
     let mut section = Vec::new(alloc);
     put_each_type(&mut section, types)?;
@@ -118,8 +126,10 @@ pub(crate) fn put_globals(
     globals: &GlobalPart,
 ) -> Result<(), NoMemory>
     requires { length (globals_bytes globals.now) < 2 ^ 32 }
-    ensures again { OnOk result (ReadsAll globals_at (globals_bytes globals.now) (globals_of globals.now)) }
-    ensures bytes { OnOk result (out.new.items ≡ out.old.items ++ text_bytes (globals_bytes globals.now)) }
+    ensures again { OnOk result (ReadsAll globals_at (globals_bytes globals.now)
+        (globals_of globals.now)) }
+    ensures bytes { OnOk result (out.new.items
+        ≡ out.old.items ++ text_bytes (globals_bytes globals.now)) }
 {
     let mut section = Vec::new(alloc);
     put_word(&mut section, globals.words)?;
@@ -134,8 +144,10 @@ pub(crate) fn put_constants(
     constants: &[u64],
 ) -> Result<(), NoMemory>
     requires { length (constants_bytes constants.now) < 2 ^ 32 }
-    ensures again { OnOk result (ReadsAll constants_at (constants_bytes constants.now) constants.now) }
-    ensures bytes { OnOk result (out.new.items ≡ out.old.items ++ text_bytes (constants_bytes constants.now)) }
+    ensures again { OnOk result (ReadsAll constants_at (constants_bytes constants.now)
+        constants.now) }
+    ensures bytes { OnOk result (out.new.items
+        ≡ out.old.items ++ text_bytes (constants_bytes constants.now)) }
 {
     let mut section = Vec::new(alloc);
     put_word(&mut section, constants.len() as u32)?;
@@ -155,7 +167,8 @@ fn put_place(out: &mut Vec<u8>, file: u32, line: u32) -> Result<(), NoMemory>
 }
 
 fn put_each_place(out: &mut Vec<u8>, places: &[(u32, u32)]) -> Result<(), NoMemory>
-    ensures again { OnOk result (AllByRecursion (λ place. ReadsFixed 8 pair_in (place_bytes place) place) places.now) }
+    ensures again { OnOk result (AllByRecursion
+        (λ place. ReadsFixed 8 pair_in (place_bytes place) place) places.now) }
     ensures bytes { OnOk result (out.new.items ≡ out.old.items ++ flat_map place_bytes places.now) }
 {
     for (file, line) in places {
@@ -171,8 +184,10 @@ pub(crate) fn put_places(
     places: &PlacePart,
 ) -> Result<(), NoMemory>
     requires { length (places_bytes places.now) < 2 ^ 32 }
-    ensures again { OnOk result (ReadsAll places_at (places_bytes places.now) (places_of places.now)) }
-    ensures bytes { OnOk result (out.new.items ≡ out.old.items ++ text_bytes (places_bytes places.now)) }
+    ensures again { OnOk result (ReadsAll places_at (places_bytes places.now)
+        (places_of places.now)) }
+    ensures bytes { OnOk result (out.new.items
+        ≡ out.old.items ++ text_bytes (places_bytes places.now)) }
 {
     let mut section = Vec::new(alloc);
     put_word(&mut section, places.files.len() as u32)?;
@@ -189,8 +204,10 @@ pub(crate) fn put_exceptions(
     exceptions: &[Bytes],
 ) -> Result<(), NoMemory>
     requires { length (exceptions_bytes exceptions.now) < 2 ^ 32 }
-    ensures again { OnOk result (ReadsAll names_at (exceptions_bytes exceptions.now) exceptions.now) }
-    ensures bytes { OnOk result (out.new.items ≡ out.old.items ++ text_bytes (exceptions_bytes exceptions.now)) }
+    ensures again { OnOk result (ReadsAll names_at (exceptions_bytes exceptions.now)
+        exceptions.now) }
+    ensures bytes { OnOk result (out.new.items
+        ≡ out.old.items ++ text_bytes (exceptions_bytes exceptions.now)) }
 {
     let mut section = Vec::new(alloc);
     put_word(&mut section, exceptions.len() as u32)?;

@@ -23,7 +23,8 @@ fn number(place: Location) -> u32
 
 #[tactic(auto, unfolding(crate::specs::Variables::span_bytes))]
 fn put_span(out: &mut Vec<u8>, instr: u32, place: Location) -> Result<(), NoMemory>
-    ensures again { OnOk result (ReadsFixed 8 pair_in (span_bytes (instr, place)) (span_of (instr, place))) }
+    ensures again { OnOk result (ReadsFixed 8 pair_in (span_bytes (instr, place))
+        (span_of (instr, place))) }
     ensures bytes { OnOk result (out.new.items ≡ out.old.items ++ span_bytes (instr, place)) }
 {
     put_word(out, instr)?;
@@ -31,7 +32,8 @@ fn put_span(out: &mut Vec<u8>, instr: u32, place: Location) -> Result<(), NoMemo
 }
 
 fn put_spans(out: &mut Vec<u8>, spans: &[(u32, Location)]) -> Result<(), NoMemory>
-    ensures again { OnOk result (AllByRecursion (λ span. ReadsFixed 8 pair_in (span_bytes span) (span_of span)) spans.now) }
+    ensures again { OnOk result (AllByRecursion
+        (λ span. ReadsFixed 8 pair_in (span_bytes span) (span_of span)) spans.now) }
     ensures bytes { OnOk result (out.new.items ≡ out.old.items ++ flat_map span_bytes spans.now) }
 {
     for (instr, place) in spans {
@@ -43,7 +45,8 @@ fn put_spans(out: &mut Vec<u8>, spans: &[(u32, Location)]) -> Result<(), NoMemor
 #[tactic(auto, unfolding(crate::specs::Variables::var_bytes))]
 fn put_variable(out: &mut Vec<u8>, variable: &VarPart) -> Result<(), NoMemory>
     requires { length (var_bytes variable.now) < 2 ^ 32 }
-    ensures again { OnOk result (Reads variable_at (var_bytes variable.now) (variable_of variable.now)) }
+    ensures again { OnOk result (Reads variable_at (var_bytes variable.now)
+        (variable_of variable.now)) }
     ensures bytes { OnOk result (out.new.items ≡ out.old.items ++ var_bytes variable.now) }
 {
     put_word(out, variable.proc)?;
@@ -57,8 +60,10 @@ fn put_variable(out: &mut Vec<u8>, variable: &VarPart) -> Result<(), NoMemory>
 
 fn put_each_variable(out: &mut Vec<u8>, variables: &[VarPart]) -> Result<(), NoMemory>
     requires { AllByRecursion (λ v. length (var_bytes v) < 2 ^ 32) variables.now }
-    ensures again { OnOk result (AllByRecursion (λ v. Reads variable_at (var_bytes v) (variable_of v)) variables.now) }
-    ensures bytes { OnOk result (out.new.items ≡ out.old.items ++ flat_map var_bytes variables.now) }
+    ensures again { OnOk result (AllByRecursion
+        (λ v. Reads variable_at (var_bytes v) (variable_of v)) variables.now) }
+    ensures bytes { OnOk result (out.new.items
+        ≡ out.old.items ++ flat_map var_bytes variables.now) }
 {
     for variable in variables {
         put_variable(out, variable)?;
@@ -73,8 +78,10 @@ pub(crate) fn put_variables(
     variables: &[VarPart],
 ) -> Result<(), NoMemory>
     requires { length (variables_bytes variables.now) < 2 ^ 32 }
-    ensures again { OnOk result (ReadsAll variables_at (variables_bytes variables.now) (map variable_of variables.now)) }
-    ensures bytes { OnOk result (out.new.items ≡ out.old.items ++ text_bytes (variables_bytes variables.now)) }
+    ensures again { OnOk result (ReadsAll variables_at (variables_bytes variables.now)
+        (map variable_of variables.now)) }
+    ensures bytes { OnOk result (out.new.items
+        ≡ out.old.items ++ text_bytes (variables_bytes variables.now)) }
 {
     let mut section = Vec::new(alloc);
     put_word(&mut section, variables.len() as u32)?;

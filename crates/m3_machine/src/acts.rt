@@ -1,4 +1,5 @@
-ghost use Rattle.std.specs.Prelude.{◌≡◌, ◌<◌, ◌≤◌, ◌+◌, ◌-◌, ◌^◌, ℕ, true, false, [], Some, List, length, slice_get, OnOk, OnErr, IfOk};
+ghost use Rattle.std.specs.Prelude.{◌≡◌, ◌<◌, ◌≤◌, ◌+◌, ◌-◌, ◌^◌, ℕ, true, false, [], Some, List};
+ghost use Rattle.std.specs.Prelude.{length, slice_get, OnOk, OnErr, IfOk};
 ghost use Rattle.m3_isa.specs.declared.instructions.Instr.{Instr as Instruction};
 ghost use Rattle.m3_strides.specs.State.{executed};
 ghost use Rattle.m3_strides.specs.Calls.{place_of};
@@ -50,7 +51,8 @@ fn kind_of(number: u8) -> Option<FaultKind>
 
 /// FAULT, whose kind and place every image has.
 fn fault<S: Store>(parts: &Parts<'_, S>, i: Instr) -> Progress
-    ensures { Follows (program_of parts.now) (faults_at (program_of parts.now) i) (state_of parts.now) (became result (state_of parts.now)) }
+    ensures { Follows (program_of parts.now) (faults_at (program_of parts.now) i)
+        (state_of parts.now) (became result (state_of parts.now)) }
 {
     let Some(kind) = kind_of(i.a) else {
         return Progress::trap(2);
@@ -65,7 +67,8 @@ fn fault<S: Store>(parts: &Parts<'_, S>, i: Instr) -> Progress
 fn uncaught<S: Store>(parts: &Parts<'_, S>, i: Instr) -> Progress
     requires { i.a < 16 }
     ensures { (t : Thread) → Running parts.now t
-        → Follows (program_of parts.now) (is_uncaught (program_of parts.now) i t.regs) (state_of parts.now) (became result (state_of parts.now)) }
+        → Follows (program_of parts.now) (is_uncaught (program_of parts.now) i t.regs)
+        (state_of parts.now) (became result (state_of parts.now)) }
 {
     let number = parts.word(i.a);
     if number >= 1 << 32 {
@@ -85,14 +88,20 @@ pub(crate) fn act<S: Store, O: Sink>(
     ensures rises { O.faults out.old ≤ O.faults out.new }
     ensures kept { OnOk result (O.faults out.new ≡ O.faults out.old) }
     ensures failed { OnErr result (Rose (O.faults out.old) (O.faults out.new)) }
-    ensures rest { rest_of parts.new ≡ record (rest_of parts.old) { made = parts.new.made; stuck = parts.new.stuck } }
+    ensures rest { rest_of parts.new ≡ record (rest_of parts.old)
+        { made = parts.new.made; stuck = parts.new.stuck } }
     ensures one { parts.new.made ≤ parts.old.made + 1 }
-    ensures same { (t : Thread) (i : Instruction) → Running parts.old t → slice_get (program_of parts.old).code t.regs.pc ≡ Some i
+    ensures same { (t : Thread) (i : Instruction) → Running parts.old t
+        → slice_get (program_of parts.old).code t.regs.pc ≡ Some i
         → is_plain i.op ≡ false → is_point i.op ≡ false → parts.new.made ≡ parts.old.made }
-    ensures going { IfOk result (λ progress. goes_on progress ≡ true → parts.new.stuck ≡ parts.old.stuck) }
-    ensures does { IfOk result (λ progress. (t : Thread) (i : Instruction) → slice_get (program_of parts.old).code t.regs.pc ≡ Some i → MayAct parts.old t i → parts.old.instructions < 2 ^ 128 - 1
+    ensures going { IfOk result (λ progress. goes_on progress ≡ true
+        → parts.new.stuck ≡ parts.old.stuck) }
+    ensures does { IfOk result (λ progress. (t : Thread) (i : Instruction)
+        → slice_get (program_of parts.old).code t.regs.pc ≡ Some i → MayAct parts.old t i
+        → parts.old.instructions < 2 ^ 128 - 1
         → (bytes : List ℕ) × Took (O.taken out.old) (O.taken out.new) bytes
-        × Does (program_of parts.old) parts.old.input.now t i (executed (state_of parts.old)) bytes (became progress (state_of parts.new))) }
+        × Does (program_of parts.old) parts.old.input.now t i (executed (state_of parts.old)) bytes
+        (became progress (state_of parts.new))) }
 {
     let regs = parts.regs();
     match parts.image.fetch(regs.pc) {
@@ -116,13 +125,17 @@ fn act_at<S: Store, O: Sink>(
     ensures rises { O.faults out.old ≤ O.faults out.new }
     ensures kept { OnOk result (O.faults out.new ≡ O.faults out.old) }
     ensures failed { OnErr result (Rose (O.faults out.old) (O.faults out.new)) }
-    ensures rest { rest_of parts.new ≡ record (rest_of parts.old) { made = parts.new.made; stuck = parts.new.stuck } }
+    ensures rest { rest_of parts.new ≡ record (rest_of parts.old)
+        { made = parts.new.made; stuck = parts.new.stuck } }
     ensures one { parts.new.made ≤ parts.old.made + 1 }
     ensures same { is_plain i.op ≡ false → is_point i.op ≡ false → parts.new.made ≡ parts.old.made }
-    ensures going { IfOk result (λ progress. goes_on progress ≡ true → parts.new.stuck ≡ parts.old.stuck) }
-    ensures does { IfOk result (λ progress. (t : Thread) → MayAct parts.old t i → at ≡ place_of t.regs → parts.old.instructions < 2 ^ 128 - 1
+    ensures going { IfOk result (λ progress. goes_on progress ≡ true
+        → parts.new.stuck ≡ parts.old.stuck) }
+    ensures does { IfOk result (λ progress. (t : Thread) → MayAct parts.old t i
+        → at ≡ place_of t.regs → parts.old.instructions < 2 ^ 128 - 1
         → (bytes : List ℕ) × Took (O.taken out.old) (O.taken out.new) bytes
-        × Does (program_of parts.old) parts.old.input.now t i (executed (state_of parts.old)) bytes (became progress (state_of parts.new))) }
+        × Does (program_of parts.old) parts.old.input.now t i (executed (state_of parts.old)) bytes
+        (became progress (state_of parts.new))) }
 {
     parts.instructions = parts.instructions.saturating_add(1);
     match i.op {
@@ -137,12 +150,14 @@ fn act_at<S: Store, O: Sink>(
 fn act_silently<S: Store>(parts: &mut Parts<'_, S>, i: Instr, at: Place) -> Progress
     requires instruction { IsInstruction i }
     requires inside { at.pc < length (image_of parts.old.image).program.code }
-    ensures rest { rest_of parts.new ≡ record (rest_of parts.old) { made = parts.new.made; stuck = parts.new.stuck } }
+    ensures rest { rest_of parts.new ≡ record (rest_of parts.old)
+        { made = parts.new.made; stuck = parts.new.stuck } }
     ensures one { parts.new.made ≤ parts.old.made + 1 }
     ensures same { is_plain i.op ≡ false → is_point i.op ≡ false → parts.new.made ≡ parts.old.made }
     ensures going { goes_on result ≡ true → parts.new.stuck ≡ parts.old.stuck }
     ensures does { (t : Thread) → MayAct parts.old t i → at ≡ place_of t.regs → IsSilent i.op
-        → Acts (program_of parts.old) parts.old.input.now t i (state_of parts.old) [] (became result (state_of parts.new)) i.op }
+        → Acts (program_of parts.old) parts.old.input.now t i (state_of parts.old) []
+        (became result (state_of parts.new)) i.op }
 {
     match i.op {
         Op::Call => call(parts, Ok(i.imm.cast_unsigned()), at),

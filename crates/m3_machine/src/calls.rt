@@ -5,7 +5,8 @@ ghost use Rattle.m3_decoded.specs.Ready.{image_of};
 ghost use Rattle.m3_strides.specs.State.{memory_of, can_set};
 ghost use Rattle.m3_strides.specs.Act.{Act};
 ghost use Rattle.m3_strides.specs.Progress.{Follows, became};
-ghost use Rattle.m3_strides.specs.Calls.{stack_of, place_of, calls, method_called, returns, tells_method, Tests_type};
+ghost use Rattle.m3_strides.specs.Calls.{stack_of, place_of, calls, method_called, returns};
+ghost use Rattle.m3_strides.specs.Calls.{tells_method, Tests_type};
 ghost use Rattle.m3_new_cells.specs.Seen.{state_of, program_of, rest_of, Running};
 
 use m3_base::Outcome;
@@ -26,7 +27,8 @@ pub(crate) fn call<S: Store>(
     ensures rest { rest_of parts.new ≡ rest_of parts.old }
     ensures calls { (t : Thread) → Running parts.old t → at ≡ place_of t.regs
         → Follows (program_of parts.old)
-        (calls (program_of parts.old) callee (stack_of parts.old.memory.threads t) t.regs (memory_of (program_of parts.old) (state_of parts.old)) (can_set (state_of parts.old)))
+        (calls (program_of parts.old) callee (stack_of parts.old.memory.threads t) t.regs
+        (memory_of (program_of parts.old) (state_of parts.old)) (can_set (state_of parts.old)))
         (state_of parts.old) (became result (state_of parts.new)) }
 {
     let number = match callee {
@@ -47,7 +49,8 @@ pub(crate) fn method_for<S: Store>(
     at: Place,
 ) -> Result<u32, Outcome>
     requires { at.pc < length (image_of parts.now.image).program.code }
-    ensures { result ≡ method_called (program_of parts.now) (cast_unsigned w32 i.imm) at (memory_of (program_of parts.now) (state_of parts.now)) }
+    ensures { result ≡ method_called (program_of parts.now) (cast_unsigned w32 i.imm)
+        at (memory_of (program_of parts.now) (state_of parts.now)) }
 {
     called_method(&parts.image, i.imm.cast_unsigned(), at, &parts.memory)
 }
@@ -57,7 +60,8 @@ pub(crate) fn return_back<S: Store>(parts: &mut Parts<'_, S>, at: Place) -> Prog
     ensures rest { rest_of parts.new ≡ rest_of parts.old }
     ensures returns { (t : Thread) → Running parts.old t → at ≡ place_of t.regs
         → Follows (program_of parts.old)
-        (returns (length (program_of parts.old).code) t.regs (memory_of (program_of parts.old) (state_of parts.old)))
+        (returns (length (program_of parts.old).code) t.regs
+        (memory_of (program_of parts.old) (state_of parts.old)))
         (state_of parts.old) (became result (state_of parts.new)) }
 {
     let code = parts.image.image().code_len() as usize;
@@ -74,7 +78,8 @@ pub(crate) fn tell_method<S: Store>(parts: &mut Parts<'_, S>, i: Instr) -> Progr
     ensures rest { rest_of parts.new ≡ rest_of parts.old }
     ensures tells { (t : Thread) → Running parts.old t
         → Follows (program_of parts.old)
-        (tells_method (program_of parts.old).types i t.regs (memory_of (program_of parts.old) (state_of parts.old)))
+        (tells_method (program_of parts.old).types i t.regs
+        (memory_of (program_of parts.old) (state_of parts.old)))
         (state_of parts.old) (became result (state_of parts.new)) }
 {
     let cell = parts.word(i.b);
@@ -90,8 +95,10 @@ pub(crate) fn test_type<S: Store>(parts: &mut Parts<'_, S>, i: Instr) -> Progres
     requires cell { i.b < 16 }
     ensures rest { rest_of parts.new ≡ rest_of parts.old }
     ensures tests { (t : Thread) → Running parts.old t
-        → (act : Act) × Tests_type (program_of parts.old).types i t.regs (memory_of (program_of parts.old) (state_of parts.old)) act
-        × Follows (program_of parts.old) act (state_of parts.old) (became result (state_of parts.new)) }
+        → (act : Act) × Tests_type (program_of parts.old).types i t.regs
+        (memory_of (program_of parts.old) (state_of parts.old)) act
+        × Follows (program_of parts.old) act (state_of parts.old)
+        (became result (state_of parts.new)) }
 {
     let cell = parts.word(i.b);
     match is_of_type(&parts.image, cell, i.imm.cast_unsigned(), &parts.memory) {

@@ -29,7 +29,8 @@ pub(crate) fn put_number<S: Store, O: Sink>(
     ensures rest { rest_of parts.new ≡ rest_of parts.old }
     ensures puts { IfOk result (λ progress. (t : Thread) → Running parts.old t
         → Took (O.taken out.old) (O.taken out.new) (bytes_of (puts_number i t.regs))
-        × Follows (program_of parts.old) (puts_number i t.regs) (state_of parts.old) (became progress (state_of parts.new))) }
+        × Follows (program_of parts.old) (puts_number i t.regs) (state_of parts.old)
+        (became progress (state_of parts.new))) }
 {
     let mut buffer = Buffer::new();
     let number = parts.word(i.a).cast_signed();
@@ -50,7 +51,8 @@ pub(crate) fn put_byte<S: Store, O: Sink>(
     ensures rest { rest_of parts.new ≡ rest_of parts.old }
     ensures puts { IfOk result (λ progress. (t : Thread) → Running parts.old t
         → Took (O.taken out.old) (O.taken out.new) (bytes_of (puts_byte i t.regs))
-        × Follows (program_of parts.old) (puts_byte i t.regs) (state_of parts.old) (became progress (state_of parts.new))) }
+        × Follows (program_of parts.old) (puts_byte i t.regs) (state_of parts.old)
+        (became progress (state_of parts.new))) }
 {
     let byte = (parts.word(i.a) % 256) as u8;
     out.put(&[byte])?;
@@ -69,7 +71,8 @@ pub(crate) fn get_byte<S: Store>(parts: &mut Parts<'_, S>, i: Instr) -> Progress
     requires { i.a < 16 }
     ensures rest { rest_of parts.new ≡ rest_of parts.old }
     ensures gets { (t : Thread) → Running parts.old t
-        → Follows (program_of parts.old) (gets parts.old.input.now parts.old.taken i t.regs) (state_of parts.old) (became result (state_of parts.new)) }
+        → Follows (program_of parts.old) (gets parts.old.input.now parts.old.taken i t.regs)
+        (state_of parts.old) (became result (state_of parts.new)) }
 {
     if is_at_end(parts) {
         return parts.jump(i.imm);
@@ -84,7 +87,8 @@ pub(crate) fn tell_end<S: Store>(parts: &mut Parts<'_, S>, i: Instr) -> Progress
     requires { i.a < 16 }
     ensures rest { rest_of parts.new ≡ rest_of parts.old }
     ensures tells { (t : Thread) → Running parts.old t
-        → Follows (program_of parts.old) (tells_end parts.old.input.now parts.old.taken i t.regs) (state_of parts.old) (became result (state_of parts.new)) }
+        → Follows (program_of parts.old) (tells_end parts.old.input.now parts.old.taken i t.regs)
+        (state_of parts.old) (became result (state_of parts.new)) }
 {
     let is_end = is_at_end(parts);
     parts.give(i.a, truth(is_end))
@@ -96,7 +100,8 @@ pub(crate) fn tell_self<S: Store>(parts: &mut Parts<'_, S>, i: Instr) -> Progres
     ensures rest { rest_of parts.new ≡ rest_of parts.old }
     ensures tells { (t : Thread) → Running parts.old t
         → Follows (program_of parts.old)
-        (tells_self (stack_of parts.old.memory.threads t) i t.regs (memory_of (program_of parts.old) (state_of parts.old)))
+        (tells_self (stack_of parts.old.memory.threads t) i t.regs
+        (memory_of (program_of parts.old) (state_of parts.old)))
         (state_of parts.old) (became result (state_of parts.new)) }
 {
     let stack = parts.stack();

@@ -15,7 +15,8 @@ use m3_new_cells::Parts;
 /// The running thread stands at the instruction that it has come to.
 pub(crate) fn stand<S: Store>(parts: &mut Parts<'_, S>)
     ensures rest { rest_of parts.new ≡ rest_of parts.old }
-    ensures stands { parts.old.made < 2 ^ 63 → (t : Thread) (i : Instruction) → Running parts.old t → slice_get (program_of parts.old).code t.regs.pc ≡ Some i
+    ensures stands { parts.old.made < 2 ^ 63 → (t : Thread) (i : Instruction) → Running parts.old t
+        → slice_get (program_of parts.old).code t.regs.pc ≡ Some i
         → state_of parts.new ≡ stands i (state_of parts.old) }
 {
     match parts.image.fetch(parts.pc()) {
@@ -30,7 +31,8 @@ pub(crate) fn stand<S: Store>(parts: &mut Parts<'_, S>)
 
 /// The thread that goes, by what an entry names.
 fn choose<S: Store>(parts: &Parts<'_, S>, to: Option<u64>) -> Option<u64>
-    ensures { parts.now.made < 2 ^ 63 → IsChoice parts.now.memory.threads (outside (program_of parts.now) (state_of parts.now)) to parts.now.running result }
+    ensures { parts.now.made < 2 ^ 63 → IsChoice parts.now.memory.threads
+        (outside (program_of parts.now) (state_of parts.now)) to parts.now.running result }
 {
     if !parts.may_count() {
         return None;
@@ -43,15 +45,19 @@ fn choose<S: Store>(parts: &Parts<'_, S>, to: Option<u64>) -> Option<u64>
 
 /// Whether any thread may go.
 fn may_go_on<S: Store>(parts: &Parts<'_, S>) -> bool
-    ensures some { parts.now.made < 2 ^ 63 → result ≡ true → NoneGoes parts.now.memory.threads (outside (program_of parts.now) (state_of parts.now)) → ⊥ }
-    ensures none { parts.now.made < 2 ^ 63 → result ≡ false → NoneGoes parts.now.memory.threads (outside (program_of parts.now) (state_of parts.now)) }
+    ensures some { parts.now.made < 2 ^ 63 → result ≡ true
+        → NoneGoes parts.now.memory.threads (outside (program_of parts.now) (state_of parts.now))
+        → ⊥ }
+    ensures none { parts.now.made < 2 ^ 63 → result ≡ false
+        → NoneGoes parts.now.memory.threads (outside (program_of parts.now) (state_of parts.now)) }
 {
     choose(parts, None).is_some()
 }
 
 /// How a run ends that may pass no point more.
 pub(crate) fn spent<S: Store>(parts: &Parts<'_, S>) -> Outcome
-    ensures { parts.now.made < 2 ^ 63 → Says_spent (program_of parts.now) (state_of parts.now) result }
+    ensures { parts.now.made < 2 ^ 63 → Says_spent (program_of parts.now) (state_of parts.now)
+        result }
 {
     if may_go_on(parts) {
         Outcome::Spent
@@ -65,9 +71,12 @@ pub(crate) fn spent<S: Store>(parts: &Parts<'_, S>) -> Outcome
 fn collect_if<S: Store>(parts: &mut Parts<'_, S>, asked: bool) -> bool
     ensures rest { rest_of parts.new ≡ record (rest_of parts.old) { stuck = parts.new.stuck } }
     ensures going { result ≡ true → parts.new.stuck ≡ parts.old.stuck }
-    ensures good { result ≡ true → IsGoing parts.old → Collected_if (program_of parts.old) (state_of parts.old) asked (Some (state_of parts.new)) }
+    ensures good { result ≡ true → IsGoing parts.old
+        → Collected_if (program_of parts.old) (state_of parts.old) asked
+        (Some (state_of parts.new)) }
     ensures bad { result ≡ false → IsGoing parts.old
-        → Collected_if (program_of parts.old) (state_of parts.old) asked None × Spoils (program_of parts.old) (state_of parts.old) (state_of parts.new) }
+        → Collected_if (program_of parts.old) (state_of parts.old) asked None
+        × Spoils (program_of parts.old) (state_of parts.old) (state_of parts.new) }
 {
     if asked { parts.collect() } else { true }
 }

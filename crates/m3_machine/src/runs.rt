@@ -1,4 +1,5 @@
-ghost use Rattle.std.specs.Prelude.{◌≡◌, ◌≤◌, ◌<◌, ◌+◌, ◌^◌, ◌++◌, ℕ, List, true, false, Some, slice_get, OnOk, OnErr, IfOk};
+ghost use Rattle.std.specs.Prelude.{◌≡◌, ◌≤◌, ◌<◌, ◌+◌, ◌^◌, ◌++◌, ℕ, List, true, false, Some};
+ghost use Rattle.std.specs.Prelude.{slice_get, OnOk, OnErr, IfOk};
 ghost use Rattle.m3_isa.specs.Instructions.{IsInstruction, is_point};
 ghost use Rattle.m3_threads.specs.declared.status.Thread.{Thread};
 ghost use Rattle.m3_threads.specs.declared.status.Status.TheVariants.{Ready};
@@ -9,7 +10,8 @@ ghost use Rattle.m3_strides.specs.Runs.{turn_limit as longest};
 ghost use Rattle.m3_strides.specs.Leading.{Track};
 ghost use Rattle.m3_strides.specs.declared.progress.Progress.TheVariants.{Goes};
 ghost use Rattle.m3_new_cells.specs.Seen.{state_of, program_of, rest_of, Running, Took};
-ghost use Rattle.m3_machine.specs.Turns.{to_come, and_put, Known, Between, Halts, Halted, Acts_next, Comes_to, Came_to};
+ghost use Rattle.m3_machine.specs.Turns.{to_come, and_put, Known, Between, Halts, Halted};
+ghost use Rattle.m3_machine.specs.Turns.{Acts_next, Comes_to, Came_to};
 ghost use Rattle.m3_ports.specs.Counts.{Rose};
 
 use crate::acts::act;
@@ -41,7 +43,8 @@ pub(crate) struct Turn {
 
 /// How many instructions a turn may have.
 fn turn_limit<S: Store>(parts: &Parts<'_, S>) -> u64
-    ensures limit { (t : Thread) → Running parts.now t → result ≡ longest (program_of parts.now) (state_of parts.now) }
+    ensures limit { (t : Thread) → Running parts.now t
+        → result ≡ longest (program_of parts.now) (state_of parts.now) }
     ensures small { result ≤ 4611686018427387904 }
 {
     match parts.depth_of(parts.running) {
@@ -67,7 +70,8 @@ fn go_far<S: Store>(parts: &mut Parts<'_, S>, turn: &mut Turn) -> Halt
     ensures ahead { to_come turn.new ≤ to_come turn.old }
     ensures fewer { turn.new.points ≤ turn.old.points }
     ensures rest { rest_of parts.new ≡ rest_of parts.old }
-    ensures leads { (p : Program) (start : State) (k : Track) (others : ℕ) → Known p start k parts.old
+    ensures leads { (p : Program) (start : State) (k : Track) (others : ℕ)
+        → Known p start k parts.old
         → Between p k others parts.old turn.old → Halted p k others parts.new turn.new result }
 {
     let limit = turn_limit(parts);
@@ -110,7 +114,8 @@ fn settle_at_point<S: Store>(parts: &mut Parts<'_, S>, turn: &mut Turn, i: Instr
     ensures fewer { turn.new.points ≤ turn.old.points }
     ensures some { result ≡ Goes → turn.new.done < 4611686018427387904 }
     ensures rest { rest_of parts.new ≡ rest_of parts.old }
-    ensures comes { (p : Program) (start : State) (k : Track) (others : ℕ) → Known p start k parts.old
+    ensures comes { (p : Program) (start : State) (k : Track) (others : ℕ)
+        → Known p start k parts.old
         → (h : Between p k others parts.old turn.old) → slice_get p.code h.thread.regs.pc ≡ Some i
         → Comes_to p start k others parts.new turn.new result }
 {
@@ -133,8 +138,10 @@ fn settle<S: Store>(parts: &mut Parts<'_, S>, turn: &mut Turn) -> Progress
     ensures fewer { turn.new.points ≤ turn.old.points }
     ensures some { result ≡ Goes → turn.new.done < 4611686018427387904 }
     ensures rest { rest_of parts.new ≡ rest_of parts.old }
-    ensures comes { (p : Program) (start : State) (k : Track) (others : ℕ) → Known p start k parts.old
-        → Halts p k others parts.old turn.old → Comes_to p start k others parts.new turn.new result }
+    ensures comes { (p : Program) (start : State) (k : Track) (others : ℕ)
+        → Known p start k parts.old
+        → Halts p k others parts.old turn.old
+        → Comes_to p start k others parts.new turn.new result }
 {
     let Some(i) = parts.image.fetch(parts.pc()) else {
         return Progress::trap(1);
@@ -156,8 +163,10 @@ fn go_to_act<S: Store>(parts: &mut Parts<'_, S>, turn: &mut Turn) -> Progress
     ensures fewer { turn.new.points ≤ turn.old.points }
     ensures some { result ≡ Goes → turn.new.done < 4611686018427387904 }
     ensures rest { rest_of parts.new ≡ rest_of parts.old }
-    ensures comes { (p : Program) (start : State) (k : Track) (others : ℕ) → Known p start k parts.old
-        → Between p k others parts.old turn.old → Comes_to p start k others parts.new turn.new result }
+    ensures comes { (p : Program) (start : State) (k : Track) (others : ℕ)
+        → Known p start k parts.old
+        → Between p k others parts.old turn.old
+        → Comes_to p start k others parts.new turn.new result }
 {
     match go_far(parts, turn) {
         Halt::Trapped(n) => Progress::trap(n),
@@ -177,10 +186,13 @@ fn act_next<S: Store, O: Sink>(
     ensures failed { OnErr result (Rose (O.faults out.old) (O.faults out.new)) }
     ensures ahead { OnOk result (to_come turn.new < to_come turn.old) }
     ensures fewer { turn.new.points ≤ turn.old.points }
-    ensures rest { rest_of parts.new ≡ record (rest_of parts.old) { made = parts.new.made; stuck = parts.new.stuck } }
-    ensures came { IfOk result (λ progress. (p : Program) (start : State) (k : Track) (others : ℕ) → Known p start k parts.old
+    ensures rest { rest_of parts.new ≡ record (rest_of parts.old)
+        { made = parts.new.made; stuck = parts.new.stuck } }
+    ensures came { IfOk result (λ progress. (p : Program) (start : State) (k : Track) (others : ℕ)
+        → Known p start k parts.old
         → Acts_next p start k others parts.old turn.old
-        → (bytes : List ℕ) × Took (O.taken out.old) (O.taken out.new) bytes × Came_to p (and_put k bytes) others parts.new turn.new progress) }
+        → (bytes : List ℕ) × Took (O.taken out.old) (O.taken out.new) bytes
+        × Came_to p (and_put k bytes) others parts.new turn.new progress) }
 {
     let progress = act(parts, out)?;
     turn.done += 1;
@@ -200,10 +212,13 @@ pub(crate) fn take_turn<S: Store, O: Sink>(
     ensures failed { OnErr result (Rose (O.faults out.old) (O.faults out.new)) }
     ensures ends { IfOk result (λ progress. progress ≡ Goes → ⊥) }
     ensures fewer { turn.new.points ≤ turn.old.points }
-    ensures rest { rest_of parts.new ≡ record (rest_of parts.old) { made = parts.new.made; stuck = parts.new.stuck } }
-    ensures came { IfOk result (λ progress. (p : Program) (start : State) (k : Track) (others : ℕ) → Known p start k parts.old
+    ensures rest { rest_of parts.new ≡ record (rest_of parts.old)
+        { made = parts.new.made; stuck = parts.new.stuck } }
+    ensures came { IfOk result (λ progress. (p : Program) (start : State) (k : Track) (others : ℕ)
+        → Known p start k parts.old
         → Acts_next p start k others parts.old turn.old
-        → (bytes : List ℕ) × Took (O.taken out.old) (O.taken out.new) bytes × Came_to p (and_put k bytes) others parts.new turn.new progress) }
+        → (bytes : List ℕ) × Took (O.taken out.old) (O.taken out.new) bytes
+        × Came_to p (and_put k bytes) others parts.new turn.new progress) }
 {
     let mut progress = act_next(parts, turn, out)?;
     'acts: while progress == Progress::Goes {

@@ -1,5 +1,6 @@
 ghost use Rattle.m3_image.specs.Views.{image_view};
-ghost use Rattle.std.specs.Prelude.{◌≡◌, ◌≤◌, ◌<◌, ◌+◌, ◌*◌, ◌^◌, ℕ, [], false, length, replicate, slice_get, slice_set, Some, IfOk};
+ghost use Rattle.std.specs.Prelude.{◌≡◌, ◌≤◌, ◌<◌, ◌+◌, ◌*◌, ◌^◌, ℕ, [], false, length, replicate};
+ghost use Rattle.std.specs.Prelude.{slice_get, slice_set, Some, IfOk};
 ghost use Rattle.m3_sections.specs.Parts.{CellType};
 ghost use Rattle.m3_strides.specs.State.{first_globals as globals_at_start};
 ghost use Rattle.m3_strides.specs.Runs.{Begins};
@@ -54,7 +55,8 @@ fn larger(a: u32, b: u32) -> u32
 
 /// The most dimensions that a type of the image has.
 fn most_dims(image: &ImageView<'_>) -> u32
-    ensures { (n : ℕ) (form : CellType) → slice_get (image_view image.now).program.types n ≡ Some form → form.dims ≤ result }
+    ensures { (n : ℕ) (form : CellType) → slice_get (image_view image.now).program.types n
+        ≡ Some form → form.dims ≤ result }
 {
     let mut most = 0;
     'types: for view in image.types() {
@@ -84,7 +86,8 @@ impl<'a, S: Store> Machine<'a, S> {
         requires closed { (S.heap store).is_open ≡ false }
         ensures program { IfOk result (λ m. program_of m.parts ≡ (image_view image.entry).program) }
         ensures input { IfOk result (λ m. m.parts.input.now ≡ input.now) }
-        ensures begins { IfOk result (λ m. Begins (image_view image.entry).program (S.heap store) threads stack (state_of m.parts)) }
+        ensures begins { IfOk result (λ m. Begins (image_view image.entry).program (S.heap store)
+            threads stack (state_of m.parts)) }
         ensures ready { IfOk result (λ m. IsReady m.parts) }
     {
         image.keeps_its_form();

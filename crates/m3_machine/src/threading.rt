@@ -50,13 +50,19 @@ fn act_of<S: Store>(threads: &mut Threads, outside: &mut Outside<S>, running: u6
     requires counted { threads.old.forks + threads.old.waits < 2 ^ 63 }
     ensures acts { (t : Thread) → thread_named threads.old running ≡ Some t
         → Acts_on_threads i.op t i threads.old
-        (outside_of outside.old.globals.items outside.old.constants.items (S.heap outside.old.heap.store).cells)
+        (outside_of outside.old.globals.items outside.old.constants.items
+        (S.heap outside.old.heap.store).cells)
         (settable_of (length outside.old.globals.items) (S.heap outside.old.heap.store).cells)
         result threads.new
-        (outside_of outside.new.globals.items outside.new.constants.items (S.heap outside.new.heap.store).cells) }
-    ensures keeps { KeepsOutside outside.old.globals.items outside.new.globals.items outside.old.constants.items outside.new.constants.items (S.heap outside.old.heap.store) (S.heap outside.new.heap.store) }
-    ensures counts { threads.new.forks + threads.new.waits ≤ threads.old.forks + threads.old.waits + 1 }
-    ensures fitting { (shapes : List Shape) → S.fits outside.old.heap.store shapes → S.fits outside.new.heap.store shapes }
+        (outside_of outside.new.globals.items outside.new.constants.items
+        (S.heap outside.new.heap.store).cells) }
+    ensures keeps { KeepsOutside outside.old.globals.items outside.new.globals.items
+        outside.old.constants.items outside.new.constants.items (S.heap outside.old.heap.store)
+        (S.heap outside.new.heap.store) }
+    ensures counts { threads.new.forks + threads.new.waits
+        ≤ threads.old.forks + threads.old.waits + 1 }
+    ensures fitting { (shapes : List Shape) → S.fits outside.old.heap.store shapes
+        → S.fits outside.new.heap.store shapes }
 {
     match i.op {
         Op::Join => threads.join(running, outside, i),
@@ -80,9 +86,11 @@ fn act_with_threads<S: Store>(parts: &mut Parts<'_, S>, i: Instr) -> Done
     ensures rest { rest_of parts.new ≡ record (rest_of parts.old) { made = parts.new.made } }
     ensures one { parts.new.made ≤ parts.old.made + 1 }
     ensures acts { parts.old.made < 2 ^ 63 → (t : Thread) → Running parts.old t → IsAwake t
-        → Acts_on_threads i.op t i (state_of parts.old).all (outside (program_of parts.old) (state_of parts.old)) (settable (state_of parts.old))
+        → Acts_on_threads i.op t i (state_of parts.old).all
+        (outside (program_of parts.old) (state_of parts.old)) (settable (state_of parts.old))
         result (state_of parts.new).all (outside (program_of parts.old) (state_of parts.new)) }
-    ensures others { HasOtherWords (with_all (state_of parts.old) (state_of parts.new).all) (state_of parts.new) }
+    ensures others { HasOtherWords (with_all (state_of parts.old) (state_of parts.new).all)
+        (state_of parts.new) }
 {
     if !parts.is_awake() || !parts.may_count() {
         return Done::Slept;
@@ -103,7 +111,8 @@ pub(crate) fn act_on_threads<S: Store>(parts: &mut Parts<'_, S>, i: Instr) -> Pr
     ensures rest { rest_of parts.new ≡ record (rest_of parts.old) { made = parts.new.made } }
     ensures one { parts.new.made ≤ parts.old.made + 1 }
     ensures acts { parts.old.made < 2 ^ 63 → (t : Thread) → Running parts.old t → IsAwake t
-        → On_threads (program_of parts.old) t i (state_of parts.old) answer_of (became result (state_of parts.new)) }
+        → On_threads (program_of parts.old) t i (state_of parts.old) answer_of
+        (became result (state_of parts.new)) }
 {
     told(act_with_threads(parts, i))
 }
@@ -117,13 +126,18 @@ fn end_of<S: Store>(threads: &mut Threads, outside: &mut Outside<S>, running: u6
     requires counted { threads.old.forks + threads.old.waits < 2 ^ 63 }
     ensures acts { (t : Thread) → thread_named threads.old running ≡ Some t
         → Acts_on_threads i.op t i threads.old
-        (outside_of outside.old.globals.items outside.old.constants.items (S.heap outside.old.heap.store).cells)
+        (outside_of outside.old.globals.items outside.old.constants.items
+        (S.heap outside.old.heap.store).cells)
         (settable_of (length outside.old.globals.items) (S.heap outside.old.heap.store).cells)
         result threads.new
-        (outside_of outside.new.globals.items outside.new.constants.items (S.heap outside.new.heap.store).cells) }
-    ensures keeps { KeepsOutside outside.old.globals.items outside.new.globals.items outside.old.constants.items outside.new.constants.items (S.heap outside.old.heap.store) (S.heap outside.new.heap.store) }
+        (outside_of outside.new.globals.items outside.new.constants.items
+        (S.heap outside.new.heap.store).cells) }
+    ensures keeps { KeepsOutside outside.old.globals.items outside.new.globals.items
+        outside.old.constants.items outside.new.constants.items (S.heap outside.old.heap.store)
+        (S.heap outside.new.heap.store) }
     ensures counts { threads.new.forks + threads.new.waits ≡ threads.old.forks + threads.old.waits }
-    ensures fitting { (shapes : List Shape) → S.fits outside.old.heap.store shapes → S.fits outside.new.heap.store shapes }
+    ensures fitting { (shapes : List Shape) → S.fits outside.old.heap.store shapes
+        → S.fits outside.new.heap.store shapes }
 {
     threads.end(running, outside, i)
 }
@@ -134,9 +148,11 @@ fn end_with_threads<S: Store>(parts: &mut Parts<'_, S>, i: Instr) -> Done
     requires operation { i.op ≡ Endt }
     ensures rest { rest_of parts.new ≡ rest_of parts.old }
     ensures acts { parts.old.made < 2 ^ 63 → (t : Thread) → Running parts.old t → IsAwake t
-        → Acts_on_threads i.op t i (state_of parts.old).all (outside (program_of parts.old) (state_of parts.old)) (settable (state_of parts.old))
+        → Acts_on_threads i.op t i (state_of parts.old).all
+        (outside (program_of parts.old) (state_of parts.old)) (settable (state_of parts.old))
         result (state_of parts.new).all (outside (program_of parts.old) (state_of parts.new)) }
-    ensures others { HasOtherWords (with_all (state_of parts.old) (state_of parts.new).all) (state_of parts.new) }
+    ensures others { HasOtherWords (with_all (state_of parts.old) (state_of parts.new).all)
+        (state_of parts.new) }
 {
     if !parts.is_awake() || !parts.may_count() {
         return Done::Slept;
@@ -155,7 +171,8 @@ pub(crate) fn end_thread<S: Store>(parts: &mut Parts<'_, S>, i: Instr) -> Progre
     requires operation { i.op ≡ Endt }
     ensures rest { rest_of parts.new ≡ rest_of parts.old }
     ensures ends { parts.old.made < 2 ^ 63 → (t : Thread) → Running parts.old t → IsAwake t
-        → On_threads (program_of parts.old) t i (state_of parts.old) answer_of_end (became result (state_of parts.new)) }
+        → On_threads (program_of parts.old) t i (state_of parts.old) answer_of_end
+        (became result (state_of parts.new)) }
 {
     told_end(end_with_threads(parts, i))
 }

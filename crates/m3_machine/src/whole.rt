@@ -1,4 +1,5 @@
-ghost use Rattle.std.specs.Prelude.{◌≡◌, ◌≤◌, ◌<◌, ◌+◌, ◌^◌, ℕ, List, [], None, OnOk, OnErr, IfOk, Ok};
+ghost use Rattle.std.specs.Prelude.{◌≡◌, ◌≤◌, ◌<◌, ◌+◌, ◌^◌, ℕ, List, [], None, OnOk, OnErr, IfOk};
+ghost use Rattle.std.specs.Prelude.{Ok};
 ghost use Rattle.m3_base.specs.declared.outcomes.Outcome.TheVariants.{Spent};
 ghost use Rattle.m3_sections.specs.Parts.{Program};
 ghost use Rattle.m3_strides.specs.State.{State};
@@ -83,10 +84,13 @@ fn next_turn<S: Store, O: Sink>(
     ensures kept { OnOk result (O.faults out.new ≡ O.faults out.old) }
     ensures failed { OnErr result (Rose (O.faults out.old) (O.faults out.new)) }
     ensures fewer { IfOk result (λ ended. ended ≡ None → left.new < left.old) }
-    ensures rest { rest_of parts.new ≡ record (rest_of parts.old) { made = parts.new.made; stuck = parts.new.stuck } }
-    ensures turned { IfOk result (λ ended. (p : Program) (start : State) (k : Track) → Known p start k parts.old
+    ensures rest { rest_of parts.new ≡ record (rest_of parts.old)
+        { made = parts.new.made; stuck = parts.new.stuck } }
+    ensures turned { IfOk result (λ ended. (p : Program) (start : State) (k : Track)
+        → Known p start k parts.old
         → At_turn p k left.old parts.old → k.entries ≡ entries.now
-        → (bytes : List ℕ) × Took (O.taken out.old) (O.taken out.new) bytes × Turned p k bytes left.new parts.new ended) }
+        → (bytes : List ℕ) × Took (O.taken out.old) (O.taken out.new) bytes
+        × Turned p k bytes left.new parts.new ended) }
 {
     if let Some(outcome) = pass_point(parts, first_entry(entries)) {
         return Ok(Some(outcome));
@@ -113,10 +117,13 @@ impl<'a, S: Store> Machine<'a, S> {
         ensures rises { O.faults out.old ≤ O.faults out.new }
         ensures kept { OnOk result (O.faults out.new ≡ O.faults out.old) }
         ensures failed { OnErr result (Rose (O.faults out.old) (O.faults out.new)) }
-        ensures ran { IfOk result (λ outcome. IsReady self.old.parts → (state_of self.old.parts).points + points < 2 ^ 63
+        ensures ran { IfOk result (λ outcome. IsReady self.old.parts
+            → (state_of self.old.parts).points + points < 2 ^ 63
             → (bytes : List ℕ) × Took (O.taken out.old) (O.taken out.new) bytes
-            × Ran (program_of self.old.parts) self.old.parts.input.now (state_of self.old.parts) schedule.now points bytes (state_of self.new.parts) outcome) }
-        ensures ready { result ≡ Ok Spent → IsReady self.old.parts → (state_of self.old.parts).points + points < 2 ^ 63 → IsReady self.new.parts }
+            × Ran (program_of self.old.parts) self.old.parts.input.now (state_of self.old.parts)
+            schedule.now points bytes (state_of self.new.parts) outcome) }
+        ensures ready { result ≡ Ok Spent → IsReady self.old.parts
+            → (state_of self.old.parts).points + points < 2 ^ 63 → IsReady self.new.parts }
     {
         know_image(&self.parts);
         let mut entries = schedule;

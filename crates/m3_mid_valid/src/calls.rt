@@ -1,5 +1,7 @@
-ghost use Rattle.std.specs.Prelude.{◌≡◌, ◌↔◌, ◌<◌, ◌+◌, ◌^◌, IsTrue, All, sum_by, slice_get, Some, IsSomeAnd};
-ghost use Rattle.m3_mid_valid.specs.Calls.{words_of, IsActual, IsObject, FitsCallee, FitsResult, FitsRaised, IsHeld, AreShown};
+ghost use Rattle.std.specs.Prelude.{◌≡◌, ◌↔◌, ◌<◌, ◌+◌, ◌^◌, IsTrue, All, sum_by, slice_get, Some};
+ghost use Rattle.std.specs.Prelude.{IsSomeAnd};
+ghost use Rattle.m3_mid_valid.specs.Calls.{words_of, IsActual, IsObject, FitsCallee, FitsResult};
+ghost use Rattle.m3_mid_valid.specs.Calls.{FitsRaised, IsHeld, AreShown};
 
 use crate::memory::{are_slots, has_slot_kind};
 use crate::operands::{has_kind, is_plain, is_temp, is_tidy, is_word};
@@ -35,7 +37,8 @@ fn have_words(passed: &[Actual], words: u32) -> bool
 
 /// Whether a procedure is there, and its formals have the words that actuals become.
 fn fits_formals(formals: &[u32], procedure: u32, passed: &[Actual]) -> bool
-    ensures { IsTrue result ↔ (slice_get formals.now procedure ≡ Some (sum_by words_of passed.now)) }
+    ensures { IsTrue result ↔ (slice_get formals.now procedure
+        ≡ Some (sum_by words_of passed.now)) }
 {
     match formals.get(procedure as usize) {
         Some(words) => have_words(passed, *words),

@@ -1,5 +1,6 @@
 ghost use Rattle.std.specs.Prelude.{◌↔◌, ◌<◌, IsTrue, length};
-ghost use Rattle.m3_mid_valid.specs.Memory.{HasSlotKind, IsSharedSlot, AreSlots, LoadsSlot, FitsLoad, StoresSlot, FitsStore, FitsRow, FitsFill};
+ghost use Rattle.m3_mid_valid.specs.Memory.{HasSlotKind, IsSharedSlot, AreSlots, LoadsSlot};
+ghost use Rattle.m3_mid_valid.specs.Memory.{FitsLoad, StoresSlot, FitsStore, FitsRow, FitsFill};
 
 use crate::operands::{has_kind, is_operand, is_temp, is_tidy, is_untidy, is_word};
 use m3_mid::{Kind, MemoryWord, Operand, Proc, Slot};

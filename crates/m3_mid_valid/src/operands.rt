@@ -1,5 +1,6 @@
 ghost use Rattle.std.specs.Prelude.{◌↔◌, IsTrue};
-ghost use Rattle.m3_mid_valid.specs.Kinds.{HasKind, IsTemp, IsPlain, IsUntidy, IsNumber, IsTidy, IsWord, IsOperand, AreNumbers};
+ghost use Rattle.m3_mid_valid.specs.Kinds.{HasKind, IsTemp, IsPlain, IsUntidy, IsNumber, IsTidy};
+ghost use Rattle.m3_mid_valid.specs.Kinds.{IsWord, IsOperand, AreNumbers};
 
 use m3_mid::{Kind, Operand};
 

@@ -1,6 +1,7 @@
 ghost use Rattle.std.specs.Prelude.{◌↔◌, IsTrue};
 ghost use Rattle.m3_mid_valid.specs.Kinds.{IsTidy};
-ghost use Rattle.m3_mid_valid.specs.Operations.{FitsNumber, FitsMove, IsNumberSum, IsAddressSum, IsDistance, FitsArith, FitsRelation, FitsIndex};
+ghost use Rattle.m3_mid_valid.specs.Operations.{FitsNumber, FitsMove, IsNumberSum, IsAddressSum};
+ghost use Rattle.m3_mid_valid.specs.Operations.{IsDistance, FitsArith, FitsRelation, FitsIndex};
 
 use crate::operands::{are_numbers, has_kind, is_number, is_operand, is_temp, is_tidy, is_untidy};
 use m3_mid::{Kind, Operand, Relation, WordOperator};

@@ -2,7 +2,8 @@ ghost use Rattle.std.specs.Prelude.{◌≡◌, ◌↔◌, ◌<◌, IsTrue, lengt
 ghost use Rattle.m3_mid.specs.declared.ops.MidOp.TheVariants as ops;
 ghost use Rattle.m3_mid_valid.specs.Kinds.{HasKind, IsNumber};
 ghost use Rattle.m3_mid_valid.specs.Calls.{IsActual, FitsCallee, FitsResult, FitsRaised, AreShown};
-ghost use Rattle.m3_mid_valid.specs.WellFormed.{FitsSizes, IsOp, FitsException, IsBlockNumber, IsEnd};
+ghost use Rattle.m3_mid_valid.specs.WellFormed.{FitsSizes, IsOp, FitsException, IsBlockNumber};
+ghost use Rattle.m3_mid_valid.specs.WellFormed.{IsEnd};
 
 use crate::calls::{are_actuals, are_shown, fits_callee, fits_raised, fits_result};
 use crate::memory::{fits_fill, fits_load, fits_row, fits_store, is_shared_slot};
@@ -31,7 +32,9 @@ fn fits_call(
     raised: Option<Raised>,
     shown: &[Shown],
 ) -> bool
-    ensures { IsTrue result ↔ (FitsCallee p.now formals.now callee passed.now × (All (IsActual p.now) passed.now × (FitsResult p.now to × (FitsRaised p.now raised × AreShown p.now shown.now)))) }
+    ensures { IsTrue result ↔ (FitsCallee p.now formals.now callee passed.now
+        × (All (IsActual p.now) passed.now × (FitsResult p.now to
+        × (FitsRaised p.now raised × AreShown p.now shown.now)))) }
 {
     fits_callee(p, formals, callee, passed)
         && (are_actuals(p, passed)

@@ -1,5 +1,7 @@
-ghost use Rattle.std.specs.Prelude.{◌≡◌, ◌↔◌, ◌<◌, ◌≤◌, ℕ, [], IsTrue, length, All, slice_get, IsSomeAnd};
-ghost use Rattle.m3_mid_valid.specs.WellFormed.{IsOp, IsBlock, IsSlot, IsIndex, IsAccess, IsMark, IsWellFormed};
+ghost use Rattle.std.specs.Prelude.{◌≡◌, ◌↔◌, ◌<◌, ◌≤◌, ℕ, [], IsTrue, length, All, slice_get};
+ghost use Rattle.std.specs.Prelude.{IsSomeAnd};
+ghost use Rattle.m3_mid_valid.specs.WellFormed.{IsOp, IsBlock, IsSlot, IsIndex, IsAccess, IsMark};
+ghost use Rattle.m3_mid_valid.specs.WellFormed.{IsWellFormed};
 
 use crate::memory::has_slot_kind;
 use crate::operands::{Surroundings, has_kind};

@@ -1,5 +1,7 @@
 ghost use Rattle.std.specs.Prelude.{◌≡◌, ◌↔◌, IsTrue, length};
-ghost use Rattle.m3_mid_valid.specs.Calls.{IsOf, HasOperand, TakesNone, TakesOne, TakesTwo, FitsOperands, given, FitsGiven, may_alert, FitsAlert, FitsService};
+ghost use Rattle.m3_mid_valid.specs.Calls.{IsOf, HasOperand, TakesNone, TakesOne, TakesTwo};
+ghost use Rattle.m3_mid_valid.specs.Calls.{FitsOperands, given, FitsGiven, may_alert, FitsAlert};
+ghost use Rattle.m3_mid_valid.specs.Calls.{FitsService};
 
 use crate::operands::{has_kind, is_number, is_tidy};
 use m3_mid::{Kind, Operand, Service};

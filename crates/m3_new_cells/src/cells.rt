@@ -1,4 +1,6 @@
-ghost use Rattle.std.specs.Prelude.{◌≡◌, ◌<◌, ◌≤◌, ◌+◌, ◌-◌, ◌*◌, ◌^◌, ◌++◌, min, ℕ, true, [], ◌∷◌, nat_le, vec_capacity, length, slice_get, Result, Ok, Err, IfOk, IfSome, MatchResult};
+ghost use Rattle.std.specs.Prelude.{◌≡◌, ◌<◌, ◌≤◌, ◌+◌, ◌-◌, ◌*◌, ◌^◌, ◌++◌, min, ℕ, true, [], ◌∷◌};
+ghost use Rattle.std.specs.Prelude.{nat_le, vec_capacity, length, slice_get, Result, Ok, Err, IfOk};
+ghost use Rattle.std.specs.Prelude.{IfSome, MatchResult};
 ghost use Rattle.std.specs.Int.{cast_unsigned, w32};
 ghost use Rattle.m3_base.specs.declared.outcomes.Outcome.{Outcome as End};
 ghost use Rattle.m3_threads.specs.declared.status.Thread.{Thread};
@@ -6,7 +8,8 @@ ghost use Rattle.m3_sections.specs.Parts.{CellType};
 ghost use Rattle.m3_sections.specs.PartViews.{type_of};
 ghost use Rattle.m3_strides.specs.State.{State, memory_of, Becomes};
 ghost use Rattle.m3_strides.specs.Progress.{became};
-ghost use Rattle.m3_strides.specs.Making.{Allocates, Makes, Makes_late, Makes_fixed, fixed_words, HasNew};
+ghost use Rattle.m3_strides.specs.Making.{Allocates, Makes, Makes_late, Makes_fixed, fixed_words};
+ghost use Rattle.m3_strides.specs.Making.{HasNew};
 ghost use Rattle.m3_strides.specs.NewTexts.{with_words, open_type, GivesOpen, Makes_open};
 ghost use Rattle.m3_new_cells.specs.Blanks.{Reads};
 ghost use Rattle.m3_new_cells.specs.Seen.{state_of, program_of, rest_of, IsGoing, goes_on, Running};
@@ -54,7 +57,8 @@ impl<'a, S: Store> Parts<'a, S> {
         ensures rest { rest_of self.new ≡ record (rest_of self.old) { stuck = self.new.stuck } }
         ensures sizes { self.new.sizes.items ≡ self.old.sizes.items }
         ensures going { IfOk result (λ start. self.new.stuck ≡ self.old.stuck) }
-        ensures made { IsGoing self.old → Makes (program_of self.old) kind words (state_of self.old) result (state_of self.new) }
+        ensures made { IsGoing self.old → Makes (program_of self.old) kind words (state_of self.old)
+            result (state_of self.new) }
         ensures new { IfOk result (λ start. HasNew kind words start (state_of self.new)) }
         ensures low { IfOk result (λ start. (start + words ≤ 2 ^ 63) × (words < 2 ^ 32)) }
     {
@@ -70,7 +74,8 @@ impl<'a, S: Store> Parts<'a, S> {
         ensures rest { rest_of self.new ≡ record (rest_of self.old) { stuck = self.new.stuck } }
         ensures sizes { self.new.sizes.items ≡ self.old.sizes.items }
         ensures going { IfOk result (λ start. self.new.stuck ≡ self.old.stuck) }
-        ensures made { IsGoing self.old → Makes_late (program_of self.old) kind words (state_of self.old) result (state_of self.new) }
+        ensures made { IsGoing self.old → Makes_late (program_of self.old) kind words
+            (state_of self.old) result (state_of self.new) }
         ensures new { IfOk result (λ start. HasNew kind words start (state_of self.new)) }
         ensures low { IfOk result (λ start. (start + words ≤ 2 ^ 63) × (words < 2 ^ 32)) }
     {
@@ -102,8 +107,10 @@ impl<'a, S: Store> Parts<'a, S> {
         requires { i.a < 16 }
         ensures rest { rest_of self.new ≡ record (rest_of self.old) { stuck = self.new.stuck } }
         ensures going { goes_on result ≡ true → self.new.stuck ≡ self.old.stuck }
-        ensures makes { IsGoing self.old → Makes_fixed (program_of self.old) i (cast_unsigned w32 i.imm) (state_of self.old)
-            (fixed_words (slice_get (program_of self.old).types (cast_unsigned w32 i.imm))) (became result (state_of self.new)) }
+        ensures makes { IsGoing self.old → Makes_fixed (program_of self.old) i
+            (cast_unsigned w32 i.imm) (state_of self.old)
+            (fixed_words (slice_get (program_of self.old).types (cast_unsigned w32 i.imm)))
+            (became result (state_of self.new)) }
     {
         let kind = i.imm.cast_unsigned();
         let words = match self.fixed_words(kind) {
@@ -132,7 +139,9 @@ impl<'a, S: Store> Parts<'a, S> {
         ensures rest { rest_of self.new ≡ rest_of self.old }
         ensures same { state_of self.new ≡ state_of self.old }
         ensures few { length self.new.sizes.items ≤ dims }
-        ensures read { dims ≤ vec_capacity self.old.sizes → Reads (memory_of (program_of self.old) (state_of self.old)) at dims self.new.sizes.items result }
+        ensures read { dims ≤ vec_capacity self.old.sizes
+            → Reads (memory_of (program_of self.old) (state_of self.old)) at dims
+            self.new.sizes.items result }
     {
         self.forget_sizes();
         let mut product: u64 = 1;
@@ -156,7 +165,8 @@ impl<'a, S: Store> Parts<'a, S> {
         ensures same { state_of self.new ≡ state_of self.old }
         ensures room { vec_capacity self.new.sizes ≡ vec_capacity self.old.sizes }
         ensures few { length self.new.sizes.items ≤ length self.old.sizes.items + 1 }
-        ensures kept { length self.old.sizes.items < vec_capacity self.old.sizes → self.new.sizes.items ≡ self.old.sizes.items ++ size ∷ [] }
+        ensures kept { length self.old.sizes.items < vec_capacity self.old.sizes
+            → self.new.sizes.items ≡ self.old.sizes.items ++ size ∷ [] }
     {
         if self.sizes.len() < self.sizes.capacity() {
             self.sizes.push_reserved(size);
@@ -170,7 +180,8 @@ impl<'a, S: Store> Parts<'a, S> {
         requires new { HasNew kind words cell (state_of self.old) }
         ensures rest { rest_of self.new ≡ rest_of self.old }
         ensures filled { Becomes (program_of self.old) (state_of self.old)
-            (with_words (cell + 1) self.old.sizes.items (memory_of (program_of self.old) (state_of self.old))) (state_of self.new) }
+            (with_words (cell + 1) self.old.sizes.items
+            (memory_of (program_of self.old) (state_of self.old))) (state_of self.new) }
     {
         'sizes: for n in 0..self.sizes.len() {
             let size = self.sizes[n];
@@ -180,7 +191,8 @@ impl<'a, S: Store> Parts<'a, S> {
 
     /// An open type.
     fn open_type(&self, kind: u32) -> Result<TypeView<'a>, Outcome>
-        ensures { MatchResult result (λ view. open_type (slice_get (program_of self.now).types kind) ≡ Ok (type_of view))
+        ensures { MatchResult result (λ view. open_type (slice_get (program_of self.now).types kind)
+            ≡ Ok (type_of view))
             (λ outcome. open_type (slice_get (program_of self.now).types kind) ≡ Err outcome) }
     {
         match self.image.shape(kind) {
@@ -201,8 +213,10 @@ impl<'a, S: Store> Parts<'a, S> {
         requires room { length self.old.sizes.items < words }
         ensures rest { rest_of self.new ≡ record (rest_of self.old) { stuck = self.new.stuck } }
         ensures going { goes_on result ≡ true → self.new.stuck ≡ self.old.stuck }
-        ensures makes { IsGoing self.old → (made : Result ℕ End) × (u : State) × Makes (program_of self.old) kind words (state_of self.old) made u
-            × GivesOpen (program_of self.old) a self.old.sizes.items made u (became result (state_of self.new)) }
+        ensures makes { IsGoing self.old → (made : Result ℕ End) × (u : State)
+            × Makes (program_of self.old) kind words (state_of self.old) made u
+            × GivesOpen (program_of self.old) a self.old.sizes.items made u
+            (became result (state_of self.new)) }
     {
         match self.make_cell(kind, words) {
             Ok(cell) => {
@@ -220,8 +234,10 @@ impl<'a, S: Store> Parts<'a, S> {
         requires kind { kind ≡ cast_unsigned w32 i.imm }
         ensures rest { rest_of self.new ≡ record (rest_of self.old) { stuck = self.new.stuck } }
         ensures going { goes_on result ≡ true → self.new.stuck ≡ self.old.stuck }
-        ensures makes { IsGoing self.old → (type_of shape.entry).dims ≤ vec_capacity self.old.sizes → (t : Thread) → Running self.old t
-            → Makes_open (program_of self.old) t i (state_of self.old) (Ok (type_of shape.entry)) (became result (state_of self.new)) }
+        ensures makes { IsGoing self.old → (type_of shape.entry).dims ≤ vec_capacity self.old.sizes
+            → (t : Thread) → Running self.old t
+            → Makes_open (program_of self.old) t i (state_of self.old) (Ok (type_of shape.entry))
+            (became result (state_of self.new)) }
     {
         let dims = shape.dims();
         let at = self.word(i.b);
@@ -241,7 +257,9 @@ impl<'a, S: Store> Parts<'a, S> {
         ensures rest { rest_of self.new ≡ record (rest_of self.old) { stuck = self.new.stuck } }
         ensures going { goes_on result ≡ true → self.new.stuck ≡ self.old.stuck }
         ensures makes { IsGoing self.old → (t : Thread) → Running self.old t
-            → Makes_open (program_of self.old) t i (state_of self.old) (open_type (slice_get (program_of self.old).types (cast_unsigned w32 i.imm))) (became result (state_of self.new)) }
+            → Makes_open (program_of self.old) t i (state_of self.old)
+            (open_type (slice_get (program_of self.old).types (cast_unsigned w32 i.imm)))
+            (became result (state_of self.new)) }
     {
         let kind = i.imm.cast_unsigned();
         match self.open_type(kind) {

@@ -27,13 +27,19 @@ fn collect_in<S: Store, L: Ledger>(
 ) -> bool
     requires fitting { S.fits heap.old.store (map shape_of (image_of image.now).program.types) }
     requires words { length globals.old ≡ (image_of image.now).program.globals.words }
-    ensures fitting { result ≡ true → S.fits heap.new.store (map shape_of (image_of image.now).program.types) }
+    ensures fitting { result ≡ true → S.fits heap.new.store
+        (map shape_of (image_of image.now).program.types) }
     ensures collected { IsRoomFor threads.old.stack room.old
-        → OnTrue result (Collected (image_of image.now).program (record { all = threads.old; globals = globals.old; heap = S.heap heap.old.store }) (record { all = threads.new; globals = globals.new; heap = S.heap heap.new.store })) }
+        → OnTrue result (Collected (image_of image.now).program
+        (record { all = threads.old; globals = globals.old; heap = S.heap heap.old.store })
+        (record { all = threads.new; globals = globals.new; heap = S.heap heap.new.store })) }
     ensures whole { IsRoomFor threads.old.stack room.old
-        → OnTrue result (StopsCollection (image_of image.now).program (record { all = threads.old; globals = globals.old; heap = S.heap heap.old.store }) → ⊥) }
+        → OnTrue result (StopsCollection (image_of image.now).program
+        (record { all = threads.old; globals = globals.old; heap = S.heap heap.old.store })
+        → ⊥) }
     ensures stopped { IsRoomFor threads.old.stack room.old
-        → OnFalse result (StopsCollection (image_of image.now).program (record { all = threads.old; globals = globals.old; heap = S.heap heap.old.store })) }
+        → OnFalse result (StopsCollection (image_of image.now).program
+        (record { all = threads.old; globals = globals.old; heap = S.heap heap.old.store })) }
     ensures room { (stack : ℕ) → IsRoomFor stack room.old → IsRoomFor stack room.new }
     ensures words { length globals.new ≡ length globals.old }
     ensures forks { threads.new.forks ≡ threads.old.forks }
@@ -51,15 +57,40 @@ fn collect_outside<S: Store, L: Ledger>(
     room: &mut Room,
     steps: &mut Steps<L>,
 ) -> bool
-    requires fitting { S.fits outside.old.heap.store (map shape_of (image_of image.now).program.types) }
+    requires fitting { S.fits outside.old.heap.store
+        (map shape_of (image_of image.now).program.types) }
     requires words { length outside.old.globals.items ≡ (image_of image.now).program.globals.words }
-    ensures fitting { result ≡ true → S.fits outside.new.heap.store (map shape_of (image_of image.now).program.types) }
+    ensures fitting { result ≡ true → S.fits outside.new.heap.store
+        (map shape_of (image_of image.now).program.types) }
     ensures collected { IsRoomFor threads.old.stack room.old
-        → OnTrue result (Collected (image_of image.now).program (record { all = threads.old; globals = outside.old.globals.items; heap = S.heap outside.old.heap.store }) (record { all = threads.new; globals = outside.new.globals.items; heap = S.heap outside.new.heap.store })) }
+        → OnTrue result (Collected (image_of image.now).program
+        (record {
+          all = threads.old;
+          globals = outside.old.globals.items;
+          heap = S.heap
+              outside.old.heap.store;
+        }) (record {
+          all = threads.new;
+          globals = outside.new.globals.items;
+          heap = S.heap
+              outside.new.heap.store;
+        })) }
     ensures whole { IsRoomFor threads.old.stack room.old
-        → OnTrue result (StopsCollection (image_of image.now).program (record { all = threads.old; globals = outside.old.globals.items; heap = S.heap outside.old.heap.store }) → ⊥) }
+        → OnTrue result (StopsCollection (image_of image.now).program
+        (record {
+          all = threads.old;
+          globals = outside.old.globals.items;
+          heap = S.heap
+              outside.old.heap.store;
+        }) → ⊥) }
     ensures stopped { IsRoomFor threads.old.stack room.old
-        → OnFalse result (StopsCollection (image_of image.now).program (record { all = threads.old; globals = outside.old.globals.items; heap = S.heap outside.old.heap.store })) }
+        → OnFalse result (StopsCollection (image_of image.now).program
+        (record {
+          all = threads.old;
+          globals = outside.old.globals.items;
+          heap = S.heap
+              outside.old.heap.store;
+        })) }
     ensures room { (stack : ℕ) → IsRoomFor stack room.old → IsRoomFor stack room.new }
     ensures words { length outside.new.globals.items ≡ length outside.old.globals.items }
     ensures constants { outside.new.constants.items ≡ outside.old.constants.items }
@@ -87,15 +118,40 @@ fn collect_by<S: Store, L: Ledger>(
     requires name { blank.name ≡ L.name }
     requires parts { blank.parts ≡ L.parts }
     requires whole { blank.parts ≡ 1 }
-    requires fitting { ∥ S.fits outside.old.heap.store (map shape_of (image_of image.now).program.types) ∥₁ }
+    requires fitting { ∥ S.fits outside.old.heap.store
+        (map shape_of (image_of image.now).program.types) ∥₁ }
     requires words { length outside.old.globals.items ≡ (image_of image.now).program.globals.words }
-    ensures fitting { result ≡ true → ∥ S.fits outside.new.heap.store (map shape_of (image_of image.now).program.types) ∥₁ }
+    ensures fitting { result ≡ true → ∥ S.fits outside.new.heap.store
+        (map shape_of (image_of image.now).program.types) ∥₁ }
     ensures collected { IsRoomFor threads.old.stack room.old
-        → OnTrue result (Collected (image_of image.now).program (record { all = threads.old; globals = outside.old.globals.items; heap = S.heap outside.old.heap.store }) (record { all = threads.new; globals = outside.new.globals.items; heap = S.heap outside.new.heap.store })) }
+        → OnTrue result (Collected (image_of image.now).program
+        (record {
+          all = threads.old;
+          globals = outside.old.globals.items;
+          heap = S.heap
+              outside.old.heap.store;
+        }) (record {
+          all = threads.new;
+          globals = outside.new.globals.items;
+          heap = S.heap
+              outside.new.heap.store;
+        })) }
     ensures whole { IsRoomFor threads.old.stack room.old
-        → OnTrue result (StopsCollection (image_of image.now).program (record { all = threads.old; globals = outside.old.globals.items; heap = S.heap outside.old.heap.store }) → ⊥) }
+        → OnTrue result (StopsCollection (image_of image.now).program
+        (record {
+          all = threads.old;
+          globals = outside.old.globals.items;
+          heap = S.heap
+              outside.old.heap.store;
+        }) → ⊥) }
     ensures stopped { IsRoomFor threads.old.stack room.old
-        → OnFalse result (StopsCollection (image_of image.now).program (record { all = threads.old; globals = outside.old.globals.items; heap = S.heap outside.old.heap.store })) }
+        → OnFalse result (StopsCollection (image_of image.now).program
+        (record {
+          all = threads.old;
+          globals = outside.old.globals.items;
+          heap = S.heap
+              outside.old.heap.store;
+        })) }
     ensures room { (stack : ℕ) → IsRoomFor stack room.old → IsRoomFor stack room.new }
     ensures words { length outside.new.globals.items ≡ length outside.old.globals.items }
     ensures constants { outside.new.constants.items ≡ outside.old.constants.items }
@@ -112,15 +168,40 @@ fn collect_now<S: Store>(
     image: &Decoded<'_>,
     room: &mut Room,
 ) -> bool
-    requires fitting { ∥ S.fits outside.old.heap.store (map shape_of (image_of image.now).program.types) ∥₁ }
+    requires fitting { ∥ S.fits outside.old.heap.store
+        (map shape_of (image_of image.now).program.types) ∥₁ }
     requires words { length outside.old.globals.items ≡ (image_of image.now).program.globals.words }
-    ensures fitting { result ≡ true → ∥ S.fits outside.new.heap.store (map shape_of (image_of image.now).program.types) ∥₁ }
+    ensures fitting { result ≡ true → ∥ S.fits outside.new.heap.store
+        (map shape_of (image_of image.now).program.types) ∥₁ }
     ensures collected { IsRoomFor threads.old.stack room.old
-        → OnTrue result (Collected (image_of image.now).program (record { all = threads.old; globals = outside.old.globals.items; heap = S.heap outside.old.heap.store }) (record { all = threads.new; globals = outside.new.globals.items; heap = S.heap outside.new.heap.store })) }
+        → OnTrue result (Collected (image_of image.now).program
+        (record {
+          all = threads.old;
+          globals = outside.old.globals.items;
+          heap = S.heap
+              outside.old.heap.store;
+        }) (record {
+          all = threads.new;
+          globals = outside.new.globals.items;
+          heap = S.heap
+              outside.new.heap.store;
+        })) }
     ensures whole { IsRoomFor threads.old.stack room.old
-        → OnTrue result (StopsCollection (image_of image.now).program (record { all = threads.old; globals = outside.old.globals.items; heap = S.heap outside.old.heap.store }) → ⊥) }
+        → OnTrue result (StopsCollection (image_of image.now).program
+        (record {
+          all = threads.old;
+          globals = outside.old.globals.items;
+          heap = S.heap
+              outside.old.heap.store;
+        }) → ⊥) }
     ensures stopped { IsRoomFor threads.old.stack room.old
-        → OnFalse result (StopsCollection (image_of image.now).program (record { all = threads.old; globals = outside.old.globals.items; heap = S.heap outside.old.heap.store })) }
+        → OnFalse result (StopsCollection (image_of image.now).program
+        (record {
+          all = threads.old;
+          globals = outside.old.globals.items;
+          heap = S.heap
+              outside.old.heap.store;
+        })) }
     ensures room { (stack : ℕ) → IsRoomFor stack room.old → IsRoomFor stack room.new }
     ensures words { length outside.new.globals.items ≡ length outside.old.globals.items }
     ensures constants { outside.new.constants.items ≡ outside.old.constants.items }
@@ -137,8 +218,10 @@ impl<'a, S: Store> Parts<'a, S> {
         ensures rest { rest_of self.new ≡ record (rest_of self.old) { stuck = self.new.stuck } }
         ensures sizes { self.new.sizes.items ≡ self.old.sizes.items }
         ensures going { result ≡ true → self.new.stuck ≡ self.old.stuck }
-        ensures good { result ≡ true → IsGoing self.old → Collects (program_of self.old) (state_of self.old) (state_of self.new) }
-        ensures bad { result ≡ false → IsGoing self.old → Spoils (program_of self.old) (state_of self.old) (state_of self.new) }
+        ensures good { result ≡ true → IsGoing self.old
+            → Collects (program_of self.old) (state_of self.old) (state_of self.new) }
+        ensures bad { result ≡ false → IsGoing self.old
+            → Spoils (program_of self.old) (state_of self.old) (state_of self.new) }
     {
         if self.stuck {
             return false;

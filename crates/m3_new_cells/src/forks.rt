@@ -23,7 +23,9 @@ impl<'a, S: Store> Parts<'a, S> {
     pub fn stand_at(&mut self, thread: u64, i: Instr)
         requires { IsInstruction i }
         ensures rest { rest_of self.new ≡ rest_of self.old }
-        ensures stands { self.old.made < 2 ^ 63 → state_of self.new ≡ with_all (state_of self.old) (standing_at i thread (state_of self.old).all) }
+        ensures stands { self.old.made < 2 ^ 63
+            → state_of self.new ≡ with_all (state_of self.old)
+            (standing_at i thread (state_of self.old).all) }
     {
         if !self.may_count() {
             return;
@@ -37,8 +39,10 @@ impl<'a, S: Store> Parts<'a, S> {
     /// A thread stands at the instruction that it begins with.
     fn stand_first(&mut self, thread: u64, first: u32)
         ensures rest { rest_of self.new ≡ rest_of self.old }
-        ensures stands { self.old.made < 2 ^ 63 → (begins : Instruction) → slice_get (program_of self.old).code first ≡ Some begins
-            → state_of self.new ≡ with_all (state_of self.old) (standing_at begins thread (state_of self.old).all) }
+        ensures stands { self.old.made < 2 ^ 63 → (begins : Instruction)
+            → slice_get (program_of self.old).code first ≡ Some begins
+            → state_of self.new ≡ with_all (state_of self.old)
+            (standing_at begins thread (state_of self.old).all) }
     {
         match self.image.fetch(first) {
             Some(begins) => {
@@ -54,8 +58,10 @@ impl<'a, S: Store> Parts<'a, S> {
         ensures rest { rest_of self.new ≡ record (rest_of self.old) { made = self.new.made } }
         ensures one { self.new.made ≤ self.old.made + 1 }
         ensures others { state_of self.new ≡ with_all (state_of self.old) (state_of self.new).all }
-        ensures forks { self.old.made < 2 ^ 63 → length (state_of self.old).all.threads < (state_of self.old).all.allowed
-            → Forks (state_of self.old).all first closure cell ((state_of self.old).all.forks + 1) (state_of self.new).all
+        ensures forks { self.old.made < 2 ^ 63
+            → length (state_of self.old).all.threads < (state_of self.old).all.allowed
+            → Forks (state_of self.old).all first closure cell ((state_of self.old).all.forks + 1)
+            (state_of self.new).all
             × (result ≡ Some ((state_of self.old).all.forks + 1)) }
     {
         if !self.may_count() {
@@ -70,7 +76,8 @@ impl<'a, S: Store> Parts<'a, S> {
 
     /// The first instruction of procedure 1, with which a thread begins.
     fn first_of_thread(&self) -> u32
-        ensures { (first : Procedure) → slice_get (program_of self.now).procs 1 ≡ Some first → result ≡ first.first }
+        ensures { (first : Procedure) → slice_get (program_of self.now).procs 1 ≡ Some first
+            → result ≡ first.first }
     {
         match self.image.proc(1) {
             Some(proc) => proc.first,
@@ -85,9 +92,14 @@ impl<'a, S: Store> Parts<'a, S> {
         requires low { cell + 4 ≤ 2 ^ 63 }
         requires new { HasNew 1 4 cell (state_of self.old) }
         ensures rest { rest_of self.new ≡ rest_of self.old }
-        ensures stands { self.old.made < 2 ^ 63 → (t : Thread) (begins : Instruction) → Running self.old t → slice_get (program_of self.old).code first ≡ Some begins
-            → (numbered : State) × Becomes (program_of self.old) (state_of self.old) (put (memory_of (program_of self.old) (state_of self.old)) (cell + 1) number) numbered
-            × (became result (state_of self.new) ≡ Goes (with_regs (with_all numbered (standing_at begins number numbered.all)) (answered t.regs a cell))) }
+        ensures stands { self.old.made < 2 ^ 63 → (t : Thread) (begins : Instruction)
+            → Running self.old t → slice_get (program_of self.old).code first ≡ Some begins
+            → (numbered : State) × Becomes (program_of self.old) (state_of self.old)
+            (put (memory_of (program_of self.old) (state_of self.old)) (cell + 1) number)
+            numbered
+            × (became result (state_of self.new)
+            ≡ Goes (with_regs (with_all numbered (standing_at begins number numbered.all))
+            (answered t.regs a cell))) }
     {
         self.set_word(cell + 1, number);
         self.stand_first(number, first);
@@ -102,7 +114,9 @@ impl<'a, S: Store> Parts<'a, S> {
         requires new { HasNew 1 4 cell (state_of self.old) }
         ensures rest { rest_of self.new ≡ record (rest_of self.old) { made = self.new.made } }
         ensures one { self.new.made ≤ self.old.made + 1 }
-        ensures begins { self.old.made + 1 < 2 ^ 63 → GivesThread (program_of self.old) i (Ok cell) (state_of self.old) (became result (state_of self.new)) }
+        ensures begins { self.old.made + 1 < 2 ^ 63
+            → GivesThread (program_of self.old) i (Ok cell) (state_of self.old)
+            (became result (state_of self.new)) }
     {
         let first = self.first_of_thread();
         let closure = self.word(i.b);
@@ -116,10 +130,13 @@ impl<'a, S: Store> Parts<'a, S> {
     pub fn start_thread(&mut self, i: Instr) -> Progress
         requires answer { i.a < 16 }
         requires closure { i.b < 16 }
-        ensures rest { rest_of self.new ≡ record (rest_of self.old) { made = self.new.made; stuck = self.new.stuck } }
+        ensures rest { rest_of self.new ≡ record (rest_of self.old)
+            { made = self.new.made; stuck = self.new.stuck } }
         ensures one { self.new.made ≤ self.old.made + 1 }
         ensures going { goes_on result ≡ true → self.new.stuck ≡ self.old.stuck }
-        ensures forks { IsGoing self.old → self.old.made + 1 < 2 ^ 63 → Forks_thread (program_of self.old) i (state_of self.old) (became result (state_of self.new)) }
+        ensures forks { IsGoing self.old → self.old.made + 1 < 2 ^ 63
+            → Forks_thread (program_of self.old) i (state_of self.old)
+            (became result (state_of self.new)) }
     {
         if !self.may_count() {
             return Progress::Ends(Outcome::ThreadsFull);

@@ -1,4 +1,5 @@
-ghost use Rattle.std.specs.Prelude.{◌≡◌, ◌≤◌, ◌+◌, ℕ, false, map, length, slice_get, vec_capacity, Some};
+ghost use Rattle.std.specs.Prelude.{◌≡◌, ◌≤◌, ◌+◌, ℕ, false, map, length, slice_get, vec_capacity};
+ghost use Rattle.std.specs.Prelude.{Some};
 ghost use Rattle.m3_sections.specs.Parts.{CellType};
 ghost use Rattle.m3_sections.specs.Shapes.{shape_of};
 ghost use Rattle.m3_decoded.specs.Ready.{image_of};
@@ -30,9 +31,12 @@ pub struct Parts<'a, S: Store> {
     pub stuck: bool,
     pub ghost small: { stack ≤ 1048576 },
     pub ghost counted: { memory.threads.forks + memory.threads.waits ≤ made },
-    pub ghost words: { length memory.outside.globals.items ≡ (image_of image).program.globals.words },
+    pub ghost words: { length memory.outside.globals.items
+        ≡ (image_of image).program.globals.words },
     pub ghost loaded: { memory.outside.constants.items ≡ (image_of image).program.constants },
     pub ghost roomy: { IsRoomFor stack room },
-    pub ghost sized: { (n : ℕ) (form : CellType) → slice_get (image_of image).program.types n ≡ Some form → form.dims ≤ vec_capacity sizes },
-    pub ghost fitting: { stuck ≡ false → ∥ S.fits memory.outside.heap.store (map shape_of (image_of image).program.types) ∥₁ },
+    pub ghost sized: { (n : ℕ) (form : CellType)
+        → slice_get (image_of image).program.types n ≡ Some form → form.dims ≤ vec_capacity sizes },
+    pub ghost fitting: { stuck ≡ false → ∥ S.fits memory.outside.heap.store
+        (map shape_of (image_of image).program.types) ∥₁ },
 }

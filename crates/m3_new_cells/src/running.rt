@@ -72,7 +72,8 @@ impl<'a, S: Store> Parts<'a, S> {
     pub fn depth_of(&self, thread: u64) -> Option<u64>
         ensures same { IfSome result (λ words. words ≡ self.now.memory.threads.stack) }
         ensures small { IfSome result (λ words. words ≤ 1048576) }
-        ensures some { (t : Thread) → thread_named self.now.memory.threads thread ≡ Some t → IsSome result }
+        ensures some { (t : Thread) → thread_named self.now.memory.threads thread ≡ Some t
+            → IsSome result }
     {
         let _first = self.memory.threads.number(0);
         match self.memory.threads.words(thread) {
@@ -94,7 +95,9 @@ impl<'a, S: Store> Parts<'a, S> {
     /// The running thread goes on to its next instruction.
     pub fn go_on(&mut self) -> Progress
         ensures rest { rest_of self.new ≡ rest_of self.old }
-        ensures goes { (t : Thread) → Running self.old t → became result (state_of self.new) ≡ Goes (with_regs (state_of self.old) (next t.regs)) }
+        ensures goes { (t : Thread) → Running self.old t
+            → became result (state_of self.new)
+            ≡ Goes (with_regs (state_of self.old) (next t.regs)) }
     {
         let mut regs = self.regs();
         regs.pc = regs.pc.wrapping_add(1);
@@ -106,7 +109,9 @@ impl<'a, S: Store> Parts<'a, S> {
     pub fn give(&mut self, a: u8, word: u64) -> Progress
         requires { a < 16 }
         ensures rest { rest_of self.new ≡ rest_of self.old }
-        ensures goes { (t : Thread) → Running self.old t → became result (state_of self.new) ≡ Goes (with_regs (state_of self.old) (answered t.regs a word)) }
+        ensures goes { (t : Thread) → Running self.old t
+            → became result (state_of self.new)
+            ≡ Goes (with_regs (state_of self.old) (answered t.regs a word)) }
     {
         let mut regs = self.regs();
         regs.r[a as usize] = word;
@@ -118,7 +123,9 @@ impl<'a, S: Store> Parts<'a, S> {
     /// It jumps.
     pub fn jump(&mut self, target: i32) -> Progress
         ensures rest { rest_of self.new ≡ rest_of self.old }
-        ensures goes { (t : Thread) → Running self.old t → became result (state_of self.new) ≡ Goes (with_regs (state_of self.old) (jumped t.regs target)) }
+        ensures goes { (t : Thread) → Running self.old t
+            → became result (state_of self.new)
+            ≡ Goes (with_regs (state_of self.old) (jumped t.regs target)) }
     {
         let mut regs = self.regs();
         regs.pc = target.cast_unsigned();
@@ -129,7 +136,9 @@ impl<'a, S: Store> Parts<'a, S> {
     /// It comes to a place, of a call or a return.
     pub fn come_to(&mut self, to: Place) -> Progress
         ensures rest { rest_of self.new ≡ rest_of self.old }
-        ensures goes { (t : Thread) → Running self.old t → became result (state_of self.new) ≡ Goes (with_regs (state_of self.old) (come_to to t.regs)) }
+        ensures goes { (t : Thread) → Running self.old t
+            → became result (state_of self.new)
+            ≡ Goes (with_regs (state_of self.old) (come_to to t.regs)) }
     {
         let mut regs = self.regs();
         regs.pc = to.pc;
@@ -143,8 +152,12 @@ impl<'a, S: Store> Parts<'a, S> {
         ensures rest { rest_of self.new ≡ rest_of self.old }
         ensures sizes { self.new.sizes.items ≡ self.old.sizes.items }
         ensures others { HasOtherWords (state_of self.old) (state_of self.new) }
-        ensures set { can_set (state_of self.old) at ≡ true → (x : ℕ) → memory_of (program_of self.new) (state_of self.new) x ≡ put (memory_of (program_of self.old) (state_of self.old)) at word x }
-        ensures refused { can_set (state_of self.old) at ≡ false → (x : ℕ) → memory_of (program_of self.new) (state_of self.new) x ≡ memory_of (program_of self.old) (state_of self.old) x }
+        ensures set { can_set (state_of self.old) at ≡ true → (x : ℕ)
+            → memory_of (program_of self.new) (state_of self.new) x
+            ≡ put (memory_of (program_of self.old) (state_of self.old)) at word x }
+        ensures refused { can_set (state_of self.old) at ≡ false → (x : ℕ)
+            → memory_of (program_of self.new) (state_of self.new) x
+            ≡ memory_of (program_of self.old) (state_of self.old) x }
         ensures settable { (x : ℕ) → can_set (state_of self.new) x ≡ can_set (state_of self.old) x }
     {
         let _is_set = self.memory.store(at, word);
@@ -152,7 +165,8 @@ impl<'a, S: Store> Parts<'a, S> {
 
     /// Whether the running thread is there and awake.
     pub fn is_awake(&self) -> bool
-        ensures there { result ≡ true → IsSome (thread_named self.now.memory.threads self.now.running) }
+        ensures there { result ≡ true → IsSome
+            (thread_named self.now.memory.threads self.now.running) }
         ensures awake { result ≡ true → (t : Thread) → Running self.now t → IsAwake t }
         ensures asleep { result ≡ false → (t : Thread) → Running self.now t → IsAwake t → ⊥ }
     {

@@ -1,4 +1,6 @@
-ghost use Rattle.std.specs.Prelude.{◌≡◌, ◌<◌, ◌≤◌, ◌+◌, ◌-◌, ◌*◌, ◌/◌, ◌%◌, ◌^◌, ◌==◌, if◌then◌else◌, is_some, true, [], ◌∷◌, min, take, drop, slice_index, Some, Ok, OnOk, OnErr, IfOk};
+ghost use Rattle.std.specs.Prelude.{◌≡◌, ◌<◌, ◌≤◌, ◌+◌, ◌-◌, ◌*◌, ◌/◌, ◌%◌, ◌^◌, ◌==◌};
+ghost use Rattle.std.specs.Prelude.{if◌then◌else◌, is_some, true, [], ◌∷◌, min, take, drop};
+ghost use Rattle.std.specs.Prelude.{slice_index, Some, Ok, OnOk, OnErr, IfOk};
 ghost use Rattle.std.specs.Int.{div_ceil};
 ghost use Rattle.m3_ports.specs.Counts.{Rose};
 ghost use Rattle.m3_base.specs.Words.{add_words};
@@ -11,10 +13,13 @@ ghost use Rattle.m3_strides.specs.Act.{bytes_of, or_trap};
 ghost use Rattle.m3_strides.specs.Progress.{Follows, became};
 ghost use Rattle.m3_strides.specs.Texts.{text_words, text_byte, text_bytes, packed, text_rest};
 ghost use Rattle.m3_strides.specs.Making.{HasNew};
-ghost use Rattle.m3_strides.specs.NewTexts.{with_words, both, part_of, FillsText, GivesText, Makes_text, Makes_char, Cats, lengths_at, sub_count, Subs};
+ghost use Rattle.m3_strides.specs.NewTexts.{with_words, both, part_of, FillsText, GivesText};
+ghost use Rattle.m3_strides.specs.NewTexts.{Makes_text, Makes_char, Cats, lengths_at, sub_count};
+ghost use Rattle.m3_strides.specs.NewTexts.{Subs};
 ghost use Rattle.m3_strides.specs.Acts.{has_text, puts_text};
 ghost use Rattle.m3_new_cells.specs.Blanks.{WasBlank, IsWithin, both_bytes};
-ghost use Rattle.m3_new_cells.specs.Seen.{state_of, program_of, rest_of, IsGoing, goes_on, Running, Took};
+ghost use Rattle.m3_new_cells.specs.Seen.{state_of, program_of, rest_of, IsGoing, goes_on, Running};
+ghost use Rattle.m3_new_cells.specs.Seen.{Took};
 
 use crate::parts::Parts;
 use m3_base::Outcome;
@@ -49,7 +54,8 @@ fn words_for(left: u64, right: u64) -> u64
 /// How many words the bytes of a part are in.
 fn words_with(part: Part) -> u64
     requires { IsWithin part }
-    ensures words { result ≡ (if part.count == 0 then 0 else (part.from + part.count - 1) / 8 + 1 - part.from / 8) }
+    ensures words { result ≡ (if part.count == 0 then 0 else (part.from + part.count - 1) /
+        8 + 1 - part.from / 8) }
     ensures few { part.from / 8 + result < 2 ^ 62 }
 {
     if part.count == 0 {
@@ -88,7 +94,8 @@ fn bytes_in(count: u64, k: u64) -> usize
 impl<'a, S: Store> Parts<'a, S> {
     /// The word at an address as it was before a new cell was filled.
     fn load_before(&self, blank: Blank, at: u64) -> Option<u64>
-        ensures { (before : Memory) → WasBlank blank.start blank.words before (memory_of (program_of self.now) (state_of self.now)) → result ≡ before at }
+        ensures { (before : Memory) → WasBlank blank.start blank.words before
+            (memory_of (program_of self.now) (state_of self.now)) → result ≡ before at }
     {
         if is_inside(blank, at) {
             return Some(0);
@@ -99,7 +106,9 @@ impl<'a, S: Store> Parts<'a, S> {
     /// Whether so many words of a text are there, from one on.
     fn has_words(&self, text: u64, first: u64, many: u64) -> bool
         requires { first + many < 2 ^ 62 }
-        ensures { result ≡ every (λ k. is_some (memory_of (program_of self.now) (state_of self.now) (add_words text (2 + (first + k))))) many }
+        ensures { result ≡ every (λ k. is_some
+            (memory_of (program_of self.now) (state_of self.now)
+            (add_words text (2 + (first + k))))) many }
     {
         'words: for k in 0..many {
             if self
@@ -116,7 +125,8 @@ impl<'a, S: Store> Parts<'a, S> {
     /// Whether the words with these bytes of a text are there.
     fn has_part(&self, part: Part) -> bool
         requires { IsWithin part }
-        ensures { result ≡ has_text (memory_of (program_of self.now) (state_of self.now)) part.text part.from part.count }
+        ensures { result ≡ has_text (memory_of (program_of self.now) (state_of self.now)) part.text
+            part.from part.count }
     {
         self.has_words(part.text, part.from / 8, words_with(part))
     }
@@ -125,7 +135,9 @@ impl<'a, S: Store> Parts<'a, S> {
     fn byte_before(&self, blank: Blank, part: Part, n: u64) -> u8
         requires within { IsWithin part }
         requires there { n < part.count }
-        ensures { (before : Memory) → WasBlank blank.start blank.words before (memory_of (program_of self.now) (state_of self.now)) → result ≡ text_byte before part.text (part.from + n) }
+        ensures { (before : Memory) → WasBlank blank.start blank.words before
+            (memory_of (program_of self.now) (state_of self.now))
+            → result ≡ text_byte before part.text (part.from + n) }
     {
         let place = part.from + n;
         let word = self
@@ -138,7 +150,9 @@ impl<'a, S: Store> Parts<'a, S> {
     fn byte_of(&self, blank: Blank, left: Part, right: Part, n: u64) -> u8
         requires left { IsWithin left }
         requires right { IsWithin right }
-        ensures { (before : Memory) → WasBlank blank.start blank.words before (memory_of (program_of self.now) (state_of self.now)) → result ≡ slice_index (both_bytes before left right) n }
+        ensures { (before : Memory) → WasBlank blank.start blank.words before
+            (memory_of (program_of self.now) (state_of self.now))
+            → result ≡ slice_index (both_bytes before left right) n }
     {
         if n < left.count {
             return self.byte_before(blank, left, n);
@@ -155,7 +169,9 @@ impl<'a, S: Store> Parts<'a, S> {
         requires left { IsWithin left }
         requires right { IsWithin right }
         requires within { from + 8 < 2 ^ 64 }
-        ensures { (before : Memory) → WasBlank blank.start blank.words before (memory_of (program_of self.now) (state_of self.now)) → result ≡ packed (take 8 (drop from (both_bytes before left right))) }
+        ensures { (before : Memory) → WasBlank blank.start blank.words before
+            (memory_of (program_of self.now) (state_of self.now))
+            → result ≡ packed (take 8 (drop from (both_bytes before left right))) }
     {
         let mut bytes = [0u8; 8];
         'bytes: for k in 0..8 {
@@ -170,7 +186,9 @@ impl<'a, S: Store> Parts<'a, S> {
         requires right { IsWithin right }
         requires few { left.count + right.count < 2 ^ 40 }
         requires there { k + 1 < text_words (left.count + right.count) }
-        ensures { (before : Memory) → WasBlank blank.start blank.words before (memory_of (program_of self.now) (state_of self.now)) → result ≡ slice_index (text_rest (both_bytes before left right)) k }
+        ensures { (before : Memory) → WasBlank blank.start blank.words before
+            (memory_of (program_of self.now) (state_of self.now))
+            → result ≡ slice_index (text_rest (both_bytes before left right)) k }
     {
         if k == 0 {
             return left.count + right.count;
@@ -188,7 +206,9 @@ impl<'a, S: Store> Parts<'a, S> {
         requires words { blank.words ≡ text_words (left.count + right.count) }
         ensures rest { rest_of self.new ≡ rest_of self.old }
         ensures filled { Becomes (program_of self.old) (state_of self.old)
-            (with_words (blank.start + 1) (text_rest (both_bytes (memory_of (program_of self.old) (state_of self.old)) left right)) (memory_of (program_of self.old) (state_of self.old)))
+            (with_words (blank.start + 1) (text_rest
+            (both_bytes (memory_of (program_of self.old) (state_of self.old)) left right))
+            (memory_of (program_of self.old) (state_of self.old)))
             (state_of self.new) }
     {
         'words: for k in 0..blank.words - 1 {
@@ -210,7 +230,9 @@ impl<'a, S: Store> Parts<'a, S> {
         ensures rest { rest_of self.new ≡ rest_of self.old }
         ensures fills { (t : Thread) → Running self.old t
             → FillsText (program_of self.old) a blank.start
-            (both (part_of (memory_of (program_of self.old) (state_of self.old)) left.text left.from left.count) (part_of (memory_of (program_of self.old) (state_of self.old)) right.text right.from right.count))
+            (both (part_of (memory_of (program_of self.old) (state_of self.old)) left.text left.from
+            left.count) (part_of (memory_of (program_of self.old) (state_of self.old))
+            right.text right.from right.count))
             (state_of self.old) t (became result (state_of self.new)) }
     {
         if !self.has_part(left) {
@@ -225,7 +247,8 @@ impl<'a, S: Store> Parts<'a, S> {
 
     /// The length of a text, where it can be loaded.
     fn text_length(&self, text: u64) -> Result<u64, Outcome>
-        ensures { result ≡ or_trap 2 (memory_of (program_of self.now) (state_of self.now) (add_words text 1)) }
+        ensures { result ≡ or_trap 2 (memory_of (program_of self.now) (state_of self.now)
+            (add_words text 1)) }
     {
         match self.memory.load(text.wrapping_add(1)) {
             Some(bytes) => Ok(bytes),
@@ -235,7 +258,8 @@ impl<'a, S: Store> Parts<'a, S> {
 
     /// The lengths of two texts, loaded one after the other.
     fn text_lengths(&self, left: u64, right: u64) -> Result<(u64, u64), Outcome>
-        ensures { result ≡ lengths_at (memory_of (program_of self.now) (state_of self.now)) left right }
+        ensures { result ≡ lengths_at (memory_of (program_of self.now) (state_of self.now)) left
+            right }
     {
         let left = self.text_length(left)?;
         let right = self.text_length(right)?;
@@ -251,7 +275,9 @@ impl<'a, S: Store> Parts<'a, S> {
         ensures rest { rest_of self.new ≡ record (rest_of self.old) { stuck = self.new.stuck } }
         ensures going { goes_on result ≡ true → self.new.stuck ≡ self.old.stuck }
         ensures cats { IsGoing self.old → (t : Thread) → Running self.old t
-            → Cats (program_of self.old) i (state_of self.old) (lengths_at (memory_of (program_of self.old) (state_of self.old)) (reg t.regs i.b) (reg t.regs i.c)) (became result (state_of self.new)) }
+            → Cats (program_of self.old) i (state_of self.old)
+            (lengths_at (memory_of (program_of self.old) (state_of self.old)) (reg t.regs i.b)
+            (reg t.regs i.c)) (became result (state_of self.new)) }
     {
         let left_text = self.word(i.b);
         let right_text = self.word(i.c);
@@ -268,8 +294,10 @@ impl<'a, S: Store> Parts<'a, S> {
         requires right { i.c < 16 }
         ensures rest { rest_of self.new ≡ record (rest_of self.old) { stuck = self.new.stuck } }
         ensures going { goes_on result ≡ true → self.new.stuck ≡ self.old.stuck }
-        ensures makes { IsGoing self.old → Makes_text (program_of self.old) i.a (state_of self.old) (left + right)
-            (λ memory u. both (part_of memory (reg u.regs i.b) 0 left) (part_of memory (reg u.regs i.c) 0 right)) (became result (state_of self.new)) }
+        ensures makes { IsGoing self.old → Makes_text (program_of self.old) i.a (state_of self.old)
+            (left + right)
+            (λ memory u. both (part_of memory (reg u.regs i.b) 0 left)
+            (part_of memory (reg u.regs i.c) 0 right)) (became result (state_of self.new)) }
     {
         let words = words_for(left, right);
         match self.make_cell(0, words) {
@@ -287,7 +315,10 @@ impl<'a, S: Store> Parts<'a, S> {
         requires low { start + text_words (left + right) ≤ 2 ^ 63 }
         requires new { HasNew 0 (text_words (left + right)) start (state_of self.old) }
         ensures rest { rest_of self.new ≡ rest_of self.old }
-        ensures fills { GivesText (program_of self.old) i.a (λ memory u. both (part_of memory (reg u.regs i.b) 0 left) (part_of memory (reg u.regs i.c) 0 right)) (Ok start) (state_of self.old) (became result (state_of self.new)) }
+        ensures fills { GivesText (program_of self.old) i.a
+            (λ memory u. both (part_of memory (reg u.regs i.b) 0 left)
+            (part_of memory (reg u.regs i.c) 0 right)) (Ok start) (state_of self.old)
+            (became result (state_of self.new)) }
     {
         let words = words_for(left, right);
         let left_text = self.word(i.b);
@@ -312,7 +343,8 @@ impl<'a, S: Store> Parts<'a, S> {
         requires byte { i.b < 16 }
         ensures rest { rest_of self.new ≡ record (rest_of self.old) { stuck = self.new.stuck } }
         ensures going { goes_on result ≡ true → self.new.stuck ≡ self.old.stuck }
-        ensures makes { IsGoing self.old → Makes_char (program_of self.old) i (state_of self.old) (became result (state_of self.new)) }
+        ensures makes { IsGoing self.old → Makes_char (program_of self.old) i (state_of self.old)
+            (became result (state_of self.new)) }
     {
         match self.make_cell(0, 3) {
             Ok(start) => self.fill_char(i, start),
@@ -327,7 +359,9 @@ impl<'a, S: Store> Parts<'a, S> {
         requires low { start + 3 ≤ 2 ^ 63 }
         requires new { HasNew 0 3 start (state_of self.old) }
         ensures rest { rest_of self.new ≡ rest_of self.old }
-        ensures fills { GivesText (program_of self.old) i.a (λ memory u. Some (reg u.regs i.b % 256 ∷ [])) (Ok start) (state_of self.old) (became result (state_of self.new)) }
+        ensures fills { GivesText (program_of self.old) i.a
+            (λ memory u. Some (reg u.regs i.b % 256 ∷ [])) (Ok start) (state_of self.old)
+            (became result (state_of self.new)) }
     {
         let low = self.word(i.b);
         self.set_word(start + 1, 1);
@@ -352,7 +386,9 @@ impl<'a, S: Store> Parts<'a, S> {
         ensures rest { rest_of self.new ≡ record (rest_of self.old) { stuck = self.new.stuck } }
         ensures going { goes_on result ≡ true → self.new.stuck ≡ self.old.stuck }
         ensures subs { IsGoing self.old → (t : Thread) → Running self.old t
-            → Subs (program_of self.old) t i (state_of self.old) (or_trap 2 (memory_of (program_of self.old) (state_of self.old) (add_words (reg t.regs i.b) 1))) (became result (state_of self.new)) }
+            → Subs (program_of self.old) t i (state_of self.old)
+            (or_trap 2 (memory_of (program_of self.old) (state_of self.old)
+            (add_words (reg t.regs i.b) 1))) (became result (state_of self.new)) }
     {
         let text = self.word(i.b);
         let from = self.word(i.c);
@@ -371,8 +407,10 @@ impl<'a, S: Store> Parts<'a, S> {
         requires text { i.b < 16 }
         ensures rest { rest_of self.new ≡ record (rest_of self.old) { stuck = self.new.stuck } }
         ensures going { goes_on result ≡ true → self.new.stuck ≡ self.old.stuck }
-        ensures makes { IsGoing self.old → Makes_text (program_of self.old) i.a (state_of self.old) (sub_count bytes from most)
-            (λ memory u. part_of memory (reg u.regs i.b) from (sub_count bytes from most)) (became result (state_of self.new)) }
+        ensures makes { IsGoing self.old → Makes_text (program_of self.old) i.a (state_of self.old)
+            (sub_count bytes from most)
+            (λ memory u. part_of memory (reg u.regs i.b) from (sub_count bytes from most))
+            (became result (state_of self.new)) }
     {
         let count = cut_length(bytes, from, most);
         let words = words_for(count, 0);
@@ -391,7 +429,9 @@ impl<'a, S: Store> Parts<'a, S> {
         requires low { start + text_words count ≤ 2 ^ 63 }
         requires new { HasNew 0 (text_words count) start (state_of self.old) }
         ensures rest { rest_of self.new ≡ rest_of self.old }
-        ensures fills { GivesText (program_of self.old) i.a (λ memory u. part_of memory (reg u.regs i.b) from count) (Ok start) (state_of self.old) (became result (state_of self.new)) }
+        ensures fills { GivesText (program_of self.old) i.a
+            (λ memory u. part_of memory (reg u.regs i.b) from count) (Ok start) (state_of self.old)
+            (became result (state_of self.new)) }
     {
         let words = words_for(count, 0);
         let text = self.word(i.b);
@@ -411,7 +451,9 @@ impl<'a, S: Store> Parts<'a, S> {
         ensures rises { O.faults out.old ≤ O.faults out.new }
         ensures kept { OnOk result (O.faults out.new ≡ O.faults out.old) }
         ensures failed { OnErr result (Rose (O.faults out.old) (O.faults out.new)) }
-        ensures took { OnOk result (Took (O.taken out.old) (O.taken out.new) (text_bytes (memory_of (program_of self.now) (state_of self.now)) part.text 0 part.count)) }
+        ensures took { OnOk result (Took (O.taken out.old) (O.taken out.new)
+            (text_bytes (memory_of (program_of self.now) (state_of self.now)) part.text 0
+            part.count)) }
     {
         'pieces: for k in 0..part.count.div_ceil(8) {
             let word = self.memory.load(part.text.wrapping_add(2 + k)).unwrap_or(0);
@@ -430,8 +472,12 @@ impl<'a, S: Store> Parts<'a, S> {
         ensures failed { OnErr result (Rose (O.faults out.old) (O.faults out.new)) }
         ensures rest { rest_of self.new ≡ rest_of self.old }
         ensures puts { IfOk result (λ progress. (t : Thread) → Running self.old t
-            → Took (O.taken out.old) (O.taken out.new) (bytes_of (puts_text i t.regs (memory_of (program_of self.old) (state_of self.old))))
-            × Follows (program_of self.old) (puts_text i t.regs (memory_of (program_of self.old) (state_of self.old))) (state_of self.old) (became progress (state_of self.new))) }
+            → Took (O.taken out.old) (O.taken out.new)
+            (bytes_of (puts_text i t.regs
+            (memory_of (program_of self.old) (state_of self.old))))
+            × Follows (program_of self.old) (puts_text i t.regs
+            (memory_of (program_of self.old) (state_of self.old))) (state_of self.old)
+            (became progress (state_of self.new))) }
     {
         let text = self.word(i.a);
         let count = match self.memory.load(text.wrapping_add(1)) {

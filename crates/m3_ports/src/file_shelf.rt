@@ -24,7 +24,12 @@ impl<'a, R> Model for FileShelf<'a, R> {
 
     ghost Value = { ShelfCounts };
 
-    ghost view = { λ s. record { faults = s.faults; store_faults = s.store_faults; absences = s.absences; excesses = s.excesses } };
+    ghost view = { λ s. record {
+      faults = s.faults;
+      store_faults = s.store_faults;
+      absences = s.absences;
+      excesses = s.excesses;
+    } };
 }
 
 impl<'a, R> FileShelf<'a, R> {

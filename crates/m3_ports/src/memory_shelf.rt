@@ -1,4 +1,6 @@
-ghost use Rattle.std.specs.Prelude.{◌≡◌, ◌≤◌, ◌<◌, ◌++◌, ◌⊎◌, ℕ, List, [], ◌∷◌, Option, Some, IfOk, OnOk, OnErr, IfSome, IsErr, IsErrOf, is_some, length, take, Contains, IsTrue, ◌↔◌};
+ghost use Rattle.std.specs.Prelude.{◌≡◌, ◌≤◌, ◌<◌, ◌++◌, ◌⊎◌, ℕ, List, [], ◌∷◌, Option, Some, IfOk};
+ghost use Rattle.std.specs.Prelude.{OnOk, OnErr, IfSome, IsErr, IsErrOf, is_some, length, take};
+ghost use Rattle.std.specs.Prelude.{Contains, IsTrue, ◌↔◌};
 ghost use Rattle.std.specs.Option.{option_map, option_copied};
 ghost use Rattle.std.specs.FinMap.{insert, get, from_entries};
 ghost use Rattle.m3_ports.specs.Counts.{Rose, raised};
@@ -33,7 +35,15 @@ impl Model for MemShelf {
 
     ghost coded = { holding_code };
 
-    ghost view = { λ s. record { files = files_of s.log.items; calls = s.calls; faults = s.faults; store_faults = s.store_faults; absences = s.absences; excesses = s.excesses; failing = s.failing.items } };
+    ghost view = { λ s. record {
+      files = files_of s.log.items;
+      calls = s.calls;
+      faults = s.faults;
+      store_faults = s.store_faults;
+      absences = s.absences;
+      excesses = s.excesses;
+      failing = s.failing.items;
+    } };
 }
 
 impl MemShelf {
@@ -54,7 +64,8 @@ impl MemShelf {
 
     /// Has the call of this number fail.
     pub fn fail_at(&mut self, call: u64) -> Result<(), NoMemory>
-        ensures ok { OnOk result (self.new ≡ record self.old { failing = self.old.failing ++ call ∷ [] }) }
+        ensures ok { OnOk result (self.new ≡ record self.old
+            { failing = self.old.failing ++ call ∷ [] }) }
         ensures err { OnErr result (self.new ≡ self.old) }
     {
         self.failing.push(call)?;
@@ -89,7 +100,8 @@ fn take_newest(
     fails: bool,
     into: &mut Vec<u8>,
 ) -> Result<(), ShelfFault>
-    ensures fetches { Fetches (Some (files_of log.now.items)) name.now cap into.old.items into.new.items result }
+    ensures fetches { Fetches (Some (files_of log.now.items)) name.now cap into.old.items
+        into.new.items result }
     ensures named { IsTrue fails → IsErr result }
     ensures only_named { IsErrOf result ShelfFault.Failed → IsTrue fails }
 {
@@ -140,9 +152,12 @@ impl Shelf for MemShelf {
         ensures absences { self.old.absences ≤ self.new.absences }
         ensures excesses { self.old.excesses ≤ self.new.excesses }
 
-        ensures fetches { Fetches (Some self.old.files) name.now cap into.old.items into.new.items result }
-        ensures absent { IsErrOf result ShelfFault.Absent → Rose self.old.absences self.new.absences }
-        ensures too_long { IsErrOf result ShelfFault.TooLong → Rose self.old.excesses self.new.excesses }
+        ensures fetches { Fetches (Some self.old.files) name.now cap into.old.items into.new.items
+            result }
+        ensures absent { IsErrOf result ShelfFault.Absent
+            → Rose self.old.absences self.new.absences }
+        ensures too_long { IsErrOf result ShelfFault.TooLong
+            → Rose self.old.excesses self.new.excesses }
         ensures failed { IsErrOf result ShelfFault.Failed → Rose self.old.faults self.new.faults }
     {
         self.calls = self.calls.saturating_add(1);
@@ -168,12 +183,17 @@ impl Shelf for MemShelf {
         ensures excesses { self.old.excesses ≤ self.new.excesses }
         ensures told { is_some (Some self.new.files) ≡ is_some (Some self.old.files) }
 
-        ensures ok { OnOk result (Some self.new.files ≡ option_map (λ files. insert files name.now bytes.now) (Some self.old.files)) }
+        ensures ok { OnOk result (Some self.new.files
+            ≡ option_map (λ files. insert files name.now bytes.now) (Some self.old.files)) }
 
         ensures not_absent { IsErrOf result ShelfFault.Absent → ⊥ }
         ensures not_too_long { IsErrOf result ShelfFault.TooLong → ⊥ }
-        ensures failed { IsErrOf result ShelfFault.Failed → Rose self.old.store_faults self.new.store_faults × IfSome (Some self.old.files) (λ old. IfSome (Some self.new.files) (λ new. LeavesFront old new name.now bytes.now)) }
-        ensures no_memory { IsErrOf result ShelfFault.NoMemory → Some self.new.files ≡ Some self.old.files }
+        ensures failed { IsErrOf result ShelfFault.Failed
+            → Rose self.old.store_faults self.new.store_faults
+            × IfSome (Some self.old.files) (λ old. IfSome (Some self.new.files)
+            (λ new. LeavesFront old new name.now bytes.now)) }
+        ensures no_memory { IsErrOf result ShelfFault.NoMemory
+            → Some self.new.files ≡ Some self.old.files }
     {
         self.calls = self.calls.saturating_add(1);
         if is_named(self.failing.as_slice(), self.calls) {

@@ -1,4 +1,5 @@
-ghost use Rattle.std.specs.Prelude.{◌≡◌, ◌≤◌, ◌++◌, ℕ, List, [], ◌∷◌, Some, IfOk, OnOk, OnErr, IfSome, IsErr, ◌↔◌, is_some};
+ghost use Rattle.std.specs.Prelude.{◌≡◌, ◌≤◌, ◌++◌, ℕ, List, [], ◌∷◌, Some, IfOk, OnOk, OnErr};
+ghost use Rattle.std.specs.Prelude.{IfSome, IsErr, ◌↔◌, is_some};
 ghost use Rattle.m3_ports.specs.Counts.{Rose, raised};
 ghost use Rattle.m3_ports.specs.Files.{IsFront};
 ghost use Rattle.m3_ports.specs.Memory.{PutFails};
@@ -25,7 +26,13 @@ impl Model for MemSink {
 
     ghost Value = { Taking };
 
-    ghost view = { λ s. record { taken = s.bytes.items; room = s.room; puts = s.puts; faults = s.faults; failing = s.failing.items } };
+    ghost view = { λ s. record {
+      taken = s.bytes.items;
+      room = s.room;
+      puts = s.puts;
+      faults = s.faults;
+      failing = s.failing.items;
+    } };
 
     ghost invariant = { λ s. (vec_len s.bytes ≤ s.room) × (s.room ≤ vec_capacity s.bytes) };
 }
@@ -33,7 +40,8 @@ impl Model for MemSink {
 impl MemSink {
     /// An empty sink with room for so many bytes.
     pub fn with_room(alloc: Global, bytes: u64) -> Result<MemSink, NoMemory>
-        ensures { IfOk result (λ sink. sink ≡ record { taken = []; room = bytes; puts = 0; faults = 0; failing = [] }) }
+        ensures { IfOk result (λ sink. sink ≡ record
+            { taken = []; room = bytes; puts = 0; faults = 0; failing = [] }) }
     {
         let room = bytes as usize;
         Ok(MemSink {
@@ -47,7 +55,8 @@ impl MemSink {
 
     /// Has the put of this number fail.
     pub fn fail_at(&mut self, call: u64) -> Result<(), NoMemory>
-        ensures ok { OnOk result (self.new ≡ record self.old { failing = self.old.failing ++ call ∷ [] }) }
+        ensures ok { OnOk result (self.new ≡ record self.old
+            { failing = self.old.failing ++ call ∷ [] }) }
         ensures err { OnErr result (self.new ≡ self.old) }
     {
         self.failing.push(call)?;
@@ -69,14 +78,19 @@ impl Sink for MemSink {
 
     fn put(&mut self, piece: &[u8]) -> Result<(), SinkFailed>
         ensures fails { IsErr result ↔ PutFails self.old piece.now }
-        ensures took { OnOk result (self.new ≡ record self.old { taken = self.old.taken ++ piece.now; puts = raised self.old.puts }) }
-        ensures refused { OnErr result (self.new ≡ record self.old { puts = raised self.old.puts; faults = raised self.old.faults }) }
+        ensures took { OnOk result (self.new ≡ record self.old
+            { taken = self.old.taken ++ piece.now; puts = raised self.old.puts }) }
+        ensures refused { OnErr result (self.new
+            ≡ record self.old { puts = raised self.old.puts; faults = raised self.old.faults }) }
 
         ensures faults { self.old.faults ≤ self.new.faults }
         ensures told { is_some (Some self.new.taken) ≡ is_some (Some self.old.taken) }
         ensures kept { OnOk result (self.new.faults ≡ self.old.faults) }
-        ensures ok { OnOk result (IfSome (Some self.old.taken) (λ bytes. Some self.new.taken ≡ Some (bytes ++ piece.now))) }
-        ensures failed { OnErr result (Rose self.old.faults self.new.faults × IfSome (Some self.old.taken) (λ bytes. (part : List ℕ) × IsFront part piece.now × (Some self.new.taken ≡ Some (bytes ++ part)))) }
+        ensures ok { OnOk result (IfSome (Some self.old.taken)
+            (λ bytes. Some self.new.taken ≡ Some (bytes ++ piece.now))) }
+        ensures failed { OnErr result (Rose self.old.faults self.new.faults
+            × IfSome (Some self.old.taken) (λ bytes. (part : List ℕ) × IsFront part piece.now
+            × (Some self.new.taken ≡ Some (bytes ++ part)))) }
     {
         self.puts = self.puts.saturating_add(1);
         let fails = self.failing.contains(&self.puts);

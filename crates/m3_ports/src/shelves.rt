@@ -49,10 +49,14 @@ pub trait Shelf {
         ensures absences { absences self.old ≤ absences self.new }
         ensures excesses { excesses self.old ≤ excesses self.new }
 
-        ensures fetches { Fetches (held self.old) name.now cap into.old.items into.new.items result }
-        ensures absent { IsErrOf result ShelfFault.Absent → Rose (absences self.old) (absences self.new) }
-        ensures too_long { IsErrOf result ShelfFault.TooLong → Rose (excesses self.old) (excesses self.new) }
-        ensures failed { IsErrOf result ShelfFault.Failed → Rose (faults self.old) (faults self.new) };
+        ensures fetches { Fetches (held self.old) name.now cap into.old.items into.new.items
+            result }
+        ensures absent { IsErrOf result ShelfFault.Absent
+            → Rose (absences self.old) (absences self.new) }
+        ensures too_long { IsErrOf result ShelfFault.TooLong
+            → Rose (excesses self.old) (excesses self.new) }
+        ensures failed { IsErrOf result ShelfFault.Failed
+            → Rose (faults self.old) (faults self.new) };
 
     /// Keeps the bytes under the name, in the place of what was there. A write that failed may have
     /// left a front of them; want of memory leaves all as it was.
@@ -63,10 +67,14 @@ pub trait Shelf {
         ensures excesses { excesses self.old ≤ excesses self.new }
         ensures told { is_some (held self.new) ≡ is_some (held self.old) }
 
-        ensures ok { OnOk result (held self.new ≡ option_map (λ files. insert files name.now bytes.now) (held self.old)) }
+        ensures ok { OnOk result (held self.new
+            ≡ option_map (λ files. insert files name.now bytes.now) (held self.old)) }
 
         ensures not_absent { IsErrOf result ShelfFault.Absent → ⊥ }
         ensures not_too_long { IsErrOf result ShelfFault.TooLong → ⊥ }
-        ensures failed { IsErrOf result ShelfFault.Failed → Rose (store_faults self.old) (store_faults self.new) × IfSome (held self.old) (λ old. IfSome (held self.new) (λ new. LeavesFront old new name.now bytes.now)) }
+        ensures failed { IsErrOf result ShelfFault.Failed
+            → Rose (store_faults self.old) (store_faults self.new)
+            × IfSome (held self.old) (λ old. IfSome (held self.new)
+            (λ new. LeavesFront old new name.now bytes.now)) }
         ensures no_memory { IsErrOf result ShelfFault.NoMemory → held self.new ≡ held self.old };
 }

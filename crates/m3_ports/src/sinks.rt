@@ -1,4 +1,5 @@
-ghost use Rattle.std.specs.Prelude.{◌≡◌, ◌≤◌, ◌++◌, ℕ, List, Option, Some, OnOk, OnErr, IfSome, is_some};
+ghost use Rattle.std.specs.Prelude.{◌≡◌, ◌≤◌, ◌++◌, ℕ, List, Option, Some, OnOk, OnErr, IfSome};
+ghost use Rattle.std.specs.Prelude.{is_some};
 ghost use Rattle.m3_ports.specs.Counts.{Rose};
 ghost use Rattle.m3_ports.specs.Files.{IsFront};
 
@@ -19,6 +20,9 @@ pub trait Sink {
         ensures faults { faults self.old ≤ faults self.new }
         ensures told { is_some (taken self.new) ≡ is_some (taken self.old) }
         ensures kept { OnOk result (faults self.new ≡ faults self.old) }
-        ensures ok { OnOk result (IfSome (taken self.old) (λ bytes. taken self.new ≡ Some (bytes ++ piece.now))) }
-        ensures failed { OnErr result (Rose (faults self.old) (faults self.new) × IfSome (taken self.old) (λ bytes. (part : List ℕ) × IsFront part piece.now × (taken self.new ≡ Some (bytes ++ part)))) };
+        ensures ok { OnOk result (IfSome (taken self.old)
+            (λ bytes. taken self.new ≡ Some (bytes ++ piece.now))) }
+        ensures failed { OnErr result (Rose (faults self.old) (faults self.new)
+            × IfSome (taken self.old) (λ bytes. (part : List ℕ) × IsFront part piece.now
+            × (taken self.new ≡ Some (bytes ++ part)))) };
 }

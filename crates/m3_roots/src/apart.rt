@@ -21,8 +21,10 @@ pub fn take_apart<L: Ledger>(
     stack: &mut [u64],
     steps: &mut Steps<L>,
 ) -> bool
-    ensures { HaveRows (image_of image.now).program frames.now → (let ds = derived_words (image_of image.now).program frames.now in
-        MatchBool result (apart ds (r.old ++ stack.old) ≡ Some (r.new ++ stack.new)) (apart ds (r.old ++ stack.old) ≡ None)) }
+    ensures { HaveRows (image_of image.now).program frames.now
+        → (let ds = derived_words (image_of image.now).program frames.now in
+        MatchBool result (apart ds (r.old ++ stack.old) ≡ Some (r.new ++ stack.new))
+        (apart ds (r.old ++ stack.old) ≡ None)) }
 {
     for frame in frames {
         let Some(row) = row_of(image, frame) else {
@@ -43,8 +45,10 @@ pub fn put_together<L: Ledger>(
     stack: &mut [u64],
     steps: &mut Steps<L>,
 ) -> bool
-    ensures { HaveRows (image_of image.now).program frames.now → (let ds = derived_words (image_of image.now).program frames.now in
-        MatchBool result (together ds (r.old ++ stack.old) ≡ Some (r.new ++ stack.new)) (together ds (r.old ++ stack.old) ≡ None)) }
+    ensures { HaveRows (image_of image.now).program frames.now
+        → (let ds = derived_words (image_of image.now).program frames.now in
+        MatchBool result (together ds (r.old ++ stack.old) ≡ Some (r.new ++ stack.new))
+        (together ds (r.old ++ stack.old) ≡ None)) }
 {
     let mut k = frames.len();
     while k > 0 {

@@ -4,7 +4,8 @@ ghost use Rattle.std.specs.Bool.{MatchBool};
 ghost use Rattle.std.specs.Option.{option_map};
 ghost use Rattle.m3_tables.specs.Views.{numbers_of, bases_of, entry_of};
 ghost use Rattle.m3_tables.specs.Tables.{derived_in};
-ghost use Rattle.m3_roots.specs.ThreadWords.{places_from, derived_at, derived_from, way_at, sum_at, bases_by_way};
+ghost use Rattle.m3_roots.specs.ThreadWords.{places_from, derived_at, derived_from, way_at, sum_at};
+ghost use Rattle.m3_roots.specs.ThreadWords.{bases_by_way};
 ghost use Rattle.m3_roots.specs.TakingApart.{apart_at, apart, together_at, together};
 
 use crate::places::{set_word, word_at};
@@ -38,7 +39,8 @@ fn way_of<'a>(
     first: usize,
     entry: &Derivation<'a>,
 ) -> Option<WayView<'a>>
-    ensures { option_map bases_of result ≡ way_at (r.now ++ stack.now) (derived_at first (entry_of entry.now)) }
+    ensures { option_map bases_of result ≡ way_at (r.now ++ stack.now)
+        (derived_at first (entry_of entry.now)) }
 {
     let number = match entry.path_number() {
         Some(path) => word_at(r, stack, first, path),
@@ -63,7 +65,8 @@ fn bases_of<L: Ledger>(
     entry: &Derivation<'_>,
     steps: &mut Steps<L>,
 ) -> Option<u64>
-    ensures { result ≡ option_map (bases_by_way (r.now ++ stack.now) first) (way_at (r.now ++ stack.now) (derived_at first (entry_of entry.now))) }
+    ensures { result ≡ option_map (bases_by_way (r.now ++ stack.now) first)
+        (way_at (r.now ++ stack.now) (derived_at first (entry_of entry.now))) }
 {
     let way = way_of(r, stack, first, entry)?;
     let added = sum_of(r, stack, first, way.added, steps);
@@ -81,7 +84,8 @@ fn subtract<L: Ledger>(
     steps: &mut Steps<L>,
 ) -> bool
     ensures { let d = derived_at first (entry_of entry.now) in
-        MatchBool result (apart_at d (r.old ++ stack.old) ≡ Some (r.new ++ stack.new)) (apart_at d (r.old ++ stack.old) ≡ None) }
+        MatchBool result (apart_at d (r.old ++ stack.old) ≡ Some (r.new ++ stack.new))
+        (apart_at d (r.old ++ stack.old) ≡ None) }
 {
     let Some(bases) = bases_of(r, stack, first, entry, steps) else {
         return false;
@@ -101,7 +105,8 @@ fn add<L: Ledger>(
     steps: &mut Steps<L>,
 ) -> bool
     ensures { let d = derived_at first (entry_of entry.now) in
-        MatchBool result (together_at d (r.old ++ stack.old) ≡ Some (r.new ++ stack.new)) (together_at d (r.old ++ stack.old) ≡ None) }
+        MatchBool result (together_at d (r.old ++ stack.old) ≡ Some (r.new ++ stack.new))
+        (together_at d (r.old ++ stack.old) ≡ None) }
 {
     let Some(bases) = bases_of(r, stack, first, entry, steps) else {
         return false;
@@ -121,7 +126,8 @@ pub fn take_row_apart<L: Ledger>(
     steps: &mut Steps<L>,
 ) -> bool
     ensures { let ds = derived_from first (derived_in row.now) in
-        MatchBool result (apart ds (r.old ++ stack.old) ≡ Some (r.new ++ stack.new)) (apart ds (r.old ++ stack.old) ≡ None) }
+        MatchBool result (apart ds (r.old ++ stack.old) ≡ Some (r.new ++ stack.new))
+        (apart ds (r.old ++ stack.old) ≡ None) }
 {
     for entry in row.derivations() {
         if !subtract(first, &entry, r, stack, steps) {
@@ -150,7 +156,8 @@ pub fn put_row_together<L: Ledger>(
     steps: &mut Steps<L>,
 ) -> bool
     ensures { let ds = derived_from first (derived_in row.now) in
-        MatchBool result (together ds (r.old ++ stack.old) ≡ Some (r.new ++ stack.new)) (together ds (r.old ++ stack.old) ≡ None) }
+        MatchBool result (together ds (r.old ++ stack.old) ≡ Some (r.new ++ stack.new))
+        (together ds (r.old ++ stack.old) ≡ None) }
 {
     let mut k = count_of(row);
     while k > 0 {

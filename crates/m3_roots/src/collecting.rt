@@ -1,5 +1,6 @@
 //! All threads and the globals, one after the other, before and after the cells are moved.
-ghost use Rattle.std.specs.Prelude.{◌≡◌, ◌≤◌, ◌+◌, ℕ, true, false, List, map, length, IfSome, IfNone, IsSome, Some};
+ghost use Rattle.std.specs.Prelude.{◌≡◌, ◌≤◌, ◌+◌, ℕ, true, false, List, map, length, IfSome};
+ghost use Rattle.std.specs.Prelude.{IfNone, IsSome, Some};
 ghost use Rattle.std.specs.Bool.{OnTrue, OnFalse};
 ghost use Rattle.m3_heap.specs.Cells.{Cell};
 ghost use Rattle.m3_heap.specs.Moves.{Move};
@@ -13,9 +14,11 @@ ghost use Rattle.m3_frames.specs.declared.frame.Frame.{Frame as AFrame};
 ghost use Rattle.m3_roots.specs.RoomSizes.{IsRoomFor};
 ghost use Rattle.m3_roots.specs.Visiting.{KeepsHeap};
 ghost use Rattle.m3_roots.specs.Gathering.{Gathers, GoesOn};
-ghost use Rattle.m3_roots.specs.Collected.{Parts, words_at, AreFrames, MovesThreads, Collected, StopsCollection};
+ghost use Rattle.m3_roots.specs.Collected.{Parts, words_at, AreFrames, MovesThreads, Collected};
+ghost use Rattle.m3_roots.specs.Collected.{StopsCollection};
 ghost use Rattle.m3_roots.specs.Offsets.{AllKeepOffsets};
-ghost use Rattle.m3_roots.specs.ThreadsGathered.{GathersThread, StopsThreadHere, MendsThread, AllGathered, Visited, Opens};
+ghost use Rattle.m3_roots.specs.ThreadsGathered.{GathersThread, StopsThreadHere, MendsThread};
+ghost use Rattle.m3_roots.specs.ThreadsGathered.{AllGathered, Visited, Opens};
 
 use crate::gathering::{gather, mend};
 use crate::room::Room;
@@ -33,9 +36,12 @@ use std::sync::ledger::Ledger;
 fn frames_of(image: &Decoded<'_>, threads: &Threads, thread: u64, room: &mut Room) -> Option<Regs>
     ensures there { IfSome result (λ _. IsSome (thread_named threads.now thread)) }
     ensures framed { (t : Thread) → thread_named threads.now thread ≡ Some t
-        → IfSome result (λ regs. (regs ≡ t.regs) × AreFrames (image_of image.now).program threads.now t room.new.frames.items) }
-    ensures none { (t : Thread) → thread_named threads.now thread ≡ Some t → IsRoomFor (length (words_of threads.now t)) room.old
-        → IfNone result ((frames : List AFrame) → AreFrames (image_of image.now).program threads.now t frames → ⊥) }
+        → IfSome result (λ regs. (regs ≡ t.regs)
+        × AreFrames (image_of image.now).program threads.now t room.new.frames.items) }
+    ensures none { (t : Thread) → thread_named threads.now thread ≡ Some t
+        → IsRoomFor (length (words_of threads.now t)) room.old
+        → IfNone result ((frames : List AFrame)
+        → AreFrames (image_of image.now).program threads.now t frames → ⊥) }
     ensures room { (stack : ℕ) → IsRoomFor stack room.old → IsRoomFor stack room.new }
 {
     let base = threads.stack_at(thread)?;
@@ -49,7 +55,8 @@ fn frames_of(image: &Decoded<'_>, threads: &Threads, thread: u64, room: &mut Roo
 }
 
 fn set_regs(threads: &mut Threads, thread: u64, regs: Regs)
-    ensures set { (t : Thread) → thread_named threads.old thread ≡ Some t → threads.new ≡ with_regs threads.old thread regs }
+    ensures set { (t : Thread) → thread_named threads.old thread ≡ Some t
+        → threads.new ≡ with_regs threads.old thread regs }
     ensures forks { threads.new.forks ≡ threads.old.forks }
     ensures waits { threads.new.waits ≡ threads.old.waits }
 {
@@ -68,10 +75,14 @@ fn visit_thread<S: Store, L: Ledger>(
     steps: &mut Steps<L>,
 ) -> bool
     requires open { (S.heap store.old).is_open ≡ true }
-    ensures gathered { (t : Thread) → thread_named threads.old thread ≡ Some t → IsRoomFor (length (words_of threads.old t)) room.old
-        → OnTrue result (GathersThread (image_of image.now).program (S.heap store.old).cells t threads.old (S.heap store.old).moves threads.new (S.heap store.new).moves) }
-    ensures stopped { (t : Thread) → thread_named threads.old thread ≡ Some t → IsRoomFor (length (words_of threads.old t)) room.old
-        → OnFalse result (StopsThreadHere (image_of image.now).program (S.heap store.old).cells t threads.old (S.heap store.old).moves) }
+    ensures gathered { (t : Thread) → thread_named threads.old thread ≡ Some t
+        → IsRoomFor (length (words_of threads.old t)) room.old
+        → OnTrue result (GathersThread (image_of image.now).program (S.heap store.old).cells t
+        threads.old (S.heap store.old).moves threads.new (S.heap store.new).moves) }
+    ensures stopped { (t : Thread) → thread_named threads.old thread ≡ Some t
+        → IsRoomFor (length (words_of threads.old t)) room.old
+        → OnFalse result (StopsThreadHere (image_of image.now).program (S.heap store.old).cells t
+        threads.old (S.heap store.old).moves) }
     ensures heap { KeepsHeap (S.heap store.old) (S.heap store.new) }
     ensures fitting { (shapes : List Shape) → S.fits store.old shapes → S.fits store.new shapes }
     ensures room { (stack : ℕ) → IsRoomFor stack room.old → IsRoomFor stack room.new }
@@ -105,8 +116,10 @@ fn visit_threads<S: Store, L: Ledger>(
 ) -> bool
     requires open { (S.heap store.old).is_open ≡ true }
     ensures gathered { IsRoomFor threads.old.stack room.old
-        → OnTrue result (AllGathered (image_of image.now).program (S.heap store.old).cells threads.old threads.new (S.heap store.old).moves (S.heap store.new).moves) }
-    ensures stopped { (s : Parts) → s.all ≡ threads.old → s.heap.cells ≡ (S.heap store.old).cells → IsRoomFor threads.old.stack room.old
+        → OnTrue result (AllGathered (image_of image.now).program (S.heap store.old).cells
+        threads.old threads.new (S.heap store.old).moves (S.heap store.new).moves) }
+    ensures stopped { (s : Parts) → s.all ≡ threads.old → s.heap.cells ≡ (S.heap store.old).cells
+        → IsRoomFor threads.old.stack room.old
         → OnFalse result (StopsCollection (image_of image.now).program s) }
     ensures heap { KeepsHeap (S.heap store.old) (S.heap store.new) }
     ensures fitting { (shapes : List Shape) → S.fits store.old shapes → S.fits store.new shapes }
@@ -139,9 +152,12 @@ fn visit_roots<S: Store, L: Ledger>(
 ) -> bool
     requires closed { (S.heap store.old).is_open ≡ false }
     ensures visited { IsRoomFor threads.old.stack room.old
-        → OnTrue result (Visited (image_of image.now).program (record { all = threads.old; globals = globals.old; heap = S.heap store.old }) threads.new globals.new (S.heap store.new).moves) }
+        → OnTrue result (Visited (image_of image.now).program
+        (record { all = threads.old; globals = globals.old; heap = S.heap store.old })
+        threads.new globals.new (S.heap store.new).moves) }
     ensures stopped { IsRoomFor threads.old.stack room.old
-        → OnFalse result (StopsCollection (image_of image.now).program (record { all = threads.old; globals = globals.old; heap = S.heap store.old })) }
+        → OnFalse result (StopsCollection (image_of image.now).program
+        (record { all = threads.old; globals = globals.old; heap = S.heap store.old })) }
     ensures heap { Opens (S.heap store.old) (S.heap store.new) }
     ensures fitting { (shapes : List Shape) → S.fits store.old shapes → S.fits store.new shapes }
     ensures words { length globals.new ≡ length globals.old }
@@ -166,9 +182,14 @@ fn mend_thread<L: Ledger>(
     room: &mut Room,
     steps: &mut Steps<L>,
 ) -> bool
-    ensures mended { (t : Thread) (frames : List AFrame) (cells : List Cell) (words : List ℕ) (before after last : List Move) → thread_named threads.old thread ≡ Some t → IsRoomFor (length (words_of threads.old t)) room.old
-        → AreFrames (image_of image.now).program threads.old t frames → Gathers (image_of image.now).program cells frames words before (words_at threads.old t) after
-        → length words ≡ length (words_of threads.old t) + 16 → GoesOn after last → (result ≡ true) × MendsThread (image_of image.now).program last frames t words threads.old threads.new }
+    ensures mended { (t : Thread) (frames : List AFrame) (cells : List Cell) (words : List ℕ)
+        (before after last : List Move) → thread_named threads.old thread ≡ Some t
+        → IsRoomFor (length (words_of threads.old t)) room.old
+        → AreFrames (image_of image.now).program threads.old t frames
+        → Gathers (image_of image.now).program cells frames words before
+        (words_at threads.old t) after
+        → length words ≡ length (words_of threads.old t) + 16 → GoesOn after last → (result ≡ true)
+        × MendsThread (image_of image.now).program last frames t words threads.old threads.new }
     ensures room { (stack : ℕ) → IsRoomFor stack room.old → IsRoomFor stack room.new }
     ensures forks { threads.new.forks ≡ threads.old.forks }
     ensures waits { threads.new.waits ≡ threads.old.waits }
@@ -191,8 +212,11 @@ fn mend_threads<L: Ledger>(
     room: &mut Room,
     steps: &mut Steps<L>,
 ) -> bool
-    ensures mended { (cells : List Cell) (first : Everyone) (start moves last : List Move) → (all : AllGathered (image_of image.now).program cells first threads.old start moves) → GoesOn moves last → IsRoomFor threads.old.stack room.old
-        → (result ≡ true) × MovesThreads (image_of image.now).program last all.walks first threads.new }
+    ensures mended { (cells : List Cell) (first : Everyone) (start moves last : List Move)
+        → (all : AllGathered (image_of image.now).program cells first threads.old start moves)
+        → GoesOn moves last → IsRoomFor threads.old.stack room.old
+        → (result ≡ true) × MovesThreads (image_of image.now).program last all.walks first
+        threads.new }
     ensures room { (stack : ℕ) → IsRoomFor stack room.old → IsRoomFor stack room.new }
     ensures forks { threads.new.forks ≡ threads.old.forks }
     ensures waits { threads.new.waits ≡ threads.old.waits }
@@ -225,14 +249,20 @@ pub fn collect<S: Store, L: Ledger>(
     requires fitting { S.fits store.old (map shape_of (image_of image.now).program.types) }
     requires words { length globals.old ≡ (image_of image.now).program.globals.words }
     ensures collected { IsRoomFor threads.old.stack room.old
-        → OnTrue result (Collected (image_of image.now).program (record { all = threads.old; globals = globals.old; heap = S.heap store.old }) (record { all = threads.new; globals = globals.new; heap = S.heap store.new })) }
-    ensures offsets { IsRoomFor threads.old.stack room.old → OnTrue result (AllKeepOffsets (image_of image.now).program threads.old threads.new) }
+        → OnTrue result (Collected (image_of image.now).program
+        (record { all = threads.old; globals = globals.old; heap = S.heap store.old })
+        (record { all = threads.new; globals = globals.new; heap = S.heap store.new })) }
+    ensures offsets { IsRoomFor threads.old.stack room.old
+        → OnTrue result (AllKeepOffsets (image_of image.now).program threads.old threads.new) }
     ensures whole { IsRoomFor threads.old.stack room.old
-        → OnTrue result (StopsCollection (image_of image.now).program (record { all = threads.old; globals = globals.old; heap = S.heap store.old }) → ⊥) }
+        → OnTrue result (StopsCollection (image_of image.now).program
+        (record { all = threads.old; globals = globals.old; heap = S.heap store.old }) → ⊥) }
     ensures stopped { IsRoomFor threads.old.stack room.old
-        → OnFalse result (StopsCollection (image_of image.now).program (record { all = threads.old; globals = globals.old; heap = S.heap store.old })) }
+        → OnFalse result (StopsCollection (image_of image.now).program
+        (record { all = threads.old; globals = globals.old; heap = S.heap store.old })) }
     ensures closed { (S.heap store.new).is_open ≡ false }
-    ensures fitting { result ≡ true → S.fits store.new (map shape_of (image_of image.now).program.types) }
+    ensures fitting { result ≡ true → S.fits store.new
+        (map shape_of (image_of image.now).program.types) }
     ensures words { length globals.new ≡ length globals.old }
     ensures room { (stack : ℕ) → IsRoomFor stack room.old → IsRoomFor stack room.new }
     ensures forks { threads.new.forks ≡ threads.old.forks }

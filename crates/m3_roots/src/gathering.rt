@@ -32,10 +32,15 @@ pub(crate) fn gather<S: Store, L: Ledger>(
     steps: &mut Steps<L>,
 ) -> bool
     requires open { (S.heap store.old).is_open ≡ true }
-    ensures gathered { (base fp pc : ℕ) → AreFramesAt (image_of image.now).program base stack.old fp pc frames.now → length stack.old + 16 ≤ length marks.old
-        → OnTrue result (Gathers (image_of image.now).program (S.heap store.old).cells frames.now (r.old ++ stack.old) (S.heap store.old).moves (r.new ++ stack.new) (S.heap store.new).moves) }
-    ensures stopped { (base fp pc : ℕ) → AreFramesAt (image_of image.now).program base stack.old fp pc frames.now → length stack.old + 16 ≤ length marks.old
-        → OnFalse result (StopsGathering (image_of image.now).program (S.heap store.old).cells frames.now (r.old ++ stack.old) (S.heap store.old).moves) }
+    ensures gathered { (base fp pc : ℕ) → AreFramesAt (image_of image.now).program base stack.old fp
+        pc frames.now → length stack.old + 16 ≤ length marks.old
+        → OnTrue result (Gathers (image_of image.now).program (S.heap store.old).cells frames.now
+        (r.old ++ stack.old) (S.heap store.old).moves (r.new ++ stack.new)
+        (S.heap store.new).moves) }
+    ensures stopped { (base fp pc : ℕ) → AreFramesAt (image_of image.now).program base stack.old fp
+        pc frames.now → length stack.old + 16 ≤ length marks.old
+        → OnFalse result (StopsGathering (image_of image.now).program (S.heap store.old).cells
+        frames.now (r.old ++ stack.old) (S.heap store.old).moves) }
     ensures long { (length r.old ≡ 16) × (length r.new ≡ 16) }
     ensures heap { KeepsHeap (S.heap store.old) (S.heap store.new) }
     ensures fitting { (shapes : List Shape) → S.fits store.old shapes → S.fits store.new shapes }
@@ -60,9 +65,13 @@ pub(crate) fn mend<L: Ledger>(
     stack: &mut [u64],
     steps: &mut Steps<L>,
 ) -> bool
-    ensures mended { (base fp pc : ℕ) (cells : List Cell) (old : List ℕ) (before after last : List Move) → AreFramesAt (image_of image.now).program base stack.old fp pc frames.now
-        → Gathers (image_of image.now).program cells frames.now old before (r.old ++ stack.old) after → length old ≡ length stack.old + 16 → GoesOn after last
-        → (result ≡ true) × MovesWords (image_of image.now).program last frames.now old (r.new ++ stack.new) }
+    ensures mended { (base fp pc : ℕ) (cells : List Cell) (old : List ℕ)
+        (before after last : List Move) → AreFramesAt (image_of image.now).program base stack.old fp
+        pc frames.now
+        → Gathers (image_of image.now).program cells frames.now old before (r.old ++ stack.old)
+        after → length old ≡ length stack.old + 16 → GoesOn after last
+        → (result ≡ true) × MovesWords (image_of image.now).program last frames.now old
+        (r.new ++ stack.new) }
     ensures long { length r.old ≡ 16 }
 {
     image.image().keeps_its_form();

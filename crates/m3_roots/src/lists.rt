@@ -46,7 +46,8 @@ fn mark_frames(image: &Decoded<'_>, marks: &mut [Mark], frames: &[Frame]) -> boo
 /// Marks the arguments of the newest frame.
 fn mark_arguments(image: &Decoded<'_>, marks: &mut [Mark], frames: &[Frame]) -> bool
     ensures { HaveRows (image_of image.now).program frames.now
-        → MarksAll marks.old marks.new (map Lists (newest_arguments (image_of image.now).program frames.now)) result }
+        → MarksAll marks.old marks.new (map Lists
+        (newest_arguments (image_of image.now).program frames.now)) result }
 {
     let [newest, ..] = frames else {
         return true;
@@ -68,15 +69,18 @@ fn mark_all(image: &Decoded<'_>, marks: &mut [Mark], frames: &[Frame]) -> bool
 /// The later one of an end and that of a frame.
 fn later_end(end: usize, frame: &Frame) -> usize
     ensures later { end ≤ result }
-    ensures frame { (n : ℕ) → n < 2 ^ 64 → frame.now.first + frame.now.words ≤ n → frame.now.first + frame.now.words ≤ result }
-    ensures within { (n : ℕ) → n < 2 ^ 64 → frame.now.first + frame.now.words ≤ n → end ≤ n → result ≤ n }
+    ensures frame { (n : ℕ) → n < 2 ^ 64 → frame.now.first + frame.now.words ≤ n
+        → frame.now.first + frame.now.words ≤ result }
+    ensures within { (n : ℕ) → n < 2 ^ 64 → frame.now.first + frame.now.words ≤ n → end ≤ n
+        → result ≤ n }
 {
     end.max(frame.first.saturating_add(frame.words))
 }
 
 /// Where the words of all frames end.
 fn end_of(frames: &[Frame]) -> usize
-    ensures { (n : ℕ) → n < 2 ^ 64 → AllByRecursion (λ (f : AFrame). f.first + f.words ≤ n) frames.now
+    ensures { (n : ℕ) → n < 2 ^ 64 → AllByRecursion (λ (f : AFrame). f.first + f.words ≤ n)
+        frames.now
         → (result ≤ n) × AllByRecursion (λ (f : AFrame). f.first + f.words ≤ result) frames.now }
 {
     let mut end = 0;
@@ -89,9 +93,13 @@ fn end_of(frames: &[Frame]) -> usize
 /// Whether what the rows of the frames of a stack list together is as it may be, where there is a
 /// mark for each register and each word of the stack.
 pub fn lists_fit(image: &Decoded<'_>, frames: &[Frame], marks: &mut [Mark]) -> bool
-    ensures fit { (base fp pc : ℕ) (stack : List ℕ) → AreFramesAt (image_of image.now).program base stack fp pc frames.now → length stack + 16 ≤ length marks.old
+    ensures fit { (base fp pc : ℕ) (stack : List ℕ)
+        → AreFramesAt (image_of image.now).program base stack fp pc frames.now
+        → length stack + 16 ≤ length marks.old
         → result ≡ true → ListsFit (image_of image.now).program frames.now }
-    ensures unfit { (base fp pc : ℕ) (stack : List ℕ) → AreFramesAt (image_of image.now).program base stack fp pc frames.now → length stack + 16 ≤ length marks.old
+    ensures unfit { (base fp pc : ℕ) (stack : List ℕ)
+        → AreFramesAt (image_of image.now).program base stack fp pc frames.now
+        → length stack + 16 ≤ length marks.old
         → result ≡ false → ListsFit (image_of image.now).program frames.now → ⊥ }
 {
     image.image().keeps_its_form();

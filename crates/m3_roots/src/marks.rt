@@ -3,7 +3,8 @@
 ghost use Rattle.std.specs.Prelude.{◌≡◌, ◌<◌, ◌≤◌, ◌∷◌, [], ℕ, length, Some};
 ghost use Rattle.std.specs.List.{slice_get};
 ghost use Rattle.m3_roots.specs.ThreadWords.{place_from};
-ghost use Rattle.m3_roots.specs.Marking.{Lists, Derives, Bars, Uses, MarksAll, mark_of, nothing_marked};
+ghost use Rattle.m3_roots.specs.Marking.{Lists, Derives, Bars, Uses, MarksAll, mark_of};
+ghost use Rattle.m3_roots.specs.Marking.{nothing_marked};
 
 use crate::places::place_before;
 

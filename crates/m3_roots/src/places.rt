@@ -7,7 +7,8 @@ ghost use Rattle.m3_roots.specs.ThreadWords.{word_at_place, place_from};
 /// exactly where it isn't before an end.
 #[inline]
 pub fn place_before(end: usize, first: usize, number: u32) -> Option<usize>
-    ensures { result ≡ (if nat_lt (place_from first number) end then Some (place_from first number) else None) }
+    ensures { result ≡ (if nat_lt (place_from first number) end then Some (place_from first number)
+        else None) }
 {
     let number = number as usize;
     if number < 16 {

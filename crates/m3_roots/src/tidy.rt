@@ -4,7 +4,8 @@ ghost use Rattle.m3_roots.specs.ThreadWords.{word_at_place};
 ghost use Rattle.m3_tables.specs.Numbers.{word_in};
 ghost use Rattle.m3_heap.specs.Shapes.{Shape};
 ghost use Rattle.m3_decoded.specs.Ready.{image_of};
-ghost use Rattle.m3_roots.specs.RowMeaning.{HaveRows, tidy_of_frame, tidy_below, newest_arguments, tidy_places};
+ghost use Rattle.m3_roots.specs.RowMeaning.{HaveRows, tidy_of_frame, tidy_below, newest_arguments};
+ghost use Rattle.m3_roots.specs.RowMeaning.{tidy_places};
 ghost use Rattle.m3_roots.specs.Visiting.{VisitEnds, KeepsHeap};
 
 use crate::visits::{visit_list, visit_numbers};
@@ -25,7 +26,8 @@ fn visit_frame<S: Store, L: Ledger>(
 ) -> bool
     requires open { (S.heap store.old).is_open ≡ true }
     ensures visited { frame.now.row < word_in (image_of image.now).program.tables
-        → VisitEnds result (S.heap store.old) (tidy_of_frame (image_of image.now).program frame.now) (r.old ++ stack.old) (r.new ++ stack.new) (S.heap store.new) }
+        → VisitEnds result (S.heap store.old) (tidy_of_frame (image_of image.now).program frame.now)
+        (r.old ++ stack.old) (r.new ++ stack.new) (S.heap store.new) }
     ensures heap { KeepsHeap (S.heap store.old) (S.heap store.new) }
     ensures fitting { (shapes : List Shape) → S.fits store.old shapes → S.fits store.new shapes }
 {
@@ -46,7 +48,9 @@ fn visit_arguments<S: Store, L: Ledger>(
 ) -> bool
     requires open { (S.heap store.old).is_open ≡ true }
     ensures visited { HaveRows (image_of image.now).program frames.now
-        → VisitEnds result (S.heap store.old) (newest_arguments (image_of image.now).program frames.now) (r.old ++ stack.old) (r.new ++ stack.new) (S.heap store.new) }
+        → VisitEnds result (S.heap store.old)
+        (newest_arguments (image_of image.now).program frames.now) (r.old ++ stack.old)
+        (r.new ++ stack.new) (S.heap store.new) }
     ensures heap { KeepsHeap (S.heap store.old) (S.heap store.new) }
     ensures fitting { (shapes : List Shape) → S.fits store.old shapes → S.fits store.new shapes }
 {
@@ -70,7 +74,8 @@ fn visit_each<S: Store, L: Ledger>(
 ) -> bool
     requires open { (S.heap store.old).is_open ≡ true }
     ensures visited { HaveRows (image_of image.now).program frames.now
-        → VisitEnds result (S.heap store.old) (tidy_below (image_of image.now).program frames.now) (r.old ++ stack.old) (r.new ++ stack.new) (S.heap store.new) }
+        → VisitEnds result (S.heap store.old) (tidy_below (image_of image.now).program frames.now)
+        (r.old ++ stack.old) (r.new ++ stack.new) (S.heap store.new) }
     ensures heap { KeepsHeap (S.heap store.old) (S.heap store.new) }
     ensures fitting { (shapes : List Shape) → S.fits store.old shapes → S.fits store.new shapes }
 {
@@ -94,7 +99,8 @@ pub fn visit_frames<S: Store, L: Ledger>(
 ) -> bool
     requires open { (S.heap store.old).is_open ≡ true }
     ensures visited { HaveRows (image_of image.now).program frames.now
-        → VisitEnds result (S.heap store.old) (tidy_places (image_of image.now).program frames.now) (r.old ++ stack.old) (r.new ++ stack.new) (S.heap store.new) }
+        → VisitEnds result (S.heap store.old) (tidy_places (image_of image.now).program frames.now)
+        (r.old ++ stack.old) (r.new ++ stack.new) (S.heap store.new) }
     ensures heap { KeepsHeap (S.heap store.old) (S.heap store.new) }
     ensures fitting { (shapes : List Shape) → S.fits store.old shapes → S.fits store.new shapes }
 {
@@ -126,7 +132,8 @@ fn visit_global<S: Store, L: Ledger>(
     steps: &mut Steps<L>,
 ) -> bool
     requires open { (S.heap store.old).is_open ≡ true }
-    ensures visited { VisitEnds result (S.heap store.old) (n ∷ []) globals.old globals.new (S.heap store.new) }
+    ensures visited { VisitEnds result (S.heap store.old) (n ∷ []) globals.old globals.new
+        (S.heap store.new) }
     ensures heap { KeepsHeap (S.heap store.old) (S.heap store.new) }
     ensures fitting { (shapes : List Shape) → S.fits store.old shapes → S.fits store.new shapes }
 {
@@ -148,7 +155,8 @@ pub fn visit_globals<S: Store, L: Ledger>(
     steps: &mut Steps<L>,
 ) -> bool
     requires open { (S.heap store.old).is_open ≡ true }
-    ensures visited { VisitEnds result (S.heap store.old) (image_of image.now).program.globals.pointers globals.old globals.new (S.heap store.new) }
+    ensures visited { VisitEnds result (S.heap store.old)
+        (image_of image.now).program.globals.pointers globals.old globals.new (S.heap store.new) }
     ensures heap { KeepsHeap (S.heap store.old) (S.heap store.new) }
     ensures fitting { (shapes : List Shape) → S.fits store.old shapes → S.fits store.new shapes }
     ensures count { length globals.new ≡ length globals.old }

@@ -21,7 +21,8 @@ fn visit_at<S: Store, L: Ledger>(
     steps: &mut Steps<L>,
 ) -> bool
     requires open { (S.heap store.old).is_open ≡ true }
-    ensures visited { VisitEnds result (S.heap store.old) (place_from first number ∷ []) (r.old ++ stack.old) (r.new ++ stack.new) (S.heap store.new) }
+    ensures visited { VisitEnds result (S.heap store.old) (place_from first number ∷ [])
+        (r.old ++ stack.old) (r.new ++ stack.new) (S.heap store.new) }
     ensures heap { KeepsHeap (S.heap store.old) (S.heap store.new) }
     ensures fitting { (shapes : List Shape) → S.fits store.old shapes → S.fits store.new shapes }
 {
@@ -45,7 +46,9 @@ pub fn visit_numbers<S: Store, L: Ledger>(
     steps: &mut Steps<L>,
 ) -> bool
     requires open { (S.heap store.old).is_open ≡ true }
-    ensures visited { VisitEnds result (S.heap store.old) (places_from first (numbers_of numbers.entry)) (r.old ++ stack.old) (r.new ++ stack.new) (S.heap store.new) }
+    ensures visited { VisitEnds result (S.heap store.old)
+        (places_from first (numbers_of numbers.entry)) (r.old ++ stack.old) (r.new ++ stack.new)
+        (S.heap store.new) }
     ensures heap { KeepsHeap (S.heap store.old) (S.heap store.new) }
     ensures fitting { (shapes : List Shape) → S.fits store.old shapes → S.fits store.new shapes }
 {
@@ -67,7 +70,8 @@ pub fn visit_list<S: Store, L: Ledger>(
     steps: &mut Steps<L>,
 ) -> bool
     requires open { (S.heap store.old).is_open ≡ true }
-    ensures visited { VisitEnds result (S.heap store.old) (places_from first numbers.now) (r.old ++ stack.old) (r.new ++ stack.new) (S.heap store.new) }
+    ensures visited { VisitEnds result (S.heap store.old) (places_from first numbers.now)
+        (r.old ++ stack.old) (r.new ++ stack.new) (S.heap store.new) }
     ensures heap { KeepsHeap (S.heap store.old) (S.heap store.new) }
     ensures fitting { (shapes : List Shape) → S.fits store.old shapes → S.fits store.new shapes }
 {

@@ -1,4 +1,5 @@
-ghost use Rattle.std.specs.Prelude.{◌≡◌, ◌<◌, ◌≤◌, false, List, length, vec_capacity, IfSome, IfNone};
+ghost use Rattle.std.specs.Prelude.{◌≡◌, ◌<◌, ◌≤◌, false, List, length, vec_capacity, IfSome};
+ghost use Rattle.std.specs.Prelude.{IfNone};
 ghost use Rattle.std.specs.Bool.{OnTrue};
 ghost use Rattle.m3_tables.specs.Numbers.{word_in};
 ghost use Rattle.m3_tables.specs.Tables.{section_of_row, number_of_row};
@@ -14,7 +15,8 @@ use m3_tables::Row;
 /// The row of a frame. None exactly where there is no row of its number.
 pub fn row_of<'a>(image: &Decoded<'a>, frame: &Frame) -> Option<Row<'a>>
     ensures none { IfNone result (word_in (image_of image.now).program.tables ≤ frame.now.row) }
-    ensures some { IfSome result (λ row. (section_of_row row ≡ (image_of image.now).program.tables) × (number_of_row row ≡ frame.now.row)) }
+    ensures some { IfSome result (λ row. (section_of_row row ≡ (image_of image.now).program.tables)
+        × (number_of_row row ≡ frame.now.row)) }
 {
     let tables = image.image().tables();
     if frame.row >= tables.len() as usize {
@@ -33,8 +35,10 @@ pub fn list_frames(
     stack: &[u64],
     frames: &mut Vec<Frame>,
 ) -> bool
-    ensures found { OnTrue result (AreFramesAt (image_of image.now).program base stack.now regs.now.fp regs.now.pc frames.new.items) }
-    ensures none { length stack.now < vec_capacity frames.old → result ≡ false → (fs : List AFrame) → AreFramesAt (image_of image.now).program base stack.now regs.now.fp regs.now.pc fs → ⊥ }
+    ensures found { OnTrue result (AreFramesAt (image_of image.now).program base stack.now
+        regs.now.fp regs.now.pc frames.new.items) }
+    ensures none { length stack.now < vec_capacity frames.old → result ≡ false → (fs : List AFrame)
+        → AreFramesAt (image_of image.now).program base stack.now regs.now.fp regs.now.pc fs → ⊥ }
     ensures room { vec_capacity frames.old ≤ vec_capacity frames.new }
 {
     image.image().keeps_its_form();

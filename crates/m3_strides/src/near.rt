@@ -1,10 +1,12 @@
 //! Calls, returns and what a cell's type tells, for a thread whose registers stand beside its next
 //! instruction and its newest frame. An Err is how the run ends there; then nothing was done.
-ghost use Rattle.std.specs.Prelude.{◌≡◌, ◌<◌, ◌+◌, ◌%◌, ◌^◌, ℕ, length, slice_index, Ok, IfOk, OnErr};
+ghost use Rattle.std.specs.Prelude.{◌≡◌, ◌<◌, ◌+◌, ◌%◌, ◌^◌, ℕ, length, slice_index, Ok, IfOk};
+ghost use Rattle.std.specs.Prelude.{OnErr};
 ghost use Rattle.m3_isa.specs.Arithmetic.{flag};
 ghost use Rattle.m3_isa.specs.Effects.{at_hand, answered};
 ghost use Rattle.m3_decoded.specs.Ready.{image_of};
-ghost use Rattle.m3_strides.specs.Calls.{place_of, entering, framed, number_before, returning, kind_at, method_at, method_called, TellsType};
+ghost use Rattle.m3_strides.specs.Calls.{place_of, entering, framed, number_before, returning};
+ghost use Rattle.m3_strides.specs.Calls.{kind_at, method_at, method_called, TellsType};
 
 use m3_base::Outcome;
 use m3_decoded::Decoded;
@@ -109,7 +111,8 @@ pub fn enter<W: Words>(
 ) -> Result<Place, Outcome>
     requires { at.pc < length (image_of image.now).program.code }
     ensures place { result ≡ entering (image_of image.now).program number stack at }
-    ensures framed { IfOk result (λ to. (x : ℕ) → W.holds memory.new x ≡ framed to at (W.holds memory.old) (W.writable memory.old) x) }
+    ensures framed { IfOk result (λ to. (x : ℕ)
+        → W.holds memory.new x ≡ framed to at (W.holds memory.old) (W.writable memory.old) x) }
     ensures refused { OnErr result (memory.new ≡ memory.old) }
     ensures keeps { W.keeps memory.old memory.new }
 {
@@ -162,7 +165,8 @@ pub fn method_of<W: Words>(
     number: u32,
     memory: &W,
 ) -> Result<u32, Outcome>
-    ensures { result ≡ method_at (image_of image.now).program.types (W.holds memory.now) cell number }
+    ensures { result ≡ method_at (image_of image.now).program.types (W.holds memory.now) cell
+        number }
 {
     let kind = kind_of(image, cell, memory)?;
     let Some(shape) = image.shape(kind) else {
@@ -181,7 +185,8 @@ pub fn is_of_type<W: Words>(
     number: u32,
     memory: &W,
 ) -> Result<bool, Outcome>
-    ensures { TellsType (image_of image.now).program.types (kind_at (image_of image.now).program.types (W.holds memory.now) cell) number result }
+    ensures { TellsType (image_of image.now).program.types
+        (kind_at (image_of image.now).program.types (W.holds memory.now) cell) number result }
 {
     let kind = kind_of(image, cell, memory)?;
     Ok(image.is_subtype(kind, number))

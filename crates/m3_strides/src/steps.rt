@@ -28,7 +28,8 @@ pub(crate) fn return_near<S: Store>(
     stack: Stack,
 ) -> Option<Place>
     requires { i.op ≡ Ret }
-    ensures { IfSome result (λ to. Goes_in (image_of image.now).program stack i r.now at memory.now r.now to memory.now) }
+    ensures { IfSome result (λ to. Goes_in (image_of image.now).program stack i r.now at memory.now
+        r.now to memory.now) }
 {
     match leave(image.code().len(), at, memory) {
         Ok(to) => Some(to),
@@ -49,7 +50,8 @@ pub(crate) fn tell_near<S: Store>(
     requires answer { i.a < 16 }
     requires cell { i.b < 16 }
     ensures refused { IfNone result (r.new ≡ r.old) }
-    ensures goes { IfSome result (λ to. Goes_in (image_of image.now).program stack i r.old at memory.now r.new to memory.now) }
+    ensures goes { IfSome result (λ to. Goes_in (image_of image.now).program stack i r.old
+        at memory.now r.new to memory.now) }
 {
     let cell = register(r, i.b);
     match method_of(image, cell, i.imm.cast_unsigned(), memory) {
@@ -71,7 +73,8 @@ pub(crate) fn test_near<S: Store>(
     requires answer { i.a < 16 }
     requires cell { i.b < 16 }
     ensures refused { IfNone result (r.new ≡ r.old) }
-    ensures goes { IfSome result (λ to. Goes_in (image_of image.now).program stack i r.old at memory.now r.new to memory.now) }
+    ensures goes { IfSome result (λ to. Goes_in (image_of image.now).program stack i r.old
+        at memory.now r.new to memory.now) }
 {
     let cell = register(r, i.b);
     match is_of_type(image, cell, i.imm.cast_unsigned(), memory) {
@@ -91,14 +94,16 @@ pub(crate) fn point_near<S: Store>(
     stack: Stack,
 ) -> Place
     requires { i.op ≡ Point }
-    ensures { Goes_in (image_of image.now).program stack i r.now at memory.now r.now result memory.now }
+    ensures { Goes_in (image_of image.now).program stack i r.now at memory.now r.now result
+        memory.now }
 {
     at.next()
 }
 
 /// The words of a cell of a fixed type.
 fn words_of_fixed(image: &Decoded<'_>, kind: u32) -> Option<u64>
-    ensures { IfSome result (λ n. (fixed_words (slice_get (image_of image.now).program.types kind) ≡ Ok n) × (1 ≤ n)) }
+    ensures { IfSome result (λ n. (fixed_words (slice_get (image_of image.now).program.types kind)
+        ≡ Ok n) × (1 ≤ n)) }
 {
     let shape = image.shape(kind)?;
     if shape.kind() != 0 {
@@ -120,7 +125,8 @@ pub(crate) fn make_near<S: Store>(
     requires answer { i.a < 16 }
     ensures refused { IfNone result ((r.new ≡ r.old) × (memory.new ≡ memory.old)) }
     ensures keeps { KeepsWhole memory.old memory.new }
-    ensures goes { IfSome result (λ to. Goes_in (image_of image.now).program stack i r.old at memory.old r.new to memory.new) }
+    ensures goes { IfSome result (λ to. Goes_in (image_of image.now).program stack i r.old
+        at memory.old r.new to memory.new) }
 {
     let kind = i.imm.cast_unsigned();
     let words = words_of_fixed(image, kind)?;
@@ -146,11 +152,14 @@ pub(crate) fn call_near<S: Store>(
     stack: Stack,
 ) -> Option<Place>
     requires inside { at.pc < length (image_of image.now).program.code }
-    requires callee { callee ≡ callee_of (program_in (image_of image.now).program memory.old) i (at_hand r.now at.pc at.fp)
-        (held memory.old.threads (outside_of memory.old.outside.globals.items memory.old.outside.constants.items (S.heap memory.old.outside.heap.store).cells)) }
+    requires callee { callee ≡ callee_of (program_in (image_of image.now).program memory.old) i
+        (at_hand r.now at.pc at.fp)
+        (held memory.old.threads (outside_of memory.old.outside.globals.items
+        memory.old.outside.constants.items (S.heap memory.old.outside.heap.store).cells)) }
     ensures refused { IfNone result (memory.new ≡ memory.old) }
     ensures keeps { KeepsWhole memory.old memory.new }
-    ensures goes { IfSome result (λ to. Goes_in (image_of image.now).program stack i r.now at memory.old r.now to memory.new) }
+    ensures goes { IfSome result (λ to. Goes_in (image_of image.now).program stack i r.now
+        at memory.old r.now to memory.new) }
 {
     let number = match callee {
         Ok(number) => number,

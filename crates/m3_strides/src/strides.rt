@@ -1,12 +1,14 @@
 //! A thread's instructions one after another, over points too where nothing else may go between
 //! them.
-ghost use Rattle.std.specs.Prelude.{◌≡◌, ◌<◌, ◌≤◌, ◌+◌, ◌-◌, ◌*◌, ◌^◌, true, false, Some, Option, length, slice_get, IfSome, IfNone};
+ghost use Rattle.std.specs.Prelude.{◌≡◌, ◌<◌, ◌≤◌, ◌+◌, ◌-◌, ◌*◌, ◌^◌, true, false, Some, Option};
+ghost use Rattle.std.specs.Prelude.{length, slice_get, IfSome, IfNone};
 ghost use Rattle.m3_isa.specs.Instructions.{IsInstruction, is_point, is_plain as plain};
 ghost use Rattle.m3_isa.specs.declared.instructions.Instr.{Instr as Instruction};
 ghost use Rattle.m3_threads.specs.declared.status.Status.TheVariants.{Ready};
 ghost use Rattle.m3_threads.specs.Going.{status_at};
 ghost use Rattle.m3_decoded.specs.Ready.{image_of};
-ghost use Rattle.m3_strides.specs.Leading.{Track, Goes_in, Stands_in, Halts_in, KeepsWhole, further, halted, Counts};
+ghost use Rattle.m3_strides.specs.Leading.{Track, Goes_in, Stands_in, Halts_in, KeepsWhole};
+ghost use Rattle.m3_strides.specs.Leading.{further, halted, Counts};
 ghost use Rattle.m3_strides.specs.declared.halts.Halt.TheVariants.{Used, Left, Other};
 
 use crate::halts::Halt;
@@ -70,7 +72,10 @@ impl Fuel {
     fn pass(&mut self)
         requires points { 1 ≤ self.old.points }
         requires left { self.old.limit ≤ self.old.left }
-        ensures { self.new ≡ record self.old { points = self.old.points - 1; floor = self.old.left - self.old.limit } }
+        ensures { self.new ≡ record self.old {
+          points = self.old.points - 1;
+          floor = self.old.left - self.old.limit;
+        } }
     {
         self.points -= 1;
         self.floor = self.left - self.limit;
@@ -90,7 +95,8 @@ fn stay_near<S: Store>(
 ) -> Option<Place>
     requires { IsInstruction i }
     ensures refused { IfNone result (r.new ≡ r.old) }
-    ensures goes { IfSome result (λ to. Goes_in (image_of image.now).program stack i r.old at memory.now r.new to memory.now) }
+    ensures goes { IfSome result (λ to. Goes_in (image_of image.now).program stack i r.old
+        at memory.now r.new to memory.now) }
 {
     match i.op {
         Op::Ret => return_near(image, i, r, at, memory, stack),
@@ -116,7 +122,8 @@ fn point_step<S: Store>(
     ensures refused { IfNone result ((r.new ≡ r.old) × (memory.new ≡ memory.old)) }
     ensures free { IfSome result (λ _. status_at i ≡ Ready) }
     ensures keeps { KeepsWhole memory.old memory.new }
-    ensures goes { IfSome result (λ to. Goes_in (image_of image.now).program stack i r.old at memory.old r.new to memory.new) }
+    ensures goes { IfSome result (λ to. Goes_in (image_of image.now).program stack i r.old
+        at memory.old r.new to memory.new) }
 {
     match i.op {
         Op::Point => Some(point_near(image, i, r, at, memory, stack)),
@@ -148,11 +155,17 @@ fn pass_near<S: Store>(
 ) -> Option<Place>
     requires instruction { IsInstruction i }
     requires inside { at.pc < length (image_of image.now).program.code }
-    ensures refused { IfNone result ((r.new ≡ r.old) × (memory.new ≡ memory.old) × (fuel.new ≡ fuel.old)) }
-    ensures passed { IfSome result (λ _. (status_at i ≡ Ready) × (1 ≤ fuel.old.points) × (fuel.old.limit ≤ fuel.old.left)
-        × (fuel.new ≡ record fuel.old { points = fuel.old.points - 1; floor = fuel.old.left - fuel.old.limit })) }
+    ensures refused { IfNone result ((r.new ≡ r.old) × (memory.new ≡ memory.old)
+        × (fuel.new ≡ fuel.old)) }
+    ensures passed { IfSome result (λ _. (status_at i ≡ Ready) × (1 ≤ fuel.old.points)
+        × (fuel.old.limit ≤ fuel.old.left)
+        × (fuel.new ≡ record fuel.old {
+          points = fuel.old.points - 1;
+          floor = fuel.old.left - fuel.old.limit;
+        })) }
     ensures keeps { KeepsWhole memory.old memory.new }
-    ensures goes { IfSome result (λ to. Goes_in (image_of image.now).program stack i r.old at memory.old r.new to memory.new) }
+    ensures goes { IfSome result (λ to. Goes_in (image_of image.now).program stack i r.old
+        at memory.old r.new to memory.new) }
 {
     if !fuel.may_pass() {
         return None;
@@ -181,12 +194,17 @@ fn go_by<S: Store>(
     requires operation { is_point i.now.op ≡ false }
     requires some { fuel.old.floor < fuel.old.left }
     ensures counts { IfNone result (Counts fuel.old fuel.new) }
-    ensures halts { IfSome result (λ halt. (fuel.new ≡ fuel.old) × (at.new ≡ at.old) × (halt ≡ Other)) }
+    ensures halts { IfSome result (λ halt. (fuel.new ≡ fuel.old) × (at.new ≡ at.old)
+        × (halt ≡ Other)) }
     ensures keeps { KeepsWhole memory.old memory.new }
-    ensures strides { (k : Track) → slice_get (image_of image.now).program.code at.old.pc ≡ Some i.now
-        → Stands_in (image_of image.now).program k stack fuel.old.limit (fuel.old.left - fuel.old.floor) fuel.old.points r.old at.old memory.old
-        → Halts_in (image_of image.now).program (further k (fuel.old.points - fuel.new.points) (fuel.old.left - fuel.new.left)) stack
-        fuel.new.limit (fuel.new.left - fuel.new.floor) fuel.new.points r.new at.new memory.new (halted result) }
+    ensures strides { (k : Track) → slice_get (image_of image.now).program.code at.old.pc
+        ≡ Some i.now
+        → Stands_in (image_of image.now).program k stack fuel.old.limit
+        (fuel.old.left - fuel.old.floor) fuel.old.points r.old at.old memory.old
+        → Halts_in (image_of image.now).program
+        (further k (fuel.old.points - fuel.new.points) (fuel.old.left - fuel.new.left)) stack
+        fuel.new.limit (fuel.new.left - fuel.new.floor) fuel.new.points r.new at.new memory.new
+        (halted result) }
 {
     match stay_near(image, *i, r, *at, memory, stack) {
         Some(to) => {
@@ -214,12 +232,17 @@ fn go_past<S: Store>(
     requires operation { is_point i.now.op ≡ true }
     requires some { fuel.old.floor < fuel.old.left }
     ensures counts { IfNone result (Counts fuel.old fuel.new) }
-    ensures halts { IfSome result (λ halt. (fuel.new ≡ fuel.old) × (at.new ≡ at.old) × (halt ≡ Other)) }
+    ensures halts { IfSome result (λ halt. (fuel.new ≡ fuel.old) × (at.new ≡ at.old)
+        × (halt ≡ Other)) }
     ensures keeps { KeepsWhole memory.old memory.new }
-    ensures strides { (k : Track) → slice_get (image_of image.now).program.code at.old.pc ≡ Some i.now
-        → Stands_in (image_of image.now).program k stack fuel.old.limit (fuel.old.left - fuel.old.floor) fuel.old.points r.old at.old memory.old
-        → Halts_in (image_of image.now).program (further k (fuel.old.points - fuel.new.points) (fuel.old.left - fuel.new.left)) stack
-        fuel.new.limit (fuel.new.left - fuel.new.floor) fuel.new.points r.new at.new memory.new (halted result) }
+    ensures strides { (k : Track) → slice_get (image_of image.now).program.code at.old.pc
+        ≡ Some i.now
+        → Stands_in (image_of image.now).program k stack fuel.old.limit
+        (fuel.old.left - fuel.old.floor) fuel.old.points r.old at.old memory.old
+        → Halts_in (image_of image.now).program
+        (further k (fuel.old.points - fuel.new.points) (fuel.old.left - fuel.new.left)) stack
+        fuel.new.limit (fuel.new.left - fuel.new.floor) fuel.new.points r.new at.new memory.new
+        (halted result) }
 {
     match pass_near(image, *i, r, *at, memory, stack, fuel) {
         Some(to) => {
@@ -246,12 +269,17 @@ fn go_otherwise<S: Store>(
     requires inside { at.old.pc < length (image_of image.now).program.code }
     requires some { fuel.old.floor < fuel.old.left }
     ensures counts { IfNone result (Counts fuel.old fuel.new) }
-    ensures halts { IfSome result (λ halt. (fuel.new ≡ fuel.old) × (at.new ≡ at.old) × (halt ≡ Other)) }
+    ensures halts { IfSome result (λ halt. (fuel.new ≡ fuel.old) × (at.new ≡ at.old)
+        × (halt ≡ Other)) }
     ensures keeps { KeepsWhole memory.old memory.new }
-    ensures strides { (k : Track) → slice_get (image_of image.now).program.code at.old.pc ≡ Some i.now
-        → Stands_in (image_of image.now).program k stack fuel.old.limit (fuel.old.left - fuel.old.floor) fuel.old.points r.old at.old memory.old
-        → Halts_in (image_of image.now).program (further k (fuel.old.points - fuel.new.points) (fuel.old.left - fuel.new.left)) stack
-        fuel.new.limit (fuel.new.left - fuel.new.floor) fuel.new.points r.new at.new memory.new (halted result) }
+    ensures strides { (k : Track) → slice_get (image_of image.now).program.code at.old.pc
+        ≡ Some i.now
+        → Stands_in (image_of image.now).program k stack fuel.old.limit
+        (fuel.old.left - fuel.old.floor) fuel.old.points r.old at.old memory.old
+        → Halts_in (image_of image.now).program
+        (further k (fuel.old.points - fuel.new.points) (fuel.old.left - fuel.new.left)) stack
+        fuel.new.limit (fuel.new.left - fuel.new.floor) fuel.new.points r.new at.new memory.new
+        (halted result) }
 {
     if i.op.is_point() {
         go_past(image, i, r, at, memory, stack, fuel)
@@ -275,12 +303,20 @@ fn go_on<S: Store>(
     requires inside { at.old.pc < length (image_of image.now).program.code }
     requires some { fuel.old.floor < fuel.old.left }
     ensures counts { IfNone result (Counts fuel.old fuel.new) }
-    ensures halts { IfSome result (λ halt. (fuel.new.left ≤ fuel.old.left) × (fuel.new.points ≤ fuel.old.points) × (fuel.new.points ≡ fuel.old.points → fuel.new.floor ≡ fuel.old.floor) × (halt ≡ Other → (plain i.now.op ≡ false) × (at.new ≡ at.old)) × (halt ≡ Left → ⊥) × (halt ≡ Used → ⊥)) }
+    ensures halts { IfSome result (λ halt. (fuel.new.left ≤ fuel.old.left)
+        × (fuel.new.points ≤ fuel.old.points)
+        × (fuel.new.points ≡ fuel.old.points → fuel.new.floor ≡ fuel.old.floor)
+        × (halt ≡ Other → (plain i.now.op ≡ false) × (at.new ≡ at.old)) × (halt ≡ Left → ⊥)
+        × (halt ≡ Used → ⊥)) }
     ensures keeps { KeepsWhole memory.old memory.new }
-    ensures strides { (k : Track) → slice_get (image_of image.now).program.code at.old.pc ≡ Some i.now
-        → Stands_in (image_of image.now).program k stack fuel.old.limit (fuel.old.left - fuel.old.floor) fuel.old.points r.old at.old memory.old
-        → Halts_in (image_of image.now).program (further k (fuel.old.points - fuel.new.points) (fuel.old.left - fuel.new.left)) stack
-        fuel.new.limit (fuel.new.left - fuel.new.floor) fuel.new.points r.new at.new memory.new (halted result) }
+    ensures strides { (k : Track) → slice_get (image_of image.now).program.code at.old.pc
+        ≡ Some i.now
+        → Stands_in (image_of image.now).program k stack fuel.old.limit
+        (fuel.old.left - fuel.old.floor) fuel.old.points r.old at.old memory.old
+        → Halts_in (image_of image.now).program
+        (further k (fuel.old.points - fuel.new.points) (fuel.old.left - fuel.new.left)) stack
+        fuel.new.limit (fuel.new.left - fuel.new.floor) fuel.new.points r.new at.new memory.new
+        (halted result) }
 {
     match carry_out(i, r, &mut at.pc, at.fp, memory) {
         Step::Went => {
@@ -306,14 +342,19 @@ fn go<S: Store>(
     stack: Stack,
     fuel: &mut Fuel,
 ) -> Halt
-    ensures counts { (fuel.new.left ≤ fuel.old.left) × (fuel.new.points ≤ fuel.old.points) × (fuel.new.points ≡ fuel.old.points → fuel.new.floor ≡ fuel.old.floor) }
+    ensures counts { (fuel.new.left ≤ fuel.old.left) × (fuel.new.points ≤ fuel.old.points)
+        × (fuel.new.points ≡ fuel.old.points → fuel.new.floor ≡ fuel.old.floor) }
     ensures keeps { KeepsWhole memory.old memory.new }
     ensures ends { result ≡ Used → ⊥ }
     ensures past { result ≡ Left → length (image_of image.now).program.code ≤ at.new.pc }
-    ensures other { result ≡ Other → fuel.new.floor < fuel.new.left → (i : Instruction) → slice_get (image_of image.now).program.code at.new.pc ≡ Some i → plain i.op ≡ false }
-    ensures strides { (k : Track) → Stands_in (image_of image.now).program k stack fuel.old.limit (fuel.old.left - fuel.old.floor) fuel.old.points r.old at.old memory.old
-        → Halts_in (image_of image.now).program (further k (fuel.old.points - fuel.new.points) (fuel.old.left - fuel.new.left)) stack
-        fuel.new.limit (fuel.new.left - fuel.new.floor) fuel.new.points r.new at.new memory.new result }
+    ensures other { result ≡ Other → fuel.new.floor < fuel.new.left → (i : Instruction)
+        → slice_get (image_of image.now).program.code at.new.pc ≡ Some i → plain i.op ≡ false }
+    ensures strides { (k : Track) → Stands_in (image_of image.now).program k stack fuel.old.limit
+        (fuel.old.left - fuel.old.floor) fuel.old.points r.old at.old memory.old
+        → Halts_in (image_of image.now).program
+        (further k (fuel.old.points - fuel.new.points) (fuel.old.left - fuel.new.left)) stack
+        fuel.new.limit (fuel.new.left - fuel.new.floor) fuel.new.points r.new at.new memory.new
+        result }
 {
     let code = image.code();
     'steps: while fuel.left > fuel.floor {
@@ -346,9 +387,12 @@ pub fn stride<S: Store>(
     ensures keeps { KeepsWhole memory.old memory.new }
     ensures ends { result.0 ≡ Used → ⊥ }
     ensures past { result.0 ≡ Left → length (image_of image.now).program.code ≤ at.new.pc }
-    ensures other { result.0 ≡ Other → 1 ≤ pace.new.left → (i : Instruction) → slice_get (image_of image.now).program.code at.new.pc ≡ Some i → plain i.op ≡ false }
-    ensures strides { (k : Track) → Stands_in (image_of image.now).program k stack pace.old.limit pace.old.left pace.old.points r.old at.old memory.old
-        → Halts_in (image_of image.now).program (further k (pace.old.points - pace.new.points) result.1) stack
+    ensures other { result.0 ≡ Other → 1 ≤ pace.new.left → (i : Instruction)
+        → slice_get (image_of image.now).program.code at.new.pc ≡ Some i → plain i.op ≡ false }
+    ensures strides { (k : Track) → Stands_in (image_of image.now).program k stack pace.old.limit
+        pace.old.left pace.old.points r.old at.old memory.old
+        → Halts_in (image_of image.now).program
+        (further k (pace.old.points - pace.new.points) result.1) stack
         pace.new.limit pace.new.left pace.new.points r.new at.new memory.new result.0 }
 {
     let mut now = *at;

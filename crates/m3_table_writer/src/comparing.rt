@@ -2,8 +2,10 @@
 ghost use Rattle.std.specs.Prelude.{◌≡◌, ◌==◌, length, map, nat_eq, IfOk, IsTrue};
 ghost use Rattle.std.specs.Cmp.Lexicographic.{pointwise};
 ghost use Rattle.m3_tables.specs.Numbers.{rises, has};
-ghost use Rattle.m3_table_writer.specs.Plain.{place_number, place_numbers, bases_plain, entry_plain, plain_of};
-ghost use Rattle.m3_table_writer.specs.Writing.{missing, same_bases, same_path, same_entry, same_row};
+ghost use Rattle.m3_table_writer.specs.Plain.{place_number, place_numbers, bases_plain};
+ghost use Rattle.m3_table_writer.specs.Plain.{entry_plain, plain_of};
+ghost use Rattle.m3_table_writer.specs.Writing.{missing, same_bases, same_path, same_entry};
+ghost use Rattle.m3_table_writer.specs.Writing.{same_row};
 
 use crate::plain::{DerivedPlain, RowPlain, Way};
 use m3_base::NoMemory;
@@ -129,7 +131,8 @@ pub(crate) fn missing_places(
     others: &[Location],
 ) -> Result<Vec<Location>, NoMemory>
     requires { IsTrue (rises (place_numbers others.now)) }
-    ensures { IfOk result (λ v. place_numbers v.items ≡ missing (place_numbers places.now) (place_numbers others.now)) }
+    ensures { IfOk result (λ v. place_numbers v.items
+        ≡ missing (place_numbers places.now) (place_numbers others.now)) }
 {
     let mut found = Vec::new(alloc);
     for place in places {

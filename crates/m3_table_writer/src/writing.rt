@@ -1,10 +1,16 @@
 //! Rows as bytes.
-ghost use Rattle.std.specs.Prelude.{◌≡◌, ◌≤◌, ◌<◌, ◌^◌, ◌++◌, ◌∷◌, length, map, OnOk, IfOk, IfSome, IsTrue, None};
+ghost use Rattle.std.specs.Prelude.{◌≡◌, ◌≤◌, ◌<◌, ◌^◌, ◌++◌, ◌∷◌, length, map, OnOk, IfOk, IfSome};
+ghost use Rattle.std.specs.Prelude.{IsTrue, None};
 ghost use Rattle.std.specs.Option.{option_map};
 ghost use Rattle.std.specs.List.{flat_map, AllByRecursion};
 ghost use Rattle.m3_tables.specs.Numbers.{rises, has};
-ghost use Rattle.m3_table_writer.specs.Plain.{place_number, place_numbers, bases_plain, entry_plain, contents_plain, plain_of, plains_of, IsWay, IsDerived, IsRow};
-ghost use Rattle.m3_table_writer.specs.Writing.{word_bytes, half_bytes, list_bytes, bases_bytes, entry_bytes, contents_bytes, ground_bytes, change_bytes, after_bytes, row_bytes, directory_bytes, body_bytes, table_bytes};
+ghost use Rattle.m3_table_writer.specs.Plain.{place_number, place_numbers, bases_plain};
+ghost use Rattle.m3_table_writer.specs.Plain.{entry_plain, contents_plain, plain_of, plains_of};
+ghost use Rattle.m3_table_writer.specs.Plain.{IsWay, IsDerived, IsRow};
+ghost use Rattle.m3_table_writer.specs.Writing.{word_bytes, half_bytes, list_bytes, bases_bytes};
+ghost use Rattle.m3_table_writer.specs.Writing.{entry_bytes, contents_bytes, ground_bytes};
+ghost use Rattle.m3_table_writer.specs.Writing.{change_bytes, after_bytes, row_bytes};
+ghost use Rattle.m3_table_writer.specs.Writing.{directory_bytes, body_bytes, table_bytes};
 ghost use Rattle.m3_table_writer.specs.Tabulates.{Tabulates};
 
 use crate::comparing::{missing_places, number, same_rows};
@@ -36,7 +42,8 @@ fn put_half(out: &mut Vec<u8>, half: u16) -> Result<(), NoMemory>
 
 /// The numbers of places, one after the other.
 fn put_places(out: &mut Vec<u8>, places: &[Location]) -> Result<(), NoMemory>
-    ensures { OnOk result (out.new.items ≡ out.old.items ++ flat_map word_bytes (place_numbers places.now)) }
+    ensures { OnOk result (out.new.items ≡ out.old.items ++ flat_map word_bytes
+        (place_numbers places.now)) }
 {
     for place in places {
         put_word(out, number(*place))?;
@@ -67,7 +74,8 @@ fn put_way(out: &mut Vec<u8>, way: &Way) -> Result<(), NoMemory>
 
 fn put_ways(out: &mut Vec<u8>, ways: &[Way]) -> Result<(), NoMemory>
     requires { AllByRecursion IsWay ways.now }
-    ensures { OnOk result (out.new.items ≡ out.old.items ++ flat_map bases_bytes (map bases_plain ways.now)) }
+    ensures { OnOk result (out.new.items ≡ out.old.items ++ flat_map bases_bytes
+        (map bases_plain ways.now)) }
 {
     for way in ways {
         put_way(out, way)?;
@@ -92,7 +100,8 @@ fn put_entry(out: &mut Vec<u8>, entry: &DerivedPlain) -> Result<(), NoMemory>
 
 fn put_entries(out: &mut Vec<u8>, entries: &[DerivedPlain]) -> Result<(), NoMemory>
     requires { AllByRecursion IsDerived entries.now }
-    ensures { OnOk result (out.new.items ≡ out.old.items ++ flat_map entry_bytes (map entry_plain entries.now)) }
+    ensures { OnOk result (out.new.items ≡ out.old.items ++ flat_map entry_bytes
+        (map entry_plain entries.now)) }
 {
     for entry in entries {
         put_entry(out, entry)?;
@@ -105,7 +114,8 @@ fn put_entries(out: &mut Vec<u8>, entries: &[DerivedPlain]) -> Result<(), NoMemo
 fn put_contents(out: &mut Vec<u8>, row: &RowPlain) -> Result<(), NoMemory>
     requires row { IsRow row.now }
     requires size { length (contents_bytes (contents_plain row.now)) < 2 ^ 32 }
-    ensures { OnOk result (out.new.items ≡ out.old.items ++ contents_bytes (contents_plain row.now)) }
+    ensures { OnOk result (out.new.items ≡ out.old.items ++ contents_bytes
+        (contents_plain row.now)) }
 {
     put_list(out, &row.arguments)?;
     put_list(out, &row.passed)?;
@@ -134,7 +144,8 @@ fn put_change(
     requires before { IsRow before.now }
     requires row { IsRow row.now }
     requires size { length (change_bytes (plain_of before.now) (plain_of row.now)) < 2 ^ 32 }
-    ensures { OnOk result (out.new.items ≡ out.old.items ++ change_bytes (plain_of before.now) (plain_of row.now)) }
+    ensures { OnOk result (out.new.items ≡ out.old.items ++ change_bytes (plain_of before.now)
+        (plain_of row.now)) }
 {
     let removed = missing_places(alloc, &before.tidy, &row.tidy)?;
     let added = missing_places(alloc, &row.tidy, &before.tidy)?;
@@ -152,8 +163,10 @@ fn put_after(
 ) -> Result<(), NoMemory>
     requires before { IfSome before (λ b. IsRow b.now) }
     requires row { IsRow row.now }
-    requires size { length (after_bytes (option_map (λ b. plain_of b.now) before) (plain_of row.now)) < 2 ^ 32 }
-    ensures { OnOk result (out.new.items ≡ out.old.items ++ after_bytes (option_map (λ b. plain_of b.now) before.entry) (plain_of row.now)) }
+    requires size { length (after_bytes (option_map (λ b. plain_of b.now) before)
+        (plain_of row.now)) < 2 ^ 32 }
+    ensures { OnOk result (out.new.items ≡ out.old.items ++ after_bytes
+        (option_map (λ b. plain_of b.now) before.entry) (plain_of row.now)) }
 {
     match before {
         None => put_ground(out, row),
@@ -178,8 +191,10 @@ fn put_row(
 ) -> Result<(), NoMemory>
     requires before { IfSome before (λ b. IsRow b.now) }
     requires row { IsRow row.now }
-    requires size { length (row_bytes number (option_map (λ b. plain_of b.now) before) (plain_of row.now)) < 2 ^ 32 }
-    ensures { OnOk result (out.new.items ≡ out.old.items ++ row_bytes number (option_map (λ b. plain_of b.now) before.entry) (plain_of row.now)) }
+    requires size { length (row_bytes number (option_map (λ b. plain_of b.now) before)
+        (plain_of row.now)) < 2 ^ 32 }
+    ensures { OnOk result (out.new.items ≡ out.old.items ++ row_bytes number
+        (option_map (λ b. plain_of b.now) before.entry) (plain_of row.now)) }
 {
     if number % 16 == 0 {
         put_ground(out, row)

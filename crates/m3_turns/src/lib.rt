@@ -15,7 +15,8 @@ ghost use Rattle.m3_turns.specs.Courses.{IsSound};
 /// instructions than its turns may have, each at most the words of a stack and one more times the
 /// instructions of the code.
 pub fn turns_are_sound()
-    ensures { (p : Program) (input : List ℕ) (allowed : ℕ) (from : State) (schedule : List Entry) (c : Config) → allowed < 2 ^ 64
+    ensures { (p : Program) (input : List ℕ) (allowed : ℕ) (from : State) (schedule : List Entry)
+        (c : Config) → allowed < 2 ^ 64
         → BeginsAtPoints p → AllAtPoints p from.all → from.points ≤ allowed
         → Leads p input allowed (starting from schedule) c → IsSound p allowed from c.place }
 {}
