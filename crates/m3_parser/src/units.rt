@@ -52,7 +52,7 @@ fn unit<'a>(reader: &mut Reader<'_, 'a>) -> Unit<'a>
         Some(kind) => kind,
         None => UnitKind::InterfaceInstance {
             generic: heading.name,
-            actuals: &[],
+            actuals: reader.no_items(),
         },
     };
     let closing = closing_name(reader, &heading.name);
