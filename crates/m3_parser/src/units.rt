@@ -9,7 +9,7 @@ use m3_base::Refused;
 use m3_cursor::{Heading, Reader, closing_name, name_list, names_between, unit_heading};
 use m3_statements::{block, declaration_list};
 use m3_stops::{counted, refusal_of};
-use m3_syntax::{Decl, Import, ImportItem, Kept, Lexed, Name, Sign, Unit, UnitKind, Word};
+use m3_syntax::{Import, ImportItem, Lexed, Name, Sign, Unit, UnitKind, Word};
 use std::alloc::Global;
 
 /// How many constructs may be open at a place.
@@ -48,13 +48,7 @@ fn unit<'a>(reader: &mut Reader<'_, 'a>) -> Unit<'a>
         → result.closing.text.now ≡ result.name.text.now }
 {
     let heading = unit_heading(reader);
-    let kind = match unit_kind(reader, &heading) {
-        Some(kind) => kind,
-        None => UnitKind::InterfaceInstance {
-            generic: heading.name,
-            actuals: reader.no_items(),
-        },
-    };
+    let kind = unit_kind(reader, &heading);
     let closing = closing_name(reader, &heading.name);
     Unit {
         pos: heading.pos,
@@ -66,9 +60,21 @@ fn unit<'a>(reader: &mut Reader<'_, 'a>) -> Unit<'a>
     }
 }
 
-/// What stands in a unit behind its name, up to its closing name. None where there is no memory to
-/// keep it; this holds of what it calls too.
-fn unit_kind<'a>(reader: &mut Reader<'_, 'a>, heading: &Heading<'a>) -> Option<UnitKind<'a>>
+/// What stands in a unit behind its name, up to its closing name.
+fn unit_kind<'a>(reader: &mut Reader<'_, 'a>, heading: &Heading<'a>) -> UnitKind<'a>
+    ensures { Follows reader.old reader.new }
+{
+    match kept_kind(reader, heading) {
+        Some(kind) => kind,
+        None => UnitKind::InterfaceInstance {
+            generic: heading.name,
+            actuals: reader.no_items(),
+        },
+    }
+}
+
+/// The same, or None where there is no memory to keep it.
+fn kept_kind<'a>(reader: &mut Reader<'_, 'a>, heading: &Heading<'a>) -> Option<UnitKind<'a>>
     ensures { Follows reader.old reader.new }
 {
     if heading.words.is_generic {
@@ -90,10 +96,11 @@ fn interface<'a>(reader: &mut Reader<'_, 'a>) -> Option<UnitKind<'a>>
     }
     reader.take_sign(Sign::Semicolon);
     let imports = imports(reader);
-    let declarations = kept_declarations(reader)?;
+    let declarations = declaration_list(reader, MAX_OPEN);
+    reader.take_word(Word::End);
     Some(UnitKind::Interface {
         imports,
-        declarations,
+        declarations: reader.parts(declarations)?,
     })
 }
 
@@ -132,11 +139,12 @@ fn generic<'a>(reader: &mut Reader<'_, 'a>, is_interface: bool) -> Option<UnitKi
     reader.take_sign(Sign::Semicolon);
     let imports = imports(reader);
     if is_interface {
-        let declarations = kept_declarations(reader)?;
+        let declarations = declaration_list(reader, MAX_OPEN);
+        reader.take_word(Word::End);
         return Some(UnitKind::GenericInterface {
             formals,
             imports,
-            declarations,
+            declarations: reader.parts(declarations)?,
         });
     }
     let block = block(reader, MAX_OPEN);
@@ -145,15 +153,6 @@ fn generic<'a>(reader: &mut Reader<'_, 'a>, is_interface: bool) -> Option<UnitKi
         imports,
         block: reader.parts(block)?,
     })
-}
-
-/// The declarations of an interface, with the END behind them.
-fn kept_declarations<'a>(reader: &mut Reader<'_, 'a>) -> Option<Kept<'a, &'a [Decl<'a>]>>
-    ensures { Follows reader.old reader.new }
-{
-    let declarations = declaration_list(reader, MAX_OPEN);
-    reader.take_word(Word::End);
-    reader.parts(declarations)
 }
 
 /// The generic's name and the actuals of an instance, with the END behind them.
