@@ -25,10 +25,9 @@ pub fn check_module<'a>(
     let Some(number) = walk.checker.declared.module_number(walk.checker.unit) else {
         return Ok(());
     };
-    let own = Body::new(&walk.checker, number, None);
-    let around = std::mem::replace(&mut walk.body, own);
+    let around = walk.enter(number, None);
     let checked = module_block(walk, block);
-    let body = std::mem::replace(&mut walk.body, around);
+    let body = walk.leave(around);
     let module = module_of(&mut walk.checker, body, heading, checked)?;
     walk.procedures.push((number, module))?;
     Ok(())

@@ -1,6 +1,6 @@
 use crate::walks::Walk;
 use m3_assignments::initial_values;
-use m3_bodies::{Body, Heading, declare_formals, declare_locals, define, known};
+use m3_bodies::{Heading, declare_formals, declare_locals, define, known};
 use m3_core::CoreStmt;
 use m3_operand_types::result_type;
 use m3_syntax::{Block, Decl};
@@ -24,12 +24,11 @@ impl<'a> Walk<'_, 'a> {
             return;
         };
         let due = result_type(&self.checker, kind);
-        let own = Body::new(&self.checker, number, due);
-        let outer = std::mem::replace(&mut self.body, own);
+        let outer = self.enter(number, due);
         let formals = declare_formals(&mut self.checker, &mut self.body, signature, kind);
         self.memory.made(formals);
         let checked = self.block(&declared.block);
-        let body = std::mem::replace(&mut self.body, outer);
+        let body = self.leave(outer);
         let heading = Heading {
             name: *name,
             kind,

@@ -1,5 +1,4 @@
 use crate::walks::Walk;
-use bumpalo::collections::into_bump_slice;
 use m3_core::CoreStmt;
 use m3_exceptions::simple;
 use m3_syntax::Stmt;
@@ -8,12 +7,11 @@ impl<'a> Walk<'_, 'a> {
     /// The checked statements of a row; those that were refused are left out.
     #[cycle(statements)]
     pub fn statements(&mut self, row: &[Stmt<'a>]) -> &'a [CoreStmt<'a>] {
-        let own = Vec::new(self.checker.arena);
-        let around = std::mem::replace(&mut self.open, own);
+        let around = self.open_row();
         for one in row {
             self.statement(one);
         }
-        into_bump_slice(std::mem::replace(&mut self.open, around))
+        self.close_row(around)
     }
 
     /// Checks a statement, and adds it to the row in which it stands, if it isn't refused.
