@@ -29,6 +29,7 @@ pub enum Form {
     Cell(u32),
 }
 
+/// A part of memory: the globals, a frame or a cell, with its words.
 #[derive(Drop)]
 pub struct Part {
     pub form: Form,
@@ -47,6 +48,7 @@ pub struct Memory<'a> {
 }
 
 impl Word {
+    /// The word that is a number.
     pub fn number(number: u64) -> Word {
         Word {
             part: 0,
