@@ -7,5 +7,5 @@ mod locks;
 mod loops;
 
 pub use bindings::bind_all;
-pub use locks::{Hidden, hide, written_out};
-pub use loops::{ForHead, for_head, repeat_loop, while_loop};
+pub use locks::{Hidden, add_lock, hide};
+pub use loops::{ForHead, for_head};

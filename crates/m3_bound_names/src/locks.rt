@@ -1,4 +1,5 @@
 use crate::bindings::{Target, bind, target_of};
+use bumpalo::Bump;
 use m3_base::{NoMemory, Pos};
 use m3_bodies::Body;
 use m3_core::{
@@ -78,23 +79,25 @@ fn read_of<'a>(
     Ok(CoreExpr::Chain(chain))
 }
 
-/// A LOCK of a hidden name and its statements: WITH x = m DO Thread.Acquire(x); TRY S FINALLY
-/// Thread.Release(x) END END.
-pub fn written_out<'a>(
+/// Adds a LOCK of a hidden name and its statements to a row: WITH x = m DO Thread.Acquire(x); TRY S
+/// FINALLY Thread.Release(x) END END.
+pub fn add_lock<'a>(
     checker: &Checker<'_, 'a>,
+    row: &mut Vec<CoreStmt<'a>, &'a Bump>,
     pos: Pos,
     hidden: &Hidden<'a>,
     body: &'a [CoreStmt<'a>],
-) -> Result<CoreStmt<'a>, NoMemory> {
+) -> Result<(), NoMemory> {
     let acquire = routine(checker, pos, hidden.mutex, Routine::Acquire)?;
     let release = routine(checker, pos, hidden.mutex, Routine::Release)?;
     let last = &*checker.arena.try_alloc_slice_copy(&[release])?;
     let guarded = CoreStmt::TryFinally { pos, body, last };
-    Ok(CoreStmt::With {
+    row.push(CoreStmt::With {
         pos,
         bindings: &*checker.arena.try_alloc_slice_copy(&[hidden.binding])?,
         body: &*checker.arena.try_alloc_slice_copy(&[acquire, guarded])?,
-    })
+    })?;
+    Ok(())
 }
 
 /// A call of Acquire or Release with the mutex.

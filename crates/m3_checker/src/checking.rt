@@ -1,7 +1,5 @@
 ghost use Rattle.std.specs.Prelude.{◌<◌, All, length};
 
-use crate::globals::declare_globals;
-use crate::units::check_units;
 use bumpalo::Bump;
 use m3_base::{Refused, Source};
 use m3_consts::{Declarations, declare};
@@ -13,9 +11,10 @@ use m3_operands::Checker;
 use m3_program::read_program;
 use m3_scopes::Linked;
 use m3_sizes::SizedTypes;
-use m3_stmts::Walk;
 use m3_syntax::Unit;
 use m3_types::{TypeGraph, TypeId, TypeNode};
+use m3_unit_walk::{check_units, declare_globals};
+use m3_walk::Walk;
 use std::alloc::Global;
 
 /// The checked program of some sources, whose trees stand in the arena, or the least of all rules

@@ -2,8 +2,5 @@
 #![tactic(auto)]
 
 mod checking;
-mod globals;
-mod modules;
-mod units;
 
 pub use checking::check;

@@ -9,7 +9,8 @@ use m3_syntax::{Name, Sign, TokenKind};
 /// Goes past a name and `:=`, where they are here.
 pub fn binding<'a>(reader: &mut Reader<'_, 'a>) -> Option<Name<'a>>
     ensures follows { Follows reader.old reader.new }
-    ensures reads { Reads reader.old reader.new (λ before after. BindingSpells before after result) }
+    ensures reads { Reads reader.old reader.new
+        (λ before after. BindingSpells before after result) }
 {
     if !reader.is_name() || reader.next_kind() != Some(TokenKind::Symbol(Sign::Assign)) {
         return None;

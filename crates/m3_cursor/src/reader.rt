@@ -1,7 +1,8 @@
 ghost use Rattle.std.specs.Prelude.{◌≡◌, ◌+◌, ◌<◌, ◌≤◌, ◌++◌, [], ◌∷◌, length};
 ghost use Rattle.std.specs.Prelude.{IsTrue, IsFalse, IfSome, IfNone, OnSome, IsSome};
 ghost use Rattle.m3_syntax.specs.declared.tokens.TokenKind.{TokenKind};
-ghost use Rattle.m3_grammar.specs.Tokens.{IsAt, IsToken, IsWritten, IsWord, IsSign, IsName, first_kind};
+ghost use Rattle.m3_grammar.specs.Tokens.{IsAt, IsToken, IsWritten, IsWord, IsSign, IsName};
+ghost use Rattle.m3_grammar.specs.Tokens.{first_kind};
 ghost use Rattle.m3_cursor.specs.Readers.{Follows, Reads};
 
 use bumpalo::Bump;

@@ -39,7 +39,9 @@ pub(crate) fn procedures(alloc: Global, image: &ImageView<'_>) -> Result<Vec<Pro
 
 /// The procedure of each instruction.
 pub(crate) fn homes(alloc: Global, image: &ImageView<'_>) -> Result<Vec<ProcPart>, NoMemory>
-    ensures homes { IfOk result (λ v. (n : ℕ) (p : ProcPart) → slice_get v.items n ≡ Some p → containing (image_view image.now).program.procs n ≡ Some p) }
+    ensures homes { IfOk result
+        (λ v. (n : ℕ) (p : ProcPart) → slice_get v.items n ≡ Some p
+        → containing (image_view image.now).program.procs n ≡ Some p) }
     ensures all { IfOk result (λ v. length v.items ≡ length (image_view image.now).program.code) }
 {
     let mut found = Vec::new(alloc);

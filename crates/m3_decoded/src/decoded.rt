@@ -24,8 +24,9 @@ use m3_isa::Instr;
 use m3_tables::Row;
 use std::alloc::Global;
 
-/// An image made ready to run: its instructions and procedures by number, its types with their pointers and
-/// ancestors, and the tidy places of its rows. It stands for the image that it was made of.
+/// An image made ready to run: its instructions and procedures by number, its types with their
+/// pointers and ancestors, and the tidy places of its rows. It stands for the image that it was
+/// made of.
 #[derive(Drop)]
 pub struct Decoded<'a> {
     image: ImageView<'a>,
@@ -37,7 +38,8 @@ pub struct Decoded<'a> {
     tidies: TidyLists<'a>,
     ghost coded: { code.items ≡ (image_view image).program.code },
     ghost good: { ∥ AreInstructions code.items ∥₁ },
-    ghost housed: { (n : ℕ) (p : ProcPart) → slice_get homes.items n ≡ Some p → containing (image_view image).program.procs n ≡ Some p },
+    ghost housed: { (n : ℕ) (p : ProcPart) → slice_get homes.items n ≡ Some p
+        → containing (image_view image).program.procs n ≡ Some p },
     ghost all_housed: { length homes.items ≡ length (image_view image).program.code },
     ghost listed: { procs.items ≡ (image_view image).program.procs },
     ghost typed: { map ready_type types.items ≡ (image_view image).program.types },
@@ -89,7 +91,8 @@ impl<'a> Decoded<'a> {
     /// The instructions.
     pub fn code(&self) -> &[Instr]
         ensures value { result.now ≡ (image_of self.now).program.code }
-        ensures good { (n : ℕ) (i : Instruction) → slice_get result.now n ≡ Some i → IsInstruction i }
+        ensures good { (n : ℕ) (i : Instruction) → slice_get result.now n ≡ Some i
+            → IsInstruction i }
     {
         &self.code
     }
@@ -114,7 +117,8 @@ impl<'a> Decoded<'a> {
 
     /// The procedure that an instruction is in. None exactly past the code.
     pub fn containing(&self, pc: u32) -> Option<&ProcPart>
-        ensures value { IfSome result (λ p. containing (image_of self.now).program.procs pc ≡ Some p.now) }
+        ensures value { IfSome result
+            (λ p. containing (image_of self.now).program.procs pc ≡ Some p.now) }
         ensures none { IfNone result (length (image_of self.now).program.code ≤ pc) }
     {
         if pc as usize >= self.homes.len() {
@@ -151,16 +155,23 @@ impl<'a> Decoded<'a> {
 
     /// The row of an instruction. None exactly where no row has it. It is found by halving.
     pub fn row(&self, instr: u32) -> Option<Row<'a>>
-        ensures none { IfNone result ((k : ℕ) → k < word_in (image_of self.now).program.tables → instruction_in (image_of self.now).program.tables k ≢ instr) }
-        ensures some { IfSome result (λ r. (number_of_row r < word_in (image_of self.now).program.tables) × (section_of_row r ≡ (image_of self.now).program.tables) × (instruction_in (image_of self.now).program.tables (number_of_row r) ≡ instr)) }
+        ensures none { IfNone result
+            ((k : ℕ) → k < word_in (image_of self.now).program.tables
+            → instruction_in (image_of self.now).program.tables k ≢ instr) }
+        ensures some { IfSome result
+            (λ r. (number_of_row r < word_in (image_of self.now).program.tables)
+            × (section_of_row r ≡ (image_of self.now).program.tables)
+            × (instruction_in (image_of self.now).program.tables (number_of_row r) ≡ instr)) }
     {
         self.image.tables().row(instr)
     }
 
-    /// The numbers of the tidy places of a row, each once, by the row's number. None exactly past the last row.
+    /// The numbers of the tidy places of a row, each once, by the row's number. None exactly past
+    /// the last row.
     pub fn tidy_places(&self, row: usize) -> Option<&[u32]>
         ensures within { IfSome result (λ x. row < word_in (image_of self.now).program.tables) }
-        ensures told { IfSome result (λ x. x.now ≡ tidy_list (image_of self.now).program.tables row) }
+        ensures told { IfSome result
+            (λ x. x.now ≡ tidy_list (image_of self.now).program.tables row) }
         ensures once { IfSome result (λ x. is_once x.now ≡ true) }
         ensures none { IfNone result (word_in (image_of self.now).program.tables ≤ row) }
     {

@@ -1,5 +1,5 @@
-//! For each type a further ancestor, chosen so that any ancestor is found in logarithmic time (Myers, An
-//! applicative random-access stack, 1983).
+//! For each type a further ancestor, chosen so that any ancestor is found in logarithmic time
+//! (Myers, An applicative random-access stack, 1983).
 ghost use Rattle.std.specs.Prelude.{◌≡◌, ◌≤◌, ◌<◌, ℕ, length, IfOk, IsTrue, ◌↔◌, Some, map};
 ghost use Rattle.m3_decoded.specs.Ancestors.{parent_of, IsForest, IsSubtype};
 ghost use Rattle.m3_decoded.specs.Jumps.{JumpFits, JumpsFit};
@@ -25,8 +25,8 @@ fn parent_of(types: &[ReadyType<'_>], t: usize) -> Option<u32>
     types[t].parent()
 }
 
-/// The jump of a type with a parent: over the parent's jump where that one and the next are as long, and else to
-/// the parent.
+/// The jump of a type with a parent: over the parent's jump where that one and the next are as
+/// long, and else to the parent.
 fn jump_over(types: &[ReadyType<'_>], jumps: &[Jump], number: usize, parent: u32) -> Jump
     requires jumps { JumpsFit (map ready_type types.now) jumps.now }
     requires all { length jumps.now ≡ number }

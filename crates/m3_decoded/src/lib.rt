@@ -1,5 +1,5 @@
-//! An image made ready to run, once: its instructions decoded, its types by number with their ancestors, and
-//! the tidy places of each row.
+//! An image made ready to run, once: its instructions decoded, its types by number with their
+//! ancestors, and the tidy places of each row.
 #![tactic(auto)]
 
 mod code;

@@ -11,15 +11,16 @@ use m3_base::NoMemory;
 use m3_tables::{Row, TableView};
 use std::alloc::Global;
 
-/// The numbers of the tidy places of all rows, each row's in a span. A row that is the same as the one before
-/// has that one's span.
+/// The numbers of the tidy places of all rows, each row's in a span. A row that is the same as the
+/// one before has that one's span.
 #[derive(Drop)]
 pub(crate) struct TidyLists<'a> {
     table: TableView<'a>,
     places: Vec<u32>,
     spans: Vec<Span>,
     ghost counted: { length spans.items ≡ row_count table },
-    ghost told: { (k : ℕ) (s : Span) → slice_get spans.items k ≡ Some s → IsSpan places.items s × (part places.items s ≡ tidy_list (section_of table) k) },
+    ghost told: { (k : ℕ) (s : Span) → slice_get spans.items k ≡ Some s → IsSpan places.items s
+        × (part places.items s ≡ tidy_list (section_of table) k) },
 }
 
 /// The numbers from a place on and before another.
@@ -30,7 +31,8 @@ fn part_of(places: &[u32], span: Span) -> &[u32]
     &places[span.from..span.to]
 }
 
-/// Puts a row's tidy places behind those of the rows before, the last of which has its own in a span.
+/// Puts a row's tidy places behind those of the rows before, the last of which has its own in a
+/// span.
 fn push_row(
     alloc: Global,
     row: &Row<'_>,
@@ -38,10 +40,13 @@ fn push_row(
     places: &mut Vec<u32>,
 ) -> Result<Span, NoMemory>
     requires span { IsSpan places.old.items last }
-    requires last { part places.old.items last ≡ was_list (section_of_row row.now) (number_of_row row.now) }
+    requires last { part places.old.items last
+        ≡ was_list (section_of_row row.now) (number_of_row row.now) }
     ensures kept { KeepsParts places.old.items places.new.items }
     ensures span { IfOk result (λ s. IsSpan places.new.items s) }
-    ensures told { IfOk result (λ s. part places.new.items s ≡ tidy_list (section_of_row row.now) (number_of_row row.now)) }
+    ensures told { IfOk result
+        (λ s. part places.new.items s
+        ≡ tidy_list (section_of_row row.now) (number_of_row row.now)) }
 {
     if row.is_same() {
         return Ok(last);

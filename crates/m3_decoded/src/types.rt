@@ -18,7 +18,8 @@ pub(crate) struct ReadyType<'a> {
     low: [bool; 64],
     ghost rise: { IsTrue (rises (type_of view).pointers) },
     ghost below: { IsTrue (list_all (is_between 0 (type_of view).words) (type_of view).pointers) },
-    ghost told: { (k : ℕ) → k < 64 → slice_index_or low k false ≡ is_listed (type_of view).pointers k },
+    ghost told: { (k : ℕ) → k < 64
+        → slice_index_or low k false ≡ is_listed (type_of view).pointers k },
 }
 
 impl<'a> ReadyType<'a> {
@@ -30,7 +31,8 @@ impl<'a> ReadyType<'a> {
     /// A type whose pointers rise and lie below its words.
     pub(crate) fn of(view: TypeView<'a>) -> ReadyType<'a>
         requires rise { IsTrue (rises (type_of view).pointers) }
-        requires below { IsTrue (list_all (is_between 0 (type_of view).words) (type_of view).pointers) }
+        requires below { IsTrue
+            (list_all (is_between 0 (type_of view).words) (type_of view).pointers) }
         ensures { type_of result.view ≡ type_of view.entry }
     {
         let mut low = [false; 64];
@@ -61,8 +63,8 @@ impl<'a> ReadyType<'a> {
         }
     }
 
-    /// Whether word `at` of a cell of this type is a pointer. In an open cell the offsets repeat for each element,
-    /// from behind the header and the sizes on.
+    /// Whether word `at` of a cell of this type is a pointer. In an open cell the offsets repeat
+    /// for each element, from behind the header and the sizes on.
     pub(crate) fn is_pointer(&self, at: u64) -> bool
         ensures { result ≡ is_pointer_in (Some (shape_of (type_of self.now.view))) at }
     {

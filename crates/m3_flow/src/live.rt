@@ -25,10 +25,10 @@ pub struct RowUse {
     pub temp: u32,
 }
 
-/// Where each temporary is live. Each operation, and each end of a block, has a place: the blocks follow
-/// each other in their order, and a block has a place for each of its operations and one for its end. A
-/// temporary is live at a place if what stands there, or what comes behind it on some way, uses the
-/// temporary before it is set.
+/// Where each temporary is live. Each operation, and each end of a block, has a place: the blocks
+/// follow each other in their order, and a block has a place for each of its operations and one for
+/// its end. A temporary is live at a place if what stands there, or what comes behind it on some
+/// way, uses the temporary before it is set.
 #[derive(Drop)]
 pub struct LiveSets {
     fronts: Vec<u32>,
@@ -46,8 +46,8 @@ impl LiveSets {
             .saturating_add(op)
     }
 
-    /// The stretches at which a temporary is live, rising. Where it is set and used before that by the same
-    /// operation, one ends and another begins.
+    /// The stretches at which a temporary is live, rising. Where it is set and used before that by
+    /// the same operation, one ends and another begins.
     pub fn ranges_of(&self, temp: u32) -> &[LiveRange] {
         let at = temp as usize;
         let first = self.firsts.get(at).copied().unwrap_or(0) as usize;
@@ -386,8 +386,8 @@ fn spread_all(
     ))
 }
 
-/// The temporaries that are live at each place, where the blocks lie in this order and the rows of points
-/// use what is listed beside.
+/// The temporaries that are live at each place, where the blocks lie in this order and the rows of
+/// points use what is listed beside.
 pub fn live_with(
     alloc: Global,
     p: &Proc,
@@ -420,8 +420,8 @@ pub fn live_with(
     Ok(live)
 }
 
-/// The temporaries that are live at each operation: those that are used on some way from there before they
-/// are set.
+/// The temporaries that are live at each operation: those that are used on some way from there
+/// before they are set.
 pub fn live_at(alloc: Global, p: &Proc) -> Result<LiveSets, NoMemory> {
     let order = block_order(alloc, p)?;
     live_with(alloc, p, &order, &[])

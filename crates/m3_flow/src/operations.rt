@@ -32,8 +32,8 @@ fn callee_operands(callee: Callee) -> [Operand; 3] {
     }
 }
 
-/// The operands of an operation, filled up with numbers; not those of its actuals, of a service, and not
-/// what is shown.
+/// The operands of an operation, filled up with numbers; not those of its actuals, of a service,
+/// and not what is shown.
 pub fn operands_of(op: MidOp) -> [Operand; 3] {
     match op {
         MidOp::Move { to: _, from } => [Operand::Temp(from), NOTHING, NOTHING],

@@ -5,8 +5,8 @@ use m3_base::{NoMemory, gap, place_number};
 use m3_mid::{End, Operand, Proc, Relation};
 use std::alloc::Global;
 
-/// The order in which the blocks of a procedure are to lie: those that are reached from its start, which
-/// comes first, and then the others.
+/// The order in which the blocks of a procedure are to lie: those that are reached from its start,
+/// which comes first, and then the others.
 #[derive(Drop)]
 pub struct Order {
     pub blocks: Vec<u32>,
@@ -189,8 +189,8 @@ fn lay_all(layout: &mut Layout, p: &Proc, walk: &Walk, chains: &Chains) -> Resul
     Ok(reached)
 }
 
-/// An order of the blocks in which few jumps are carried out: it goes on with the next block where it can,
-/// most of all in loops (Pettis and Hansen, PLDI 1990).
+/// An order of the blocks in which few jumps are carried out: it goes on with the next block where
+/// it can, most of all in loops (Pettis and Hansen, PLDI 1990).
 pub fn block_order(alloc: Global, p: &Proc) -> Result<Order, NoMemory> {
     let walk = Walk::of(alloc, p)?;
     let entries = entries_of(alloc, p)?;

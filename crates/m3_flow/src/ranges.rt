@@ -16,8 +16,8 @@ struct Piece {
 /// Where temporaries are live, block by block from the last place to the first.
 #[derive(Drop)]
 pub(crate) struct Ranges {
-    /// The place behind the last one at which a temporary is live, on the way to its setting; 0 where it
-    /// isn't.
+    /// The place behind the last one at which a temporary is live, on the way to its setting; 0
+    /// where it isn't.
     ends: Vec<u32>,
     pieces: Vec<Piece>,
     uses: Vec<u32>,
@@ -58,8 +58,8 @@ impl Ranges {
         Ok(())
     }
 
-    /// Adds the stretches of a block that begins at a place, by what is live at its front and at its back,
-    /// and by what the rows of its points name.
+    /// Adds the stretches of a block that begins at a place, by what is live at its front and at
+    /// its back, and by what the rows of its points name.
     pub(crate) fn add_block(
         &mut self,
         block: Block,

@@ -1,6 +1,7 @@
 ghost use Rattle.std.specs.Prelude.{◌≤◌, ◌↔◌, IsTrue, IfOk, All, length, drop};
 ghost use Rattle.std.specs.List.Sorted.{IsStrictlyIncreasing};
-ghost use Rattle.m3_forms.specs.Forms.{IsType, IsConstant, IsMethod, FitElements, AreInOrder, IsValue, HasOwnForm, HasFormAt};
+ghost use Rattle.m3_forms.specs.Forms.{IsType, IsConstant, IsMethod, FitElements, AreInOrder};
+ghost use Rattle.m3_forms.specs.Forms.{IsValue, HasOwnForm, HasFormAt};
 ghost use Rattle.m3_forms.specs.Rows.{HasFormOfRows};
 
 use crate::kinds::{
@@ -51,7 +52,8 @@ fn members_rise(row: &[u8]) -> bool
     true
 }
 
-/// Whether the listed elements of an array are no more than it has, and none only where it has none.
+/// Whether the listed elements of an array are no more than it has, and none only where it has
+/// none.
 fn elements_fit(listed: usize, count: u64) -> bool
     ensures { IsTrue result ↔ FitElements listed count }
 {
@@ -115,8 +117,8 @@ fn has_form_of_rows(nodes: &[TypeNode], node: TypeNode, types: &[usize], parts: 
         && (all_constants_from(nodes, parts, types.len()) && has_own_form(nodes, node))
 }
 
-/// Whether the definition at a place has its form: it isn't only reserved, what it names is there and
-/// of the kind that is asked for, and its rows are in order.
+/// Whether the definition at a place has its form: it isn't only reserved, what it names is there
+/// and of the kind that is asked for, and its rows are in order.
 pub(crate) fn has_form(alloc: Global, nodes: &[TypeNode], place: usize) -> Result<bool, NoMemory>
     ensures { IfOk result (λ b. IsTrue b ↔ HasFormAt nodes.now place) }
 {

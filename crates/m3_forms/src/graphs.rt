@@ -1,4 +1,5 @@
-ghost use Rattle.std.specs.Prelude.{◌≡◌, ◌<◌, ◌↔◌, ◌&&◌, ◌==◌, ℕ, IsTrue, IfOk, IsSome, All, length};
+ghost use Rattle.std.specs.Prelude.{◌≡◌, ◌<◌, ◌↔◌, ◌&&◌, ◌==◌, ℕ, IsTrue, IfOk, IsSome, All};
+ghost use Rattle.std.specs.Prelude.{length};
 ghost use Rattle.std.specs.List.{list_any};
 ghost use Rattle.m3_types.specs.Reveals.{full_reveal};
 ghost use Rattle.m3_forms.specs.Forms.{HasFormAt, IsRevealedAt, IsReveal, IsWellFormed};
@@ -10,7 +11,8 @@ use m3_types::{Reveal, Secret, TypeGraph, TypeId, TypeNode, is_opaque_at};
 use std::alloc::Global;
 
 fn all_have_form(alloc: Global, nodes: &[TypeNode]) -> Result<bool, NoMemory>
-    ensures { IfOk result (λ b. IsTrue b ↔ ((p : ℕ) → p < length nodes.now → HasFormAt nodes.now p)) }
+    ensures { IfOk result
+        (λ b. IsTrue b ↔ ((p : ℕ) → p < length nodes.now → HasFormAt nodes.now p)) }
 {
     for place in 0..nodes.len() {
         if !has_form(alloc, nodes, place)? {

@@ -9,7 +9,8 @@ pub enum Callee {
     Inner { procedure: u32, environment: u32 },
     /// A procedure value that isn't NIL: its number in the image and 1 more, and its environment.
     Value { code: u32, environment: u32 },
-    /// A method of the object that is the first actual, by its place in the object's table. It isn't NIL.
+    /// A method of the object that is the first actual, by its place in the object's table. It
+    /// isn't NIL.
     Method(u32),
 }
 
@@ -24,8 +25,9 @@ pub enum Actual {
     Reference { address: u32, base: Operand },
 }
 
-/// The temporaries that tell by which exception a call was left: its place in the program's list and
-/// 1 more, or 0 where it returned; and its argument, as a number or as a tidy pointer, the other being 0.
+/// The temporaries that tell by which exception a call was left: its place in the program's list
+/// and 1 more, or 0 where it returned; and its argument, as a number or as a tidy pointer, the
+/// other being 0.
 #[derive(Clone, Copy, Debug, PartialEq, Eq)]
 pub struct Raised {
     pub exception: u32,

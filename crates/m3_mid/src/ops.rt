@@ -22,8 +22,8 @@ pub enum MemoryWord {
     At { base: u32, offset: i32 },
 }
 
-/// An operation. `to` is the temporary that it sets. Sums of words are modulo 2^64; a relation and a
-/// checked operator read words as integers in two's complement.
+/// An operation. `to` is the temporary that it sets. Sums of words are modulo 2^64; a relation and
+/// a checked operator read words as integers in two's complement.
 #[derive(Clone, Copy)]
 pub enum MidOp<'a> {
     Number {
@@ -87,8 +87,8 @@ pub enum MidOp<'a> {
         to: u32,
         constant: u32,
     },
-    /// An address in an array: `array` plus `words` times the index plus `offset`. The array is a tidy
-    /// pointer or an address; nothing is loaded.
+    /// An address in an array: `array` plus `words` times the index plus `offset`. The array is a
+    /// tidy pointer or an address; nothing is loaded.
     Index {
         to: u32,
         array: u32,
@@ -96,13 +96,15 @@ pub enum MidOp<'a> {
         words: u64,
         offset: i64,
     },
-    /// Copies words from the address in one temporary to that in another, as if all were read first.
+    /// Copies words from the address in one temporary to that in another, as if all were read
+    /// first.
     Copy {
         to_address: u32,
         from_address: u32,
         words: Operand,
     },
-    /// For i from 0 below `words`, rising: the word at `at` + `distance` + i becomes the one at `at` + i.
+    /// For i from 0 below `words`, rising: the word at `at` + `distance` + i becomes the one at
+    /// `at` + i.
     Fill {
         at: u32,
         words: Operand,
@@ -123,15 +125,15 @@ pub enum MidOp<'a> {
         fault: FaultKind,
         pos: Pos,
     },
-    /// 1 where the cell's type is `tested` or has it among its parents, by the numbers of cell types;
-    /// else 0. The cell isn't NIL.
+    /// 1 where the cell's type is `tested` or has it among its parents, by the numbers of cell
+    /// types; else 0. The cell isn't NIL.
     TypeTest {
         to: u32,
         cell: u32,
         tested: u32,
     },
-    /// What a method of an object is: its procedure's number in the image and 1 more, or 0 for NIL. The
-    /// method is named by its place in the object's table. The object isn't NIL.
+    /// What a method of an object is: its procedure's number in the image and 1 more, or 0 for NIL.
+    /// The method is named by its place in the object's table. The object isn't NIL.
     MethodOf {
         to: u32,
         object: u32,
@@ -149,8 +151,8 @@ pub enum MidOp<'a> {
         left: u32,
         right: u32,
     },
-    /// A point, and then the call. `result` gets the result of one word. `raised` tells the exception
-    /// by which the procedure was left, where it can be left by one.
+    /// A point, and then the call. `result` gets the result of one word. `raised` tells the
+    /// exception by which the procedure was left, where it can be left by one.
     Call {
         callee: Callee,
         actuals: &'a [Actual],
@@ -158,8 +160,9 @@ pub enum MidOp<'a> {
         raised: Option<Raised>,
         shown: &'a [Shown],
     },
-    /// A point, and then a new cell of the type with this number, 0 behind its header and sizes. The
-    /// sizes of its open dimensions stand in slots in a row, the first of which is named; none is below 0.
+    /// A point, and then a new cell of the type with this number, 0 behind its header and sizes.
+    /// The sizes of its open dimensions stand in slots in a row, the first of which is named; none
+    /// is below 0.
     Make {
         to: u32,
         cell: u32,
@@ -167,7 +170,8 @@ pub enum MidOp<'a> {
         shown: &'a [Shown],
     },
     /// A point, and then a service of the machine. `to` gets its result, and `raised` 1 where the
-    /// service raises Thread.Alerted and 0 where not. `pos` is the place of its fault, if it has one.
+    /// service raises Thread.Alerted and 0 where not. `pos` is the place of its fault, if it has
+    /// one.
     Service {
         service: Service,
         operands: &'a [Operand],

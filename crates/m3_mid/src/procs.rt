@@ -33,7 +33,8 @@ pub struct Proc<'a> {
 #[derive(Clone, Copy, Debug, PartialEq, Eq)]
 pub struct Slot {
     pub kind: Kind,
-    /// Whether its address is taken, or an inner procedure reaches it; then it may change at each point.
+    /// Whether its address is taken, or an inner procedure reaches it; then it may change at each
+    /// point.
     pub is_shared: bool,
 }
 

@@ -1,5 +1,6 @@
 //! Laws that show what the definitions say. Each is the contract of a function without a body.
-ghost use Rattle.m3_mid_meaning.specs.Laws.{HasOneRun, GoesOnBehind, TakesOneArm, KeepsFault, HoldsInLayouts, KeepsOwnWords, GoesStepwise};
+ghost use Rattle.m3_mid_meaning.specs.Laws.{HasOneRun, GoesOnBehind, TakesOneArm, KeepsFault};
+ghost use Rattle.m3_mid_meaning.specs.Laws.{HoldsInLayouts, KeepsOwnWords, GoesStepwise};
 
 /// A procedure has at most one run for a list of answers: the same events, and the same end.
 pub fn one_run()

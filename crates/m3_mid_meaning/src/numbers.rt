@@ -1,6 +1,8 @@
-ghost use Rattle.std.specs.Prelude.{◌≡◌, ◌+◌, ◌*◌, ◌/◌, ◌%◌, ◌^◌, ◌==◌, cond, pos, option_map, ◌+ℤ◌, ◌-ℤ◌, ◌*ℤ◌};
+ghost use Rattle.std.specs.Prelude.{◌≡◌, ◌+◌, ◌*◌, ◌/◌, ◌%◌, ◌^◌, ◌==◌, cond, pos, option_map};
+ghost use Rattle.std.specs.Prelude.{◌+ℤ◌, ◌-ℤ◌, ◌*ℤ◌};
 ghost use Rattle.m3_base.specs.Words.{signed_of, word_of};
-ghost use Rattle.m3_isa.specs.Arithmetic.{integer_word, floor_quotient, floor_rest, shifted, rotated};
+ghost use Rattle.m3_isa.specs.Arithmetic.{integer_word, floor_quotient, floor_rest, shifted};
+ghost use Rattle.m3_isa.specs.Arithmetic.{rotated};
 ghost use Rattle.m3_mid_meaning.specs.Numbers.{or_overflow, unless_by_zero};
 ghost use Rattle.m3_mid_meaning.specs.Numbers as numbers;
 
@@ -76,7 +78,9 @@ fn whole(number: Option<i64>) -> Result<u64, FaultKind>
 
 // The quotient rounded down, from those of words without a sign.
 fn quotient_down(x: u64, y: u64) -> Result<u64, FaultKind>
-    ensures { result ≡ unless_by_zero y (or_overflow (integer_word (floor_quotient (signed_of x) (signed_of y)))) }
+    ensures { result
+        ≡ unless_by_zero y
+        (or_overflow (integer_word (floor_quotient (signed_of x) (signed_of y)))) }
 {
     if y == 0 {
         return Err(FaultKind::DivZero);

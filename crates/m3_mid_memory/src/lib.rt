@@ -1,5 +1,5 @@
-//! The memory of middle code as a program that carries it out keeps it: numbered parts of words, and
-//! words that are numbers or places in a part. Tests stand on it alone.
+//! The memory of middle code as a program that carries it out keeps it: numbered parts of words,
+//! and words that are numbers or places in a part. Tests stand on it alone.
 #![tactic(auto)]
 
 mod arithmetic;

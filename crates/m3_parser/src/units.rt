@@ -9,7 +9,7 @@ use m3_base::Refused;
 use m3_cursor::{Heading, Reader, closing_name, name_list, names_between, unit_heading};
 use m3_statements::{block, declaration_list};
 use m3_stops::{counted, refusal_of};
-use m3_syntax::{Import, ImportItem, Lexed, Name, Sign, Unit, UnitKind, Word};
+use m3_syntax::{Block, Decl, Import, ImportItem, Kept, Lexed, Name, Sign, Unit, UnitKind, Word};
 use std::alloc::Global;
 
 /// How many constructs may be open at a place.
@@ -60,29 +60,24 @@ fn unit<'a>(reader: &mut Reader<'_, 'a>) -> Unit<'a>
     }
 }
 
-/// What stands in a unit behind its name, up to its closing name.
+/// What stands in a unit behind its name, up to its closing name. Where there is no memory to keep
+/// it, an instance stands for it.
 fn unit_kind<'a>(reader: &mut Reader<'_, 'a>, heading: &Heading<'a>) -> UnitKind<'a>
     ensures { Follows reader.old reader.new }
 {
-    match kept_kind(reader, heading) {
-        Some(kind) => kind,
-        None => UnitKind::InterfaceInstance {
-            generic: heading.name,
-            actuals: reader.no_items(),
-        },
-    }
-}
-
-/// The same, or None where there is no memory to keep it.
-fn kept_kind<'a>(reader: &mut Reader<'_, 'a>, heading: &Heading<'a>) -> Option<UnitKind<'a>>
-    ensures { Follows reader.old reader.new }
-{
-    if heading.words.is_generic {
+    let kept = if heading.words.is_generic {
         generic(reader, heading.words.is_interface)
     } else if heading.words.is_interface {
         interface(reader)
     } else {
         module(reader)
+    };
+    match kept {
+        Some(kind) => kind,
+        None => UnitKind::InterfaceInstance {
+            generic: heading.name,
+            actuals: reader.no_items(),
+        },
     }
 }
 
@@ -95,12 +90,9 @@ fn interface<'a>(reader: &mut Reader<'_, 'a>) -> Option<UnitKind<'a>>
         return Some(UnitKind::InterfaceInstance { generic, actuals });
     }
     reader.take_sign(Sign::Semicolon);
-    let imports = imports(reader);
-    let declarations = declaration_list(reader, MAX_OPEN);
-    reader.take_word(Word::End);
     Some(UnitKind::Interface {
-        imports,
-        declarations: reader.parts(declarations)?,
+        imports: imports(reader),
+        declarations: kept_declarations(reader)?,
     })
 }
 
@@ -122,12 +114,10 @@ fn module<'a>(reader: &mut Reader<'_, 'a>) -> Option<UnitKind<'a>>
         });
     }
     reader.take_sign(Sign::Semicolon);
-    let imports = imports(reader);
-    let block = block(reader, MAX_OPEN);
     Some(UnitKind::Module {
         exports,
-        imports,
-        block: reader.parts(block)?,
+        imports: imports(reader),
+        block: kept_block(reader)?,
     })
 }
 
@@ -139,20 +129,35 @@ fn generic<'a>(reader: &mut Reader<'_, 'a>, is_interface: bool) -> Option<UnitKi
     reader.take_sign(Sign::Semicolon);
     let imports = imports(reader);
     if is_interface {
-        let declarations = declaration_list(reader, MAX_OPEN);
-        reader.take_word(Word::End);
         return Some(UnitKind::GenericInterface {
             formals,
             imports,
-            declarations: reader.parts(declarations)?,
+            declarations: kept_declarations(reader)?,
         });
     }
-    let block = block(reader, MAX_OPEN);
     Some(UnitKind::GenericModule {
         formals,
         imports,
-        block: reader.parts(block)?,
+        block: kept_block(reader)?,
     })
+}
+
+/// The declarations of an interface, with the END behind them. None where there is no memory to
+/// keep them.
+fn kept_declarations<'a>(reader: &mut Reader<'_, 'a>) -> Option<Kept<'a, &'a [Decl<'a>]>>
+    ensures { Follows reader.old reader.new }
+{
+    let declarations = declaration_list(reader, MAX_OPEN);
+    reader.take_word(Word::End);
+    reader.parts(declarations)
+}
+
+/// The block of a module. None where there is no memory to keep it.
+fn kept_block<'a>(reader: &mut Reader<'_, 'a>) -> Option<Kept<'a, Block<'a>>>
+    ensures { Follows reader.old reader.new }
+{
+    let block = block(reader, MAX_OPEN);
+    reader.parts(block)
 }
 
 /// The generic's name and the actuals of an instance, with the END behind them.

@@ -8,7 +8,8 @@ use m3_syntax::Unit;
 use std::alloc::{AllocError, Global};
 use std::io;
 
-/// What the lexer and the parser say of a text: `= ` and the tree, or `! ` and the rule with its place.
+/// What the lexer and the parser say of a text: `= ` and the tree, or `! ` and the rule with its
+/// place.
 pub fn answer_to(alloc: Global, text: &[u8], has_places: bool) -> io::Result<Vec<u8>> {
     if text.len() >= 4_000_000_000 {
         return Ok(Vec::from_slice(alloc, b"too long")?);

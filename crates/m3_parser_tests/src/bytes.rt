@@ -19,8 +19,8 @@ pub fn try_bytes(rt: &(impl Print + AllocGlobal)) -> io::Result<Tally> {
     Ok(tally)
 }
 
-/// What a file of one byte gives: nothing but white space is too short, a token that begins no unit is
-/// unexpected, and the rest is no token.
+/// What a file of one byte gives: nothing but white space is too short, a token that begins no unit
+/// is unexpected, and the rest is no token.
 fn answer_to_byte(byte: u8) -> &'static str {
     match byte {
         b'\n' => "! 11 2:1",

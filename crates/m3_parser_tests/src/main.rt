@@ -1,6 +1,6 @@
-//! Tries the lexer and the parser on files of cases, which the arguments name: texts with the trees or the
-//! broken rules that they are to give. The argument `bytes` stands for a case for each byte as a whole file.
-//! Cases that come out otherwise are shown.
+//! Tries the lexer and the parser on files of cases, which the arguments name: texts with the trees
+//! or the broken rules that they are to give. The argument `bytes` stands for a case for each byte
+//! as a whole file. Cases that come out otherwise are shown.
 #![tactic(auto)]
 
 use bytes::try_bytes;

@@ -5,8 +5,8 @@ use std::alloc::{AllocError, Global};
 /// The number of the file that every text is read as.
 pub const FILE: u32 = 3;
 
-/// A text of words with one space between two, and perhaps the places in the source. Where memory runs out,
-/// the rest of the text is lost, and the end tells so.
+/// A text of words with one space between two, and perhaps the places in the source. Where memory
+/// runs out, the rest of the text is lost, and the end tells so.
 #[derive(Drop)]
 pub struct Sheet {
     alloc: Global,

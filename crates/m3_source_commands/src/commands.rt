@@ -8,8 +8,10 @@ ghost use Rattle.m3_image_commands.specs.declared.answers.Refusal.{Refusal as Re
 ghost use Rattle.m3_image_commands.specs.Statuses.{LacksMemory, LacksOutput, Tells};
 ghost use Rattle.m3_base.specs.Schedules.{IsSchedule};
 ghost use Rattle.m3_image_commands.specs.ImageCommands.{on_input};
-ghost use Rattle.m3_source_commands.specs.SourceCommands.{Builds, Execs, ExecsTexts, IsOfNumber, RefusesSources, Stores};
-ghost use Rattle.m3_source_commands.specs.Orders.{Fulfils, Commands, bench_setting, order_of, setting_of, usual_setting};
+ghost use Rattle.m3_source_commands.specs.SourceCommands.{Builds, Execs, ExecsTexts, IsOfNumber};
+ghost use Rattle.m3_source_commands.specs.SourceCommands.{RefusesSources, Stores};
+ghost use Rattle.m3_source_commands.specs.Orders.{Fulfils, Commands, bench_setting, order_of};
+ghost use Rattle.m3_source_commands.specs.Orders.{setting_of, usual_setting};
 
 use crate::compiling::compile;
 use crate::sources::{Sources, fetch_sources, views_of, views_of_bytes};
@@ -115,7 +117,10 @@ fn exec_files<'a, F: Shelf, O: Sink>(
     }) (record {
       taken = (O.taken out.old, O.taken out.new);
       faults = (O.faults out.old, O.faults out.new);
-    }) (map (λ n. n.now) files.entry.now) (option_map (λ n. n.now) options.entry.switches) (option_map (λ n. n.now) options.entry.input) (setting_of options.entry.limits) image.new.items result }
+    }) (map (λ n. n.now) files.entry.now)
+        (option_map (λ n. n.now) options.entry.switches)
+        (option_map (λ n. n.now) options.entry.input)
+        (setting_of options.entry.limits) image.new.items result }
 {
     let sources = match fetch_sources(alloc, shelf, files) {
         Ok(sources) => sources,
@@ -138,8 +143,10 @@ fn exec_sources<'a, O: Sink>(
     out: &mut O,
     image: &mut Vec<u8>,
 ) -> Result<Answer, Refusal<'static>>
-    ensures { ExecsTexts image.new.items given.now.switches.items (IsSchedule given.now.switches.items)
-        (on_input (setting_of options.entry.limits) given.now.input.items) (is_some options.entry.switches) (record {
+    ensures { ExecsTexts image.new.items given.now.switches.items
+        (IsSchedule given.now.switches.items)
+        (on_input (setting_of options.entry.limits) given.now.input.items)
+        (is_some options.entry.switches) (record {
           taken = (O.taken out.old, O.taken out.new);
           faults = (O.faults out.old, O.faults out.new);
         }) result }
@@ -214,10 +221,11 @@ pub fn exec_text<O: Sink, E: Sink>(
     err: &mut E,
     image: &mut Vec<u8>,
 ) -> u8
-    ensures { (answer : Result AnswerValue RefusalValue) × ExecsTexts image.new.items [] (IsSchedule []) usual_setting false (record {
-      taken = (O.taken out.old, O.taken out.new);
-      faults = (O.faults out.old, O.faults out.new);
-    }) answer
+    ensures { (answer : Result AnswerValue RefusalValue)
+        × ExecsTexts image.new.items [] (IsSchedule []) usual_setting false (record {
+          taken = (O.taken out.old, O.taken out.new);
+          faults = (O.faults out.old, O.faults out.new);
+        }) answer
         × Tells (record {
           taken = (E.taken err.old, E.taken err.new);
           faults = (E.faults err.old, E.faults err.new);

@@ -59,7 +59,8 @@ fn fetch_next<'a, F: Shelf>(
       absences = (F.absences shelf.old, F.absences shelf.new);
       excesses = (F.excesses shelf.old, F.excesses shelf.new);
     }) (Only name.now (min left source_cap)) result }
-    ensures read { IfOk result (IsNext (F.held shelf.old) name.now left (texts_of sources.old) (texts_of sources.new)) }
+    ensures read { IfOk result
+        (IsNext (F.held shelf.old) name.now left (texts_of sources.old) (texts_of sources.new)) }
 {
     let mut text = Vec::new(alloc);
     fetch(alloc, shelf, name, left.min(SOURCE_CAP), &mut text)?;

@@ -92,24 +92,12 @@ pub fn while_statement<'a>(reader: &mut Reader<'_, 'a>, room: u32) -> Stmt<'a>
     }
 }
 
+/// WITH, whose `name = value` have commas between them.
 #[cycle(statements)]
 pub fn with_statement<'a>(reader: &mut Reader<'_, 'a>, room: u32) -> Stmt<'a>
     ensures { Follows reader.old reader.new }
 {
     let pos = reader.take_word(Word::With);
-    let bindings = bindings(reader, room);
-    let body = done(reader, room);
-    Stmt::With {
-        pos,
-        bindings,
-        body,
-    }
-}
-
-/// `name = value` with commas between them, at least one.
-fn bindings<'a>(reader: &mut Reader<'_, 'a>, room: u32) -> &'a [Binding<'a>]
-    ensures { Follows reader.old reader.new }
-{
     let mut bindings = Vec::new(reader.alloc);
     'bindings: loop {
         let name = reader.take_name();
@@ -120,5 +108,11 @@ fn bindings<'a>(reader: &mut Reader<'_, 'a>, room: u32) -> &'a [Binding<'a>]
             break;
         }
     }
-    reader.row(bindings)
+    let bindings = reader.row(bindings);
+    let body = done(reader, room);
+    Stmt::With {
+        pos,
+        bindings,
+        body,
+    }
 }

@@ -1,127 +1,137 @@
-use crate::walks::Walk;
+use crate::loops::checked_condition;
+use crate::sequences::statements;
 use bumpalo::collections::into_bump_slice;
 use m3_branches::{all_ranges, branch_types, branch_variable, ranges_at};
 use m3_core::{Arm, CaseBranch, CoreStmt, TypeBranch};
 use m3_exprs::expression;
 use m3_syntax::Stmt;
+use m3_walk::Walk;
 
-impl<'a> Walk<'_, 'a> {
-    /// IF with its ELSIFs.
-    #[cycle(statements)]
-    pub(crate) fn alternatives(&mut self, statement: &Stmt<'a>) {
-        let Stmt::If {
-            pos,
-            arms,
-            otherwise,
-        } = statement
-        else {
-            return;
-        };
-        let mut checked = Vec::new(self.checker.arena);
-        for arm in *arms {
-            let value = self.condition(arm.condition);
-            let body = self.statements(arm.body);
-            if let Some(condition) = value {
-                self.memory.add(&mut checked, Arm { condition, body });
-            }
+/// IF with its ELSIFs.
+#[cycle(statements)]
+pub fn alternatives<'a>(walk: &mut Walk<'_, 'a>, statement: &Stmt<'a>) {
+    let Stmt::If { pos, arms, .. } = statement else {
+        return;
+    };
+    let mut checked = Vec::new(walk.checker.arena);
+    for arm in *arms {
+        let value = checked_condition(walk, arm.condition);
+        let body = statements(walk, arm.body);
+        if let Some(condition) = value {
+            walk.memory.add(&mut checked, Arm { condition, body });
         }
-        let otherwise = match otherwise {
-            Some(row) => Some(self.statements(row)),
-            None => None,
-        };
-        self.put(CoreStmt::If {
+    }
+    let otherwise = otherwise(walk, statement);
+    walk.put(CoreStmt::If {
+        pos: *pos,
+        arms: into_bump_slice(checked),
+        otherwise,
+    });
+}
+
+/// CASE.
+#[cycle(statements)]
+pub fn choice<'a>(walk: &mut Walk<'_, 'a>, statement: &Stmt<'a>) {
+    let Stmt::Case {
+        pos,
+        value,
+        branches,
+        ..
+    } = statement
+    else {
+        return;
+    };
+    let value = expression(&mut walk.checker, value);
+    let value = walk.memory.found(value);
+    let ranges = all_ranges(&mut walk.checker, branches, value);
+    let ranges = walk.memory.row(ranges);
+    let mut checked = Vec::new(walk.checker.arena);
+    for (place, branch) in branches.iter().enumerate() {
+        let body = statements(walk, branch.body);
+        let ranges = ranges_at(ranges, place);
+        walk.memory.add(&mut checked, CaseBranch { ranges, body });
+    }
+    let branches = into_bump_slice(checked);
+    let otherwise = otherwise(walk, statement);
+    if let Some(value) = value {
+        walk.put(CoreStmt::Case {
             pos: *pos,
-            arms: into_bump_slice(checked),
+            value: value.core(),
+            branches,
             otherwise,
         });
     }
+}
 
-    /// CASE.
-    #[cycle(statements)]
-    pub(crate) fn choice(&mut self, statement: &Stmt<'a>) {
-        let Stmt::Case {
-            pos,
+/// TYPECASE: each type is a subtype of the value's (rule 81).
+#[cycle(statements)]
+pub fn type_choice<'a>(walk: &mut Walk<'_, 'a>, statement: &Stmt<'a>) {
+    let Stmt::TypeCase {
+        pos,
+        value,
+        branches,
+        ..
+    } = statement
+    else {
+        return;
+    };
+    let value = expression(&mut walk.checker, value);
+    let value = walk.memory.found(value);
+    let mut checked = Vec::new(walk.checker.arena);
+    for branch in *branches {
+        let types = branch_types(&mut walk.checker, branch.kinds, value);
+        let types = walk.memory.row(types);
+        let written = (types, branch.kinds.len());
+        let variable = branch_variable(
+            &mut walk.checker,
+            &mut walk.body,
+            branch.name,
+            written,
             value,
-            branches,
-            otherwise,
-        } = statement
-        else {
-            return;
-        };
-        let value = expression(&mut self.checker, value);
-        let value = self.memory.found(value);
-        let ranges = all_ranges(&mut self.checker, branches, value);
-        let ranges = self.memory.row(ranges);
-        let mut checked = Vec::new(self.checker.arena);
-        for (place, branch) in branches.iter().enumerate() {
-            let body = self.statements(branch.body);
-            let ranges = ranges_at(ranges, place);
-            self.memory.add(&mut checked, CaseBranch { ranges, body });
-        }
-        let branches = into_bump_slice(checked);
-        let otherwise = match otherwise {
-            Some(row) => Some(self.statements(row)),
-            None => None,
-        };
-        if let Some(value) = value {
-            self.put(CoreStmt::Case {
-                pos: *pos,
-                value: value.core(),
-                branches,
-                otherwise,
-            });
-        }
+        );
+        let variable = walk.memory.found(variable);
+        let body = statements(walk, branch.body);
+        walk.memory.add(
+            &mut checked,
+            TypeBranch {
+                types,
+                variable,
+                body,
+            },
+        );
     }
-
-    /// TYPECASE: each type is a subtype of the value's (rule 81).
-    #[cycle(statements)]
-    pub(crate) fn type_choice(&mut self, statement: &Stmt<'a>) {
-        let Stmt::TypeCase {
-            pos,
-            value,
+    let branches = into_bump_slice(checked);
+    let otherwise = otherwise(walk, statement);
+    if let Some(value) = value {
+        walk.put(CoreStmt::TypeCase {
+            pos: *pos,
+            value: value.core(),
             branches,
             otherwise,
-        } = statement
-        else {
-            return;
-        };
-        let value = expression(&mut self.checker, value);
-        let value = self.memory.found(value);
-        let mut checked = Vec::new(self.checker.arena);
-        for branch in *branches {
-            let types = branch_types(&mut self.checker, branch.kinds, value);
-            let types = self.memory.row(types);
-            let written = (types, branch.kinds.len());
-            let variable = branch_variable(
-                &mut self.checker,
-                &mut self.body,
-                branch.name,
-                written,
-                value,
-            );
-            let variable = self.memory.found(variable);
-            let body = self.statements(branch.body);
-            self.memory.add(
-                &mut checked,
-                TypeBranch {
-                    types,
-                    variable,
-                    body,
-                },
-            );
+        });
+    }
+}
+
+/// The statements behind ELSE, where a statement has one.
+#[cycle(statements)]
+pub fn otherwise<'a>(walk: &mut Walk<'_, 'a>, statement: &Stmt<'a>) -> Option<&'a [CoreStmt<'a>]> {
+    match statement {
+        Stmt::If {
+            otherwise: Some(row),
+            ..
         }
-        let branches = into_bump_slice(checked);
-        let otherwise = match otherwise {
-            Some(row) => Some(self.statements(row)),
-            None => None,
-        };
-        if let Some(value) = value {
-            self.put(CoreStmt::TypeCase {
-                pos: *pos,
-                value: value.core(),
-                branches,
-                otherwise,
-            });
+        | Stmt::Case {
+            otherwise: Some(row),
+            ..
         }
+        | Stmt::TypeCase {
+            otherwise: Some(row),
+            ..
+        }
+        | Stmt::TryExcept {
+            otherwise: Some(row),
+            ..
+        } => Some(statements(walk, row)),
+        _ => None,
     }
 }

@@ -5,11 +5,9 @@
 mod branches;
 mod exceptions;
 mod loops;
-mod memory;
 mod procedures;
 mod scopes;
 mod sequences;
-mod walks;
 
-pub use memory::Memory;
-pub use walks::Walk;
+pub use procedures::procedure;
+pub use sequences::statements;

@@ -1,4 +1,5 @@
-ghost use Rattle.std.specs.Prelude.{◌≡◌, ◌≤◌, ◌++◌, ℕ, [], None, IfOk, OnOk, OnErr, IfSome, is_some};
+ghost use Rattle.std.specs.Prelude.{◌≡◌, ◌≤◌, ◌++◌, ℕ, [], None, IfOk, OnOk, OnErr, IfSome};
+ghost use Rattle.std.specs.Prelude.{is_some};
 ghost use Rattle.m3_ports.specs.Counts.{Rose};
 
 use m3_base::NoMemory;
@@ -26,7 +27,8 @@ impl<S: Sink + Drop> Model for Gathered<S> {
 
     ghost Value = { Gathering };
 
-    ghost view = { λ s. record { told = S.taken s.to; waiting = s.waiting.items; faults = S.faults s.to } };
+    ghost view = { λ s. record
+        { told = S.taken s.to; waiting = s.waiting.items; faults = S.faults s.to } };
 
     ghost invariant = { λ s. (vec_len s.waiting ≤ 8192) × (8192 ≤ vec_capacity s.waiting) };
 }
@@ -34,7 +36,8 @@ impl<S: Sink + Drop> Model for Gathered<S> {
 impl<S: Sink + Drop> Gathered<S> {
     /// A sink before `to`, in which nothing waits.
     pub fn new(alloc: Global, to: S) -> Result<Gathered<S>, NoMemory>
-        ensures { IfOk result (λ sink. sink ≡ record { told = S.taken to; waiting = []; faults = S.faults to }) }
+        ensures { IfOk result
+            (λ sink. sink ≡ record { told = S.taken to; waiting = []; faults = S.faults to }) }
     {
         Ok(Gathered {
             to,
@@ -49,7 +52,8 @@ impl<S: Sink + Drop> Gathered<S> {
         ensures faults { self.old.faults ≤ self.new.faults }
         ensures told { is_some self.new.told ≡ is_some self.old.told }
         ensures kept { OnOk result (self.new.faults ≡ self.old.faults) }
-        ensures ok { OnOk result (IfSome self.old.told (λ bytes. self.new.told ≡ Some (bytes ++ self.old.waiting))) }
+        ensures ok { OnOk result
+            (IfSome self.old.told (λ bytes. self.new.told ≡ Some (bytes ++ self.old.waiting))) }
         ensures failed { OnErr result (Rose self.old.faults self.new.faults) }
     {
         if self.waiting.is_empty() {

@@ -14,7 +14,8 @@ pub fn copies<'a>(
     arena: &'a Bump,
     sources: &[Source<'_>],
 ) -> Result<Vec<Source<'a>>, AllocError>
-    ensures { IfOk result (λ copies. All (λ source. length source.text.now < 4294967295) copies.items) }
+    ensures { IfOk result
+        (λ copies. All (λ source. length source.text.now < 4294967295) copies.items) }
 {
     let mut copies = Vec::new(alloc);
     'sources: for source in sources {
@@ -28,7 +29,9 @@ fn add_copy<'a>(
     arena: &'a Bump,
     source: &Source<'_>,
 ) -> Result<(), AllocError>
-    ensures { OnOk result (All (λ source. length source.text.now < 4294967295) copies.old.items → All (λ source. length source.text.now < 4294967295) copies.new.items) }
+    ensures { OnOk result
+        (All (λ source. length source.text.now < 4294967295) copies.old.items
+        → All (λ source. length source.text.now < 4294967295) copies.new.items) }
 {
     let name = &*arena.try_alloc_slice_copy(source.name)?;
     let text = &*arena.try_alloc_slice_copy(source.text)?;

@@ -1,10 +1,13 @@
 // The command: its words, its files and its answer.
 
-ghost use Rattle.std.specs.Prelude.{◌≡◌, ◌+◌, ◌≤◌, ◌++◌, [], ◌⊎◌, ℕ, List, Option, Some, None, Result, length, codes, map, string_bytes, vec_len, vec_capacity, IfOk, IfErr, MatchOption, MatchResult, IsErrOf};
+ghost use Rattle.std.specs.Prelude.{◌≡◌, ◌+◌, ◌≤◌, ◌++◌, [], ◌⊎◌, ℕ, List, Option, Some, None};
+ghost use Rattle.std.specs.Prelude.{Result, length, codes, map, string_bytes, vec_len};
+ghost use Rattle.std.specs.Prelude.{vec_capacity, IfOk, IfErr, MatchOption, MatchResult, IsErrOf};
 ghost use Rattle.m3_base.specs.declared.outcomes.Outcome.TheVariants.{Done, Fault};
 ghost use Rattle.m3_base.specs.declared.outcomes.FaultKind.TheVariants.{Overflow};
 ghost use Rattle.m3_ports.specs.Counts.{Rose};
-ghost use Rattle.m3_ports.specs.declared.shelves.ShelfFault.TheVariants.{Absent, TooLong, Failed, NoMemory};
+ghost use Rattle.m3_ports.specs.declared.shelves.ShelfFault.TheVariants.{Absent, TooLong, Failed};
+ghost use Rattle.m3_ports.specs.declared.shelves.ShelfFault.TheVariants.{NoMemory};
 ghost use Rattle.m3_build.specs.Terms.{Term};
 ghost use Rattle.m3_build.specs.PlainForm.{IsPlain};
 ghost use Rattle.m3_image_commands.specs.Statuses.{Took};
@@ -60,12 +63,22 @@ pub fn m3c<F: Shelf, O: Sink, E: Sink>(
         absences = (F.absences shelf.old, F.absences shelf.new);
         excesses = (F.excesses shelf.old, F.excesses shelf.new);
       };
-      out = record { taken = (O.taken out.old, O.taken out.new); faults = (O.faults out.old, O.faults out.new) };
-      err = record { taken = (E.taken err.old, E.taken err.new); faults = (E.faults err.old, E.faults err.new) };
+      out = record {
+        taken = (O.taken out.old, O.taken out.new);
+        faults =
+            (O.faults out.old, O.faults out.new);
+      };
+      err = record {
+        taken = (E.taken err.old, E.taken err.new);
+        faults =
+            (E.faults err.old, E.faults err.new);
+      };
       image = image.new.items;
     }) result }
-    ensures held { (file_of (map string_bytes words.items) ≡ None) ⊎ (F.held shelf.new ≡ F.held shelf.old) }
-    ensures image { (image.new.items ≡ []) ⊎ IsOther (file_of (map string_bytes words.items)) (F.held shelf.old) }
+    ensures held { (file_of (map string_bytes words.items) ≡ None) ⊎
+        (F.held shelf.new ≡ F.held shelf.old) }
+    ensures image { (image.new.items ≡ []) ⊎ IsOther (file_of (map string_bytes words.items))
+        (F.held shelf.old) }
 {
     let texts = words.as_slice();
     match file_word(texts) {
@@ -106,7 +119,8 @@ fn other_command<F: Shelf, O: Sink, E: Sink>(
 
 // The words as the commands take them.
 fn texts_of<'w>(alloc: Global, words: &'w [String]) -> Result<Vec<&'w str>, NoMemory>
-    ensures { IfOk result (λ texts. map (λ text. text.now) texts.items ≡ map string_bytes words.now) }
+    ensures { IfOk result
+        (λ texts. map (λ text. text.now) texts.items ≡ map string_bytes words.now) }
 {
     let mut texts = Vec::new(alloc);
     for word in words {
@@ -136,8 +150,16 @@ fn exec_file<F: Shelf, O: Sink, E: Sink>(
         absences = (F.absences shelf.old, F.absences shelf.new);
         excesses = (F.excesses shelf.old, F.excesses shelf.new);
       };
-      out = record { taken = (O.taken out.old, O.taken out.new); faults = (O.faults out.old, O.faults out.new) };
-      err = record { taken = (E.taken err.old, E.taken err.new); faults = (E.faults err.old, E.faults err.new) };
+      out = record {
+        taken = (O.taken out.old, O.taken out.new);
+        faults =
+            (O.faults out.old, O.faults out.new);
+      };
+      err = record {
+        taken = (E.taken err.old, E.taken err.new);
+        faults =
+            (E.faults err.old, E.faults err.new);
+      };
       image = image.new.items;
     }) result }
     ensures held { F.held shelf.new ≡ F.held shelf.old }
@@ -206,12 +228,17 @@ fn execute<F: Shelf, O: Sink>(
         absences = (F.absences shelf.old, F.absences shelf.new);
         excesses = (F.excesses shelf.old, F.excesses shelf.new);
       };
-      out = record { taken = (O.taken out.old, O.taken out.new); faults = (O.faults out.old, O.faults out.new) };
+      out = record {
+        taken = (O.taken out.old, O.taken out.new);
+        faults =
+            (O.faults out.old, O.faults out.new);
+      };
       err = record { taken = (Some [], Some line.new.items); faults = (0, 0) };
       image = [];
     }) status) (λ text. NotPlainText (Some name.now) (F.held shelf.old)) }
     ensures held { F.held shelf.new ≡ F.held shelf.old }
-    ensures silent { IfErr result (λ text. (O.taken out.new ≡ O.taken out.old) × (O.faults out.new ≡ O.faults out.old)) }
+    ensures silent { IfErr result
+        (λ text. (O.taken out.new ≡ O.taken out.old) × (O.faults out.new ≡ O.faults out.old)) }
 {
     let mut text = Vec::new(alloc);
     if let Err(fault) = shelf.fetch(alloc, name, FILE_CAP, &mut text) {
@@ -263,7 +290,8 @@ fn refuse(fault: ShelfFault, name: &str, line: &mut Vec<u8>) -> u8
 // The code of a text of the plain form.
 fn compile(alloc: Global, text: &[u8]) -> Result<PlainCode, PlainRefused>
     ensures ok { IfOk result (λ built. Compiles text.now built.code.items built.lines.items) }
-    ensures not_built { IsErrOf result PlainRefused.NotBuilt → (puts : List Term) → IsPlain text.now puts → ⊥ }
+    ensures not_built { IsErrOf result PlainRefused.NotBuilt
+        → (puts : List Term) → IsPlain text.now puts → ⊥ }
 {
     let puts = read_plain(alloc, text)?;
     match build_plain(alloc, puts.as_slice()) {

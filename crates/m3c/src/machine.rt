@@ -1,13 +1,15 @@
 // The machine of one thread: it carries out the code of the plain form.
 
-ghost use Rattle.std.specs.Prelude.{◌≡◌, ℕ, ◌+◌, ◌<◌, ◌≤◌, ◌^◌, ◌++◌, [], length, List, Option, IfOk, OnOk, IsErr};
+ghost use Rattle.std.specs.Prelude.{◌≡◌, ℕ, ◌+◌, ◌<◌, ◌≤◌, ◌^◌, ◌++◌, [], length, List, Option};
+ghost use Rattle.std.specs.Prelude.{IfOk, OnOk, IsErr};
 ghost use Rattle.std.specs.Prelude.{slice_get};
 ghost use Rattle.std.specs.Int.{cast_unsigned, w32};
 ghost use Rattle.std.specs.Fmt.{signed_decimal};
 ghost use Rattle.m3_ports.specs.Counts.{Rose};
 ghost use Rattle.m3_isa.specs.Instructions.{IsInstruction};
 ghost use Rattle.m3_isa.specs.Effects.{effect, signed};
-ghost use Rattle.m3_build.specs.Machine.{State, Ends, first_memory, is_stack, passed, faults, fault_kinds, plainly, acts, start, run};
+ghost use Rattle.m3_build.specs.Machine.{State, Ends, first_memory, is_stack, passed, faults};
+ghost use Rattle.m3_build.specs.Machine.{fault_kinds, plainly, acts, start, run};
 ghost use Rattle.m3c.specs.Command.{Took};
 ghost use Rattle.m3c.specs.Stacks.{stack_holds};
 ghost use Rattle.m3c.specs.Running.{state_of, Turned, ends_or_lacks, IsBuilt};
@@ -72,7 +74,8 @@ impl Machine {
 
     // How the run ended, after so many instructions.
     fn ended(&self, outcome: Outcome, instructions: u64) -> Ended
-        ensures { result ≡ record { outcome = outcome; points = self.now.points; instructions = instructions } }
+        ensures { result
+            ≡ record { outcome = outcome; points = self.now.points; instructions = instructions } }
     {
         Ended {
             outcome,
@@ -84,7 +87,9 @@ impl Machine {
     // Passes a point and goes on to the next instruction.
     fn pass(&mut self)
         requires { self.old.points + 1 < 2 ^ 64 }
-        ensures state { (output bytes : List ℕ) (count : ℕ) → state_of self.new (output ++ bytes) (count + 1) ≡ passed (state_of self.old output count) bytes }
+        ensures state { (output bytes : List ℕ) (count : ℕ)
+            → state_of self.new (output ++ bytes) (count + 1)
+            ≡ passed (state_of self.old output count) bytes }
         ensures points { self.new.points ≡ self.old.points + 1 }
     {
         self.points += 1;
@@ -94,7 +99,11 @@ impl Machine {
     // Carries out a plain instruction.
     fn plain(&mut self, i: Instr) -> Turn
         requires { IsInstruction i }
-        ensures turned { (output : List ℕ) (count : ℕ) → Turned result (plainly (state_of self.old output count) (effect i self.old.regs (stack_holds self.old.stack) is_stack)) self.new output (count + 1) }
+        ensures turned { (output : List ℕ) (count : ℕ)
+            → Turned result
+            (plainly (state_of self.old output count)
+            (effect i self.old.regs (stack_holds self.old.stack) is_stack)) self.new output
+            (count + 1) }
         ensures points { self.new.points ≡ self.old.points }
     {
         match step(&i, &mut self.regs, &mut self.stack) {
@@ -114,8 +123,11 @@ fn act<O: Sink>(
 ) -> Result<Turn, SinkFailed>
     requires valid { IsInstruction i }
     requires points { machine.old.points + 1 < 2 ^ 64 }
-    ensures turned { IfOk result (λ turn. (bytes : List ℕ) × Took (O.taken out.old, O.taken out.new) bytes
-        × ((output : List ℕ) (count : ℕ) → Turned turn (acts i.op i lines.now (state_of machine.old output count)) machine.new (output ++ bytes) (count + 1))) }
+    ensures turned { IfOk result
+        (λ turn. (bytes : List ℕ) × Took (O.taken out.old, O.taken out.new) bytes
+        × ((output : List ℕ) (count : ℕ)
+        → Turned turn (acts i.op i lines.now (state_of machine.old output count)) machine.new
+        (output ++ bytes) (count + 1))) }
     ensures points { machine.new.points ≤ machine.old.points + 1 }
     ensures failed { IsErr result → Rose (O.faults out.old) (O.faults out.new) }
     ensures faults { O.faults out.old ≤ O.faults out.new }
@@ -144,7 +156,8 @@ pub fn run<O: Sink>(stack: Stack, built: &PlainCode, out: &mut O) -> Result<Ende
     requires start { (at : ℕ) → stack_holds stack at ≡ first_memory at }
     requires built { IsBuilt built.now.code.items built.now.lines.items }
     ensures ended { IfOk result (λ ended. (last : State)
-        × (run built.now.code.items built.now.lines.items (length built.now.code.items) start ≡ Ends last ended.outcome)
+        × (run built.now.code.items built.now.lines.items (length built.now.code.items) start
+        ≡ Ends last ended.outcome)
         × (ended.points ≡ last.points) × (ended.instructions ≡ last.instructions)
         × Took (O.taken out.old, O.taken out.new) last.output) }
     ensures failed { IsErr result → Rose (O.faults out.old) (O.faults out.new) }
@@ -167,7 +180,9 @@ pub fn run<O: Sink>(stack: Stack, built: &PlainCode, out: &mut O) -> Result<Ende
 
 // The outcome of a FAULT, where it names a kind and one of these lines.
 fn fault_of(i: Instr, lines: &[u32]) -> Option<Outcome>
-    ensures { (s : State) → faults s (slice_get fault_kinds i.a) (slice_get lines.now (cast_unsigned w32 i.imm)) ≡ ends_or_lacks s result }
+    ensures { (s : State)
+        → faults s (slice_get fault_kinds i.a) (slice_get lines.now (cast_unsigned w32 i.imm))
+        ≡ ends_or_lacks s result }
 {
     let kind = kind_of(i.a)?;
     let place = i.imm.cast_unsigned() as usize;

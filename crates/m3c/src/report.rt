@@ -1,6 +1,7 @@
 // The line that goes to err, in memory that was taken before it is known.
 
-ghost use Rattle.std.specs.Prelude.{◌≡◌, ◌+◌, ◌≤◌, ◌++◌, [], ◌⊎◌, ℕ, length, codes, decimal, vec_len, vec_capacity};
+ghost use Rattle.std.specs.Prelude.{◌≡◌, ◌+◌, ◌≤◌, ◌++◌, [], ◌⊎◌, ℕ, length, codes, decimal};
+ghost use Rattle.std.specs.Prelude.{vec_len, vec_capacity};
 ghost use Rattle.m3_base.specs.declared.outcomes.Outcome.TheVariants.{Done, Fault};
 ghost use Rattle.m3_base.specs.declared.outcomes.FaultKind.TheVariants.{Overflow};
 ghost use Rattle.m3c.specs.Command.{ending, report};
@@ -41,7 +42,8 @@ pub fn add_report(line: &mut Vec<u8>, name: &str, ended: Ended) -> u8
     requires empty { line.old.items ≡ [] }
     requires room { length name.now + 128 ≤ vec_capacity line.old }
     requires outcome { (ended.outcome ≡ Done) ⊎ ((at : ℕ) × (ended.outcome ≡ Fault Overflow 0 at)) }
-    ensures line { line.new.items ≡ report name.now ended.outcome ended.points ended.instructions ++ codes "\n" }
+    ensures line { line.new.items
+        ≡ report name.now ended.outcome ended.points ended.instructions ++ codes "\n" }
     ensures done { ended.outcome ≡ Done → result ≡ 0 }
     ensures fault { (at : ℕ) → ended.outcome ≡ Fault Overflow 0 at → result ≡ 10 }
 {

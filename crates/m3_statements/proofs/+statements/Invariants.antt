@@ -97,3 +97,9 @@ invariant-declarations::declaration_list-declarations l = Follows l.initial.read
 
 abbrev pub decreases-declarations::declaration_list-declarations : goal.decreases-declarations::declaration_list-declarations
 decreases-declarations::declaration_list-declarations l = length l.reader.rest.now
+
+abbrev pub invariant-loops::with_statement-bindings : goal.invariant-loops::with_statement-bindings
+invariant-loops::with_statement-bindings l = Follows l.initial.reader l.reader
+
+abbrev pub decreases-loops::with_statement-bindings : goal.decreases-loops::with_statement-bindings
+decreases-loops::with_statement-bindings l = length l.reader.rest.now

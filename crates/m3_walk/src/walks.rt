@@ -7,7 +7,7 @@ use m3_operands::Checker;
 use m3_types::TypeId;
 
 /// The checked statements of a row so far.
-pub(crate) type Row<'a> = Vec<CoreStmt<'a>, &'a Bump>;
+pub type Row<'a> = Vec<CoreStmt<'a>, &'a Bump>;
 
 /// What walks over the statements of a program: what checks the expressions in them, the body in
 /// which they stand, and the procedures that were checked.
@@ -18,7 +18,7 @@ pub struct Walk<'p, 'a> {
     pub procedures: Procedures<'a>,
     pub memory: Memory,
     /// What was checked of the row that is open.
-    open: Row<'a>,
+    pub open: Row<'a>,
 }
 
 impl<'p, 'a> Walk<'p, 'a> {
@@ -48,26 +48,18 @@ impl<'p, 'a> Walk<'p, 'a> {
     }
 
     /// Adds a statement to the open row.
-    pub(crate) fn put(&mut self, checked: CoreStmt<'a>) {
-        let added = self.open.push(checked);
-        self.memory.note(added.is_ok());
-    }
-
-    /// Adds a statement, where it wasn't refused.
-    pub(crate) fn put_found(&mut self, checked: Option<CoreStmt<'a>>) {
-        if let Some(checked) = checked {
-            self.put(checked);
-        }
+    pub fn put(&mut self, checked: CoreStmt<'a>) {
+        self.memory.add(&mut self.open, checked);
     }
 
     /// Opens a row, and gives the one around it, to which `close_row` goes back.
-    pub(crate) fn open_row(&mut self) -> Row<'a> {
+    pub fn open_row(&mut self) -> Row<'a> {
         let row = Vec::new(self.checker.arena);
         std::mem::replace(&mut self.open, row)
     }
 
     /// Goes back to the row around, and gives what stands in the one that is left.
-    pub(crate) fn close_row(&mut self, around: Row<'a>) -> &'a [CoreStmt<'a>] {
+    pub fn close_row(&mut self, around: Row<'a>) -> &'a [CoreStmt<'a>] {
         into_bump_slice(std::mem::replace(&mut self.open, around))
     }
 }

@@ -5,9 +5,10 @@ use m3_declarer::Doubtful;
 use m3_exprs::expression;
 use m3_listing::is_given;
 use m3_operands::Checker;
-use m3_stmts::Walk;
+use m3_stmts::procedure;
 use m3_syntax::{Decl, Unit, UnitKind, VarDecl};
 use m3_type_names::judge_declaration;
+use m3_walk::Walk;
 
 /// Checks the doubtful expressions of declarations, and the expressions and statements of all
 /// units, and lists the procedures.
@@ -70,7 +71,7 @@ fn check_unit<'a>(walk: &mut Walk<'_, 'a>, unit: &Unit<'a>) -> Result<(), NoMemo
 fn check_procedures<'a>(walk: &mut Walk<'_, 'a>, declarations: &[Decl<'a>]) {
     for declaration in declarations {
         judge_declaration(&mut walk.checker, declaration);
-        walk.procedure(None, declaration);
+        procedure(walk, None, declaration);
     }
 }
 

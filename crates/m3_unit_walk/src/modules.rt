@@ -4,9 +4,10 @@ use m3_base::{NoMemory, Pos};
 use m3_bodies::Body;
 use m3_core::{CoreStmt, ProcDef};
 use m3_operands::Checker;
-use m3_stmts::Walk;
+use m3_stmts::statements;
 use m3_syntax::{Block, Name};
 use m3_types::{Formal, Raises, TypeNode};
+use m3_walk::Walk;
 
 /// What is known of a module beside its block.
 #[derive(Clone, Copy)]
@@ -39,7 +40,7 @@ fn module_block<'a>(walk: &mut Walk<'_, 'a>, block: &Block<'a>) -> CoreStmt<'a> 
         pos: block.pos,
         variables: no_variables(),
         initial: walk.memory.row(initial),
-        body: walk.statements(block.body),
+        body: statements(walk, block.body),
     }
 }
 
