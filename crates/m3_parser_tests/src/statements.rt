@@ -24,90 +24,75 @@ fn show_statements(statements: &[Stmt], sheet: &mut Sheet) {
 
 #[cycle(statements)]
 fn show_statement(statement: &Stmt, sheet: &mut Sheet) {
+    if let Stmt::Block(block) = statement {
+        show_block(block, sheet);
+        return;
+    }
+    show_head(statement, sheet);
+    show_inside(statement, sheet);
+    show_otherwise(statement, sheet);
+    sheet.close();
+}
+
+/// The lists of statements in a statement, but for that behind ELSE.
+#[cycle(statements)]
+fn show_inside(statement: &Stmt, sheet: &mut Sheet) {
     match statement {
-        Stmt::Block(block) => show_block(block, sheet),
-        Stmt::Case {
-            branches,
-            otherwise,
-            ..
-        } => {
-            show_head(statement, sheet);
-            show_branches(branches, sheet);
-            if let Some(last) = otherwise {
-                show_otherwise(last, sheet);
-            }
-            sheet.close();
-        }
-        Stmt::If {
-            arms,
-            otherwise,
-            ..
-        } => {
-            show_head(statement, sheet);
-            show_arms(arms, sheet);
-            if let Some(last) = otherwise {
-                show_otherwise(last, sheet);
-            }
-            sheet.close();
-        }
-        Stmt::TypeCase {
-            branches,
-            otherwise,
-            ..
-        } => {
-            show_head(statement, sheet);
-            show_type_branches(branches, sheet);
-            if let Some(last) = otherwise {
-                show_otherwise(last, sheet);
-            }
-            sheet.close();
-        }
-        Stmt::TryExcept {
-            body,
-            handlers,
-            otherwise,
-            ..
-        } => {
-            show_head(statement, sheet);
+        Stmt::Case { branches, .. } => show_branches(branches, sheet),
+        Stmt::If { arms, .. } => show_arms(arms, sheet),
+        Stmt::TypeCase { branches, .. } => show_type_branches(branches, sheet),
+        Stmt::TryExcept { body, handlers, .. } => {
             show_statements(body, sheet);
             sheet.word(b"EXCEPT");
             show_handlers(handlers, sheet);
-            if let Some(last) = otherwise {
-                show_otherwise(last, sheet);
-            }
-            sheet.close();
         }
         Stmt::TryFinally { body, last, .. } => {
-            show_head(statement, sheet);
             show_statements(body, sheet);
             sheet.word(b"FINALLY");
             show_statements(last, sheet);
-            sheet.close();
         }
         Stmt::Repeat {
             body,
             condition,
             ..
         } => {
-            show_head(statement, sheet);
             show_statements(body, sheet);
             sheet.word(b"UNTIL");
             show_expr(condition, sheet);
-            sheet.close();
         }
         Stmt::For { body, .. }
         | Stmt::Lock { body, .. }
         | Stmt::Loop { body, .. }
         | Stmt::While { body, .. }
-        | Stmt::With { body, .. } => {
-            show_head(statement, sheet);
-            show_statements(body, sheet);
-            sheet.close();
+        | Stmt::With { body, .. } => show_statements(body, sheet),
+        _ => {}
+    }
+}
+
+/// The statements behind ELSE, where a statement has one.
+#[cycle(statements)]
+fn show_otherwise(statement: &Stmt, sheet: &mut Sheet) {
+    match statement {
+        Stmt::Case {
+            otherwise: Some(last),
+            ..
         }
-        _ => {
-            show_head(statement, sheet);
-            sheet.close();
+        | Stmt::If {
+            otherwise: Some(last),
+            ..
         }
+        | Stmt::TypeCase {
+            otherwise: Some(last),
+            ..
+        }
+        | Stmt::TryExcept {
+            otherwise: Some(last),
+            ..
+        } => {
+            sheet.word(b"ELSE");
+            show_statements(last, sheet);
+        }
+        _ => {}
     }
 }
 
@@ -209,12 +194,6 @@ fn show_bindings(bindings: &[Binding], sheet: &mut Sheet) {
         show_expr(&binding.value, sheet);
         sheet.close();
     }
-}
-
-#[cycle(statements)]
-fn show_otherwise(statements: &[Stmt], sheet: &mut Sheet) {
-    sheet.word(b"ELSE");
-    show_statements(statements, sheet);
 }
 
 #[cycle(statements)]
