@@ -1,9 +1,7 @@
-use crate::loops::checked_condition;
 use crate::sequences::statements;
 use bumpalo::collections::into_bump_slice;
-use m3_branches::{all_ranges, branch_types, branch_variable, ranges_at};
+use m3_branches::ranges_at;
 use m3_core::{Arm, CaseBranch, CoreStmt, TypeBranch};
-use m3_exprs::expression;
 use m3_syntax::Stmt;
 use m3_walk::Walk;
 
@@ -15,7 +13,7 @@ pub fn alternatives<'a>(walk: &mut Walk<'_, 'a>, statement: &Stmt<'a>) {
     };
     let mut checked = Vec::new(walk.checker.arena);
     for arm in *arms {
-        let value = checked_condition(walk, arm.condition);
+        let value = walk.condition(arm.condition);
         let body = statements(walk, arm.body);
         if let Some(condition) = value {
             walk.memory.add(&mut checked, Arm { condition, body });
@@ -41,10 +39,8 @@ pub fn choice<'a>(walk: &mut Walk<'_, 'a>, statement: &Stmt<'a>) {
     else {
         return;
     };
-    let value = expression(&mut walk.checker, value);
-    let value = walk.memory.found(value);
-    let ranges = all_ranges(&mut walk.checker, branches, value);
-    let ranges = walk.memory.row(ranges);
+    let value = walk.value(value);
+    let ranges = walk.ranges(branches, value);
     let mut checked = Vec::new(walk.checker.arena);
     for (place, branch) in branches.iter().enumerate() {
         let body = statements(walk, branch.body);
@@ -75,21 +71,10 @@ pub fn type_choice<'a>(walk: &mut Walk<'_, 'a>, statement: &Stmt<'a>) {
     else {
         return;
     };
-    let value = expression(&mut walk.checker, value);
-    let value = walk.memory.found(value);
+    let value = walk.value(value);
     let mut checked = Vec::new(walk.checker.arena);
     for branch in *branches {
-        let types = branch_types(&mut walk.checker, branch.kinds, value);
-        let types = walk.memory.row(types);
-        let written = (types, branch.kinds.len());
-        let variable = branch_variable(
-            &mut walk.checker,
-            &mut walk.body,
-            branch.name,
-            written,
-            value,
-        );
-        let variable = walk.memory.found(variable);
+        let (types, variable) = walk.type_branch(branch, value);
         let body = statements(walk, branch.body);
         walk.memory.add(
             &mut checked,

@@ -1,6 +1,5 @@
 use crate::sequences::statements;
-use m3_assignments::initial_values;
-use m3_bodies::{Heading, declare_formals, declare_locals, define, known};
+use m3_bodies::{Heading, declare_formals, define, known};
 use m3_core::CoreStmt;
 use m3_operand_types::result_type;
 use m3_syntax::{Block, Decl};
@@ -43,8 +42,7 @@ pub fn procedure<'a>(walk: &mut Walk<'_, 'a>, around: Option<u32>, declaration: 
 /// A block: its variables, the procedures inside it, the initial values and the statements.
 #[cycle(statements)]
 pub fn block<'a>(walk: &mut Walk<'_, 'a>, block: &Block<'a>) -> CoreStmt<'a> {
-    let variables = declare_locals(&mut walk.checker, &mut walk.body, block.declarations);
-    let variables = walk.memory.row(variables);
+    let variables = walk.locals(block.declarations);
     let level = walk.checker.level;
     let around = Some(walk.body.number);
     for declaration in block.declarations {
@@ -53,11 +51,10 @@ pub fn block<'a>(walk: &mut Walk<'_, 'a>, block: &Block<'a>) -> CoreStmt<'a> {
         procedure(walk, around, declaration);
         walk.checker.level = level;
     }
-    let initial = initial_values(&mut walk.checker, block.declarations);
     CoreStmt::Block {
         pos: block.pos,
         variables,
-        initial: walk.memory.row(initial),
+        initial: walk.initial(block.declarations),
         body: statements(walk, block.body),
     }
 }

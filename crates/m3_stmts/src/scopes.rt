@@ -1,5 +1,4 @@
 use crate::sequences::statements;
-use m3_bound_names::{add_lock, bind_all, hide};
 use m3_core::CoreStmt;
 use m3_syntax::Stmt;
 use m3_walk::Walk;
@@ -15,8 +14,7 @@ pub fn enclosed<'a>(walk: &mut Walk<'_, 'a>, statement: &Stmt<'a>) {
             bindings,
             body,
         } => {
-            let bindings = bind_all(&mut walk.checker, &mut walk.body, bindings);
-            let bindings = walk.memory.row(bindings);
+            let bindings = walk.bindings(bindings);
             let body = statements(walk, body);
             walk.put(CoreStmt::With {
                 pos: *pos,
@@ -25,12 +23,10 @@ pub fn enclosed<'a>(walk: &mut Walk<'_, 'a>, statement: &Stmt<'a>) {
             });
         }
         Stmt::Lock { pos, mutex, body } => {
-            let hidden = hide(&mut walk.checker, &mut walk.body, *pos, mutex);
-            let hidden = walk.memory.found(hidden);
+            let hidden = walk.hidden(*pos, mutex);
             let body = statements(walk, body);
             if let Some(hidden) = hidden {
-                let added = add_lock(&walk.checker, &mut walk.open, *pos, &hidden, body);
-                walk.memory.made(added);
+                walk.put_lock(*pos, &hidden, body);
             }
         }
         Stmt::TryFinally { pos, body, last } => {

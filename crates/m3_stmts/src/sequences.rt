@@ -4,7 +4,6 @@ use crate::loops::repeated;
 use crate::procedures::block;
 use crate::scopes::enclosed;
 use m3_core::CoreStmt;
-use m3_exceptions::simple;
 use m3_syntax::Stmt;
 use m3_walk::Walk;
 
@@ -28,7 +27,7 @@ fn statement<'a>(walk: &mut Walk<'_, 'a>, statement: &Stmt<'a>) {
         | Stmt::Eval { .. }
         | Stmt::Return { .. }
         | Stmt::Raise { .. }
-        | Stmt::Exit { .. } => leaf(walk, statement),
+        | Stmt::Exit { .. } => walk.leaf(statement),
         Stmt::Block(inner) => {
             let checked = block(walk, inner);
             walk.put(checked);
@@ -43,13 +42,5 @@ fn statement<'a>(walk: &mut Walk<'_, 'a>, statement: &Stmt<'a>) {
         Stmt::Loop { .. } | Stmt::While { .. } | Stmt::Repeat { .. } | Stmt::For { .. } => {
             repeated(walk, statement)
         }
-    }
-}
-
-/// A statement without statements in it.
-fn leaf<'a>(walk: &mut Walk<'_, 'a>, statement: &Stmt<'a>) {
-    let checked = simple(&mut walk.checker, &walk.body, statement);
-    if let Some(checked) = walk.memory.found(checked) {
-        walk.put(checked);
     }
 }

@@ -1,5 +1,4 @@
 use bumpalo::collections::into_bump_slice;
-use m3_assignments::initial_values;
 use m3_base::{NoMemory, Pos};
 use m3_bodies::Body;
 use m3_core::{CoreStmt, ProcDef};
@@ -35,11 +34,10 @@ pub fn check_module<'a>(
 }
 
 fn module_block<'a>(walk: &mut Walk<'_, 'a>, block: &Block<'a>) -> CoreStmt<'a> {
-    let initial = initial_values(&mut walk.checker, block.declarations);
     CoreStmt::Block {
         pos: block.pos,
         variables: no_variables(),
-        initial: walk.memory.row(initial),
+        initial: walk.initial(block.declarations),
         body: statements(walk, block.body),
     }
 }
