@@ -7,7 +7,7 @@ use m3_walk::Walk;
 
 /// IF with its ELSIFs.
 #[cycle(statements)]
-pub fn alternatives<'a>(walk: &mut Walk<'_, 'a>, statement: &Stmt<'a>) {
+pub fn alternatives<'a>(walk: &mut Walk<'_, '_, 'a>, statement: &Stmt<'a>) {
     let Stmt::If { pos, arms, .. } = statement else {
         return;
     };
@@ -29,7 +29,7 @@ pub fn alternatives<'a>(walk: &mut Walk<'_, 'a>, statement: &Stmt<'a>) {
 
 /// CASE.
 #[cycle(statements)]
-pub fn choice<'a>(walk: &mut Walk<'_, 'a>, statement: &Stmt<'a>) {
+pub fn choice<'a>(walk: &mut Walk<'_, '_, 'a>, statement: &Stmt<'a>) {
     let Stmt::Case {
         pos,
         value,
@@ -61,7 +61,7 @@ pub fn choice<'a>(walk: &mut Walk<'_, 'a>, statement: &Stmt<'a>) {
 
 /// TYPECASE: each type is a subtype of the value's (rule 81).
 #[cycle(statements)]
-pub fn type_choice<'a>(walk: &mut Walk<'_, 'a>, statement: &Stmt<'a>) {
+pub fn type_choice<'a>(walk: &mut Walk<'_, '_, 'a>, statement: &Stmt<'a>) {
     let Stmt::TypeCase {
         pos,
         value,
@@ -99,7 +99,10 @@ pub fn type_choice<'a>(walk: &mut Walk<'_, 'a>, statement: &Stmt<'a>) {
 
 /// The statements behind ELSE, where a statement has one.
 #[cycle(statements)]
-pub fn otherwise<'a>(walk: &mut Walk<'_, 'a>, statement: &Stmt<'a>) -> Option<&'a [CoreStmt<'a>]> {
+pub fn otherwise<'a>(
+    walk: &mut Walk<'_, '_, 'a>,
+    statement: &Stmt<'a>,
+) -> Option<&'a [CoreStmt<'a>]> {
     match statement {
         Stmt::If {
             otherwise: Some(row),

@@ -7,7 +7,7 @@ use m3_walk::Walk;
 
 /// TRY EXCEPT.
 #[cycle(statements)]
-pub fn handled<'a>(walk: &mut Walk<'_, 'a>, statement: &Stmt<'a>) {
+pub fn handled<'a>(walk: &mut Walk<'_, '_, 'a>, statement: &Stmt<'a>) {
     let Stmt::TryExcept {
         pos,
         body: row,

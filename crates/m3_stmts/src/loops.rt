@@ -6,7 +6,7 @@ use m3_walk::Walk;
 /// LOOP, WHILE, REPEAT and FOR. What stands beside the statements of a loop counts as inside
 /// it too, since no EXIT stands there.
 #[cycle(statements)]
-pub fn repeated<'a>(walk: &mut Walk<'_, 'a>, statement: &Stmt<'a>) {
+pub fn repeated<'a>(walk: &mut Walk<'_, '_, 'a>, statement: &Stmt<'a>) {
     let loops = walk.body.loops;
     walk.body.loops = loops.saturating_add(1);
     match statement {

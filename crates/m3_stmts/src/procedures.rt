@@ -9,7 +9,7 @@ use m3_walk::Walk;
 /// Checks the procedure that a declaration declares with a body, and those inside it. `around`
 /// is the procedure around it.
 #[cycle(statements)]
-pub fn procedure<'a>(walk: &mut Walk<'_, 'a>, around: Option<u32>, declaration: &Decl<'a>) {
+pub fn procedure<'a>(walk: &mut Walk<'_, '_, 'a>, around: Option<u32>, declaration: &Decl<'a>) {
     let Decl::Procedure {
         pos,
         name,
@@ -19,12 +19,12 @@ pub fn procedure<'a>(walk: &mut Walk<'_, 'a>, around: Option<u32>, declaration: 
     else {
         return;
     };
-    let Some((kind, number)) = known(&walk.checker, *name) else {
+    let Some((kind, number)) = known(walk.checker, *name) else {
         return;
     };
-    let due = result_type(&walk.checker, kind);
+    let due = result_type(walk.checker, kind);
     let outer = walk.enter(number, due);
-    let formals = declare_formals(&mut walk.checker, &mut walk.body, signature, kind);
+    let formals = declare_formals(walk.checker, &mut walk.body, signature, kind);
     walk.memory.made(formals);
     let checked = block(walk, &declared.block);
     let body = walk.leave(outer);
@@ -35,18 +35,18 @@ pub fn procedure<'a>(walk: &mut Walk<'_, 'a>, around: Option<u32>, declaration: 
         pos: *pos,
         end: declared.block.end,
     };
-    let defined = define(&walk.checker, &mut walk.procedures, body, &heading, checked);
+    let defined = define(walk.checker, &mut walk.procedures, body, &heading, checked);
     walk.memory.made(defined);
 }
 
 /// A block: its variables, the procedures inside it, the initial values and the statements.
 #[cycle(statements)]
-pub fn block<'a>(walk: &mut Walk<'_, 'a>, block: &Block<'a>) -> CoreStmt<'a> {
+pub fn block<'a>(walk: &mut Walk<'_, '_, 'a>, block: &Block<'a>) -> CoreStmt<'a> {
     let variables = walk.locals(block.declarations);
     let level = walk.checker.level;
     let around = Some(walk.body.number);
     for declaration in block.declarations {
-        judge_declaration(&mut walk.checker, declaration);
+        judge_declaration(walk.checker, declaration);
         walk.checker.level = level.saturating_add(1);
         procedure(walk, around, declaration);
         walk.checker.level = level;

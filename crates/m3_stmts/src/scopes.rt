@@ -7,7 +7,7 @@ use m3_walk::Walk;
 /// that can't be written. LOCK is written out: WITH x = m DO Thread.Acquire(x); TRY S FINALLY
 /// Thread.Release(x) END END.
 #[cycle(statements)]
-pub fn enclosed<'a>(walk: &mut Walk<'_, 'a>, statement: &Stmt<'a>) {
+pub fn enclosed<'a>(walk: &mut Walk<'_, '_, 'a>, statement: &Stmt<'a>) {
     match statement {
         Stmt::With {
             pos,

@@ -9,7 +9,7 @@ use m3_walk::Walk;
 
 /// The checked statements of a row; those that were refused are left out.
 #[cycle(statements)]
-pub fn statements<'a>(walk: &mut Walk<'_, 'a>, row: &[Stmt<'a>]) -> &'a [CoreStmt<'a>] {
+pub fn statements<'a>(walk: &mut Walk<'_, '_, 'a>, row: &[Stmt<'a>]) -> &'a [CoreStmt<'a>] {
     let around = walk.open_row();
     for one in row {
         statement(walk, one);
@@ -19,7 +19,7 @@ pub fn statements<'a>(walk: &mut Walk<'_, 'a>, row: &[Stmt<'a>]) -> &'a [CoreStm
 
 /// Checks a statement, and adds it to the row in which it stands, if it isn't refused.
 #[cycle(statements)]
-fn statement<'a>(walk: &mut Walk<'_, 'a>, statement: &Stmt<'a>) {
+fn statement<'a>(walk: &mut Walk<'_, '_, 'a>, statement: &Stmt<'a>) {
     walk.checker.steps.clear();
     match statement {
         Stmt::Assign { .. }

@@ -18,7 +18,7 @@ pub struct ModuleHeading<'a> {
 
 /// Checks a module's body.
 pub fn check_module<'a>(
-    walk: &mut Walk<'_, 'a>,
+    walk: &mut Walk<'_, '_, 'a>,
     heading: ModuleHeading<'a>,
     block: &Block<'a>,
 ) -> Result<(), NoMemory> {
@@ -28,12 +28,12 @@ pub fn check_module<'a>(
     let around = walk.enter(number, None);
     let checked = module_block(walk, block);
     let body = walk.leave(around);
-    let module = module_of(&mut walk.checker, body, heading, checked)?;
+    let module = module_of(walk.checker, body, heading, checked)?;
     walk.procedures.push((number, module))?;
     Ok(())
 }
 
-fn module_block<'a>(walk: &mut Walk<'_, 'a>, block: &Block<'a>) -> CoreStmt<'a> {
+fn module_block<'a>(walk: &mut Walk<'_, '_, 'a>, block: &Block<'a>) -> CoreStmt<'a> {
     CoreStmt::Block {
         pos: block.pos,
         variables: no_variables(),
