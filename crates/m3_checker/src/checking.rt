@@ -39,31 +39,30 @@ fn check_program<'a>(
     linked: &Linked<'a>,
 ) -> Result<Core<'a>, Refused> {
     let Declarations { declared, doubtful } = declare(alloc, arena, linked)?;
-    let mut checker = Checker::new(alloc, arena, &linked.program, declared);
-    let mut walk = Walk::new(&mut checker);
+    let mut walk = Walk::new(Checker::new(alloc, arena, &linked.program, declared));
     check_all(&mut walk, linked, &doubtful, sources)
 }
 
 /// Checks what a program's declarations declare, and makes the checked program of it.
 fn check_all<'a>(
-    walk: &mut Walk<'_, '_, 'a>,
+    walk: &mut Walk<'_, 'a>,
     linked: &Linked<'a>,
     doubtful: &[Doubtful<'a>],
     sources: &[Source<'a>],
 ) -> Result<Core<'a>, Refused> {
     check_declared(walk, doubtful, &linked.units)?;
     let procedures = walk.procedures.as_slice();
-    let lists = list_all(walk.checker, linked, procedures, sources)?;
-    core_of(walk.checker, &lists)
+    let lists = list_all(&mut walk.checker, linked, procedures, sources)?;
+    core_of(&mut walk.checker, &lists)
 }
 
 /// Checks what a program's declarations declare, of which then nothing is refused.
 fn check_declared<'a>(
-    walk: &mut Walk<'_, '_, 'a>,
+    walk: &mut Walk<'_, 'a>,
     doubtful: &[Doubtful<'a>],
     units: &[Unit<'a>],
 ) -> Result<(), Refused> {
-    declare_globals(walk.checker, units)?;
+    declare_globals(&mut walk.checker, units)?;
     check_units(walk, doubtful, units)?;
     walk.checker.least.check()?;
     let refused = walk.checker.declared.basic.refused;

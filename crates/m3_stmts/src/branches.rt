@@ -1,19 +1,21 @@
+use crate::loops::checked_condition;
 use crate::sequences::statements;
 use bumpalo::collections::into_bump_slice;
-use m3_branches::ranges_at;
+use m3_branches::{all_ranges, branch_types, branch_variable, ranges_at};
 use m3_core::{Arm, CaseBranch, CoreStmt, TypeBranch};
+use m3_exprs::expression;
 use m3_syntax::Stmt;
 use m3_walk::Walk;
 
 /// IF with its ELSIFs.
 #[cycle(statements)]
-pub fn alternatives<'a>(walk: &mut Walk<'_, '_, 'a>, statement: &Stmt<'a>) {
+pub fn alternatives<'a>(walk: &mut Walk<'_, 'a>, statement: &Stmt<'a>) {
     let Stmt::If { pos, arms, .. } = statement else {
         return;
     };
     let mut checked = Vec::new(walk.checker.arena);
     for arm in *arms {
-        let value = walk.condition(arm.condition);
+        let value = checked_condition(walk, arm.condition);
         let body = statements(walk, arm.body);
         if let Some(condition) = value {
             walk.memory.add(&mut checked, Arm { condition, body });
@@ -29,7 +31,7 @@ pub fn alternatives<'a>(walk: &mut Walk<'_, '_, 'a>, statement: &Stmt<'a>) {
 
 /// CASE.
 #[cycle(statements)]
-pub fn choice<'a>(walk: &mut Walk<'_, '_, 'a>, statement: &Stmt<'a>) {
+pub fn choice<'a>(walk: &mut Walk<'_, 'a>, statement: &Stmt<'a>) {
     let Stmt::Case {
         pos,
         value,
@@ -39,8 +41,10 @@ pub fn choice<'a>(walk: &mut Walk<'_, '_, 'a>, statement: &Stmt<'a>) {
     else {
         return;
     };
-    let value = walk.value(value);
-    let ranges = walk.ranges(branches, value);
+    let value = expression(&mut walk.checker, value);
+    let value = walk.memory.found(value);
+    let ranges = all_ranges(&mut walk.checker, branches, value);
+    let ranges = walk.memory.row(ranges);
     let mut checked = Vec::new(walk.checker.arena);
     for (place, branch) in branches.iter().enumerate() {
         let body = statements(walk, branch.body);
@@ -61,7 +65,7 @@ pub fn choice<'a>(walk: &mut Walk<'_, '_, 'a>, statement: &Stmt<'a>) {
 
 /// TYPECASE: each type is a subtype of the value's (rule 81).
 #[cycle(statements)]
-pub fn type_choice<'a>(walk: &mut Walk<'_, '_, 'a>, statement: &Stmt<'a>) {
+pub fn type_choice<'a>(walk: &mut Walk<'_, 'a>, statement: &Stmt<'a>) {
     let Stmt::TypeCase {
         pos,
         value,
@@ -71,10 +75,21 @@ pub fn type_choice<'a>(walk: &mut Walk<'_, '_, 'a>, statement: &Stmt<'a>) {
     else {
         return;
     };
-    let value = walk.value(value);
+    let value = expression(&mut walk.checker, value);
+    let value = walk.memory.found(value);
     let mut checked = Vec::new(walk.checker.arena);
     for branch in *branches {
-        let (types, variable) = walk.type_branch(branch, value);
+        let types = branch_types(&mut walk.checker, branch.kinds, value);
+        let types = walk.memory.row(types);
+        let written = (types, branch.kinds.len());
+        let variable = branch_variable(
+            &mut walk.checker,
+            &mut walk.body,
+            branch.name,
+            written,
+            value,
+        );
+        let variable = walk.memory.found(variable);
         let body = statements(walk, branch.body);
         walk.memory.add(
             &mut checked,
@@ -99,10 +114,7 @@ pub fn type_choice<'a>(walk: &mut Walk<'_, '_, 'a>, statement: &Stmt<'a>) {
 
 /// The statements behind ELSE, where a statement has one.
 #[cycle(statements)]
-pub fn otherwise<'a>(
-    walk: &mut Walk<'_, '_, 'a>,
-    statement: &Stmt<'a>,
-) -> Option<&'a [CoreStmt<'a>]> {
+pub fn otherwise<'a>(walk: &mut Walk<'_, 'a>, statement: &Stmt<'a>) -> Option<&'a [CoreStmt<'a>]> {
     match statement {
         Stmt::If {
             otherwise: Some(row),

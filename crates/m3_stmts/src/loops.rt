@@ -1,12 +1,14 @@
 use crate::sequences::statements;
-use m3_core::CoreStmt;
-use m3_syntax::Stmt;
+use m3_bound_names::for_head;
+use m3_branches::condition;
+use m3_core::{CoreExpr, CoreStmt};
+use m3_syntax::{Expr, Stmt};
 use m3_walk::Walk;
 
 /// LOOP, WHILE, REPEAT and FOR. What stands beside the statements of a loop counts as inside
 /// it too, since no EXIT stands there.
 #[cycle(statements)]
-pub fn repeated<'a>(walk: &mut Walk<'_, '_, 'a>, statement: &Stmt<'a>) {
+pub fn repeated<'a>(walk: &mut Walk<'_, 'a>, statement: &Stmt<'a>) {
     let loops = walk.body.loops;
     walk.body.loops = loops.saturating_add(1);
     match statement {
@@ -19,7 +21,7 @@ pub fn repeated<'a>(walk: &mut Walk<'_, '_, 'a>, statement: &Stmt<'a>) {
             condition,
             body,
         } => {
-            let condition = walk.condition(condition);
+            let condition = checked_condition(walk, condition);
             let body = statements(walk, body);
             if let Some(condition) = condition {
                 walk.put(CoreStmt::While {
@@ -35,7 +37,7 @@ pub fn repeated<'a>(walk: &mut Walk<'_, '_, 'a>, statement: &Stmt<'a>) {
             condition,
         } => {
             let body = statements(walk, body);
-            if let Some(condition) = walk.condition(condition) {
+            if let Some(condition) = checked_condition(walk, condition) {
                 walk.put(CoreStmt::Repeat {
                     pos: *pos,
                     body,
@@ -44,7 +46,8 @@ pub fn repeated<'a>(walk: &mut Walk<'_, '_, 'a>, statement: &Stmt<'a>) {
             }
         }
         Stmt::For { pos, body, .. } => {
-            let head = walk.for_head(statement);
+            let head = for_head(&mut walk.checker, &mut walk.body, statement);
+            let head = walk.memory.found(head);
             let body = statements(walk, body);
             if let Some(head) = head {
                 walk.put(CoreStmt::For {
@@ -60,4 +63,13 @@ pub fn repeated<'a>(walk: &mut Walk<'_, '_, 'a>, statement: &Stmt<'a>) {
         _ => {}
     }
     walk.body.loops = loops;
+}
+
+/// A condition.
+pub fn checked_condition<'a>(
+    walk: &mut Walk<'_, 'a>,
+    value: &Expr<'a>,
+) -> Option<&'a CoreExpr<'a>> {
+    let value = condition(&mut walk.checker, value);
+    walk.memory.found(value)
 }

@@ -1,4 +1,5 @@
 use bumpalo::collections::into_bump_slice;
+use m3_assignments::initial_values;
 use m3_base::{NoMemory, Pos};
 use m3_bodies::Body;
 use m3_core::{CoreStmt, ProcDef};
@@ -18,7 +19,7 @@ pub struct ModuleHeading<'a> {
 
 /// Checks a module's body.
 pub fn check_module<'a>(
-    walk: &mut Walk<'_, '_, 'a>,
+    walk: &mut Walk<'_, 'a>,
     heading: ModuleHeading<'a>,
     block: &Block<'a>,
 ) -> Result<(), NoMemory> {
@@ -28,16 +29,17 @@ pub fn check_module<'a>(
     let around = walk.enter(number, None);
     let checked = module_block(walk, block);
     let body = walk.leave(around);
-    let module = module_of(walk.checker, body, heading, checked)?;
+    let module = module_of(&mut walk.checker, body, heading, checked)?;
     walk.procedures.push((number, module))?;
     Ok(())
 }
 
-fn module_block<'a>(walk: &mut Walk<'_, '_, 'a>, block: &Block<'a>) -> CoreStmt<'a> {
+fn module_block<'a>(walk: &mut Walk<'_, 'a>, block: &Block<'a>) -> CoreStmt<'a> {
+    let initial = initial_values(&mut walk.checker, block.declarations);
     CoreStmt::Block {
         pos: block.pos,
         variables: no_variables(),
-        initial: walk.initial(block.declarations),
+        initial: walk.memory.row(initial),
         body: statements(walk, block.body),
     }
 }

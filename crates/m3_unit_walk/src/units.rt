@@ -13,16 +13,16 @@ use m3_walk::Walk;
 /// Checks the doubtful expressions of declarations, and the expressions and statements of all
 /// units, and lists the procedures.
 pub fn check_units<'a>(
-    walk: &mut Walk<'_, '_, 'a>,
+    walk: &mut Walk<'_, 'a>,
     doubtful: &[Doubtful<'a>],
     units: &[Unit<'a>],
 ) -> Result<(), NoMemory> {
-    note_later(walk.checker);
-    check_constants(walk.checker, doubtful)?;
+    note_later(&mut walk.checker);
+    check_constants(&mut walk.checker, doubtful)?;
     for (place, unit) in units.iter().enumerate() {
         walk.checker.unit = place_number(place)?;
         walk.checker.level = 0;
-        if is_given(walk.checker, place) {
+        if is_given(&walk.checker, place) {
             check_unit(walk, unit)?;
         }
     }
@@ -49,11 +49,11 @@ fn check_constants<'a>(
     Ok(())
 }
 
-fn check_unit<'a>(walk: &mut Walk<'_, '_, 'a>, unit: &Unit<'a>) -> Result<(), NoMemory> {
+fn check_unit<'a>(walk: &mut Walk<'_, 'a>, unit: &Unit<'a>) -> Result<(), NoMemory> {
     check_procedures(walk, unit.declarations());
     match unit.kind {
         UnitKind::Interface { declarations, .. } => {
-            check_variables(walk.checker, **declarations)
+            check_variables(&mut walk.checker, **declarations)
         }
         UnitKind::Module { block, .. } => {
             let heading = ModuleHeading {
@@ -68,9 +68,9 @@ fn check_unit<'a>(walk: &mut Walk<'_, '_, 'a>, unit: &Unit<'a>) -> Result<(), No
 }
 
 /// Judges the types in declarations, and checks the procedures.
-fn check_procedures<'a>(walk: &mut Walk<'_, '_, 'a>, declarations: &[Decl<'a>]) {
+fn check_procedures<'a>(walk: &mut Walk<'_, 'a>, declarations: &[Decl<'a>]) {
     for declaration in declarations {
-        judge_declaration(walk.checker, declaration);
+        judge_declaration(&mut walk.checker, declaration);
         procedure(walk, None, declaration);
     }
 }

@@ -1,9 +1,8 @@
-//! A walk over the statements of a program: the checker of expressions, the body and the row of
-//! statements that are open, whether memory was wanting, and the steps that hold no statements.
+//! Where a walk over the statements of a program stands: the checker of expressions, the body and
+//! the row of statements that are open, and whether memory was wanting.
 #![tactic(auto)]
 
 mod memory;
-mod steps;
 mod walks;
 
 pub use memory::Memory;

@@ -12,8 +12,8 @@ pub type Row<'a> = Vec<CoreStmt<'a>, &'a Bump>;
 /// What walks over the statements of a program: what checks the expressions in them, the body in
 /// which they stand, and the procedures that were checked.
 #[derive(Drop)]
-pub struct Walk<'w, 'p, 'a> {
-    pub checker: &'w mut Checker<'p, 'a>,
+pub struct Walk<'p, 'a> {
+    pub checker: Checker<'p, 'a>,
     pub body: Body<'a>,
     pub procedures: Procedures<'a>,
     pub memory: Memory,
@@ -21,10 +21,10 @@ pub struct Walk<'w, 'p, 'a> {
     pub open: Row<'a>,
 }
 
-impl<'w, 'p, 'a> Walk<'w, 'p, 'a> {
+impl<'p, 'a> Walk<'p, 'a> {
     /// A walk outside all bodies.
-    pub fn new(checker: &'w mut Checker<'p, 'a>) -> Walk<'w, 'p, 'a> {
-        let body = Body::new(checker, 0, None);
+    pub fn new(checker: Checker<'p, 'a>) -> Walk<'p, 'a> {
+        let body = Body::new(&checker, 0, None);
         let procedures = Vec::new(checker.alloc);
         let open = Vec::new(checker.arena);
         Walk {
@@ -38,7 +38,7 @@ impl<'w, 'p, 'a> Walk<'w, 'p, 'a> {
 
     /// Goes into the body of a procedure, and gives the one around it, to which `leave` goes back.
     pub fn enter(&mut self, number: u32, due: Option<TypeId>) -> Body<'a> {
-        let body = Body::new(self.checker, number, due);
+        let body = Body::new(&self.checker, number, due);
         std::mem::replace(&mut self.body, body)
     }
 
