@@ -29,13 +29,13 @@ pub struct Heading<'a> {
 /// The procedures that were checked, each with its number.
 pub type Procedures<'a> = Vec<(u32, ProcDef<'a>)>;
 
-/// Adds a checked procedure.
+/// Adds a checked procedure. `row` has its block.
 pub fn define<'a>(
     checker: &Checker<'_, 'a>,
     procedures: &mut Procedures<'a>,
     body: Body<'a>,
     heading: &Heading<'a>,
-    block: CoreStmt<'a>,
+    row: &'a [CoreStmt<'a>],
 ) -> Result<(), NoMemory> {
     let Body {
         formals,
@@ -55,7 +55,7 @@ pub fn define<'a>(
         outer: heading.around,
         formals: into_bump_slice(formals),
         locals: into_bump_slice(locals),
-        body: &*checker.arena.try_alloc_slice_copy(&[block])?,
+        body: row,
         pos: heading.pos,
         name_pos: heading.name.pos,
         end: heading.end,

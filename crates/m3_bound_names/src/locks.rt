@@ -1,5 +1,4 @@
 use crate::bindings::{Target, bind, target_of};
-use bumpalo::Bump;
 use m3_base::{NoMemory, Pos};
 use m3_bodies::Body;
 use m3_core::{
@@ -83,7 +82,7 @@ fn read_of<'a>(
 /// FINALLY Thread.Release(x) END END.
 pub fn add_lock<'a>(
     checker: &Checker<'_, 'a>,
-    row: &mut Vec<CoreStmt<'a>, &'a Bump>,
+    row: &mut Vec<CoreStmt<'a>>,
     pos: Pos,
     hidden: &Hidden<'a>,
     body: &'a [CoreStmt<'a>],

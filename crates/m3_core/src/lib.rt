@@ -16,5 +16,7 @@ pub use exprs::{
     PrefixOperator, Relation, SetElement,
 };
 pub use program::{Core, ExcDef, ProcDef, Role, VarDef, VarKind};
-pub use stmts::{Arm, Bound, CaseBranch, CoreStmt, Handler, LabelRange, TypeBranch, WithBinding};
+pub use stmts::{
+    Arm, Bound, CaseBranch, CoreStmt, Else, Handler, LabelRange, TypeBranch, WithBinding,
+};
 pub use values::{Value, ValueId};

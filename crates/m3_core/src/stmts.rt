@@ -49,7 +49,7 @@ pub enum CoreStmt<'a> {
         pos: Pos,
         value: &'a CoreExpr<'a>,
         branches: &'a [CaseBranch<'a>],
-        otherwise: Option<&'a [CoreStmt<'a>]>,
+        otherwise: Else<'a>,
     },
     /// Leaves the innermost loop.
     Exit {
@@ -73,7 +73,7 @@ pub enum CoreStmt<'a> {
     If {
         pos: Pos,
         arms: &'a [Arm<'a>],
-        otherwise: Option<&'a [CoreStmt<'a>]>,
+        otherwise: Else<'a>,
     },
     /// The end of a turn is a point.
     Loop {
@@ -102,7 +102,7 @@ pub enum CoreStmt<'a> {
         pos: Pos,
         body: &'a [CoreStmt<'a>],
         handlers: &'a [Handler<'a>],
-        otherwise: Option<&'a [CoreStmt<'a>]>,
+        otherwise: Else<'a>,
     },
     /// `last` runs whatever way the body ends; if it ends otherwise than normally, that counts
     /// instead.
@@ -117,7 +117,7 @@ pub enum CoreStmt<'a> {
         pos: Pos,
         value: &'a CoreExpr<'a>,
         branches: &'a [TypeBranch<'a>],
-        otherwise: Option<&'a [CoreStmt<'a>]>,
+        otherwise: Else<'a>,
     },
     /// The end of a turn is a point.
     While {
@@ -144,6 +144,14 @@ pub struct LabelRange {
 #[derive(Clone, Copy)]
 pub struct CaseBranch<'a> {
     pub ranges: &'a [LabelRange],
+    pub body: &'a [CoreStmt<'a>],
+}
+
+/// The statements behind ELSE: none where no ELSE is written.
+#[cycle(statements)]
+#[derive(Clone, Copy)]
+pub struct Else<'a> {
+    pub is_written: bool,
     pub body: &'a [CoreStmt<'a>],
 }
 

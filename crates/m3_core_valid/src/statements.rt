@@ -62,9 +62,7 @@ fn judge_else<'a>(judge: &mut Judge<'_>, statement: &CoreStmt<'a>) {
     else {
         return;
     };
-    if let Some(row) = otherwise {
-        judge_statements(judge, row);
-    }
+    judge_statements(judge, otherwise.body);
 }
 
 /// Judges the statements of a loop.

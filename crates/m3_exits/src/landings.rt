@@ -156,12 +156,9 @@ fn inside_branches(b: &Builder, s: &CoreStmt) -> SlotRange {
             otherwise,
             ..
         } => (inside_types(b, branches), *otherwise),
-        _ => (NOTHING, None),
+        _ => return NOTHING,
     };
-    match otherwise {
-        Some(row) => range.with(range_inside(b, row)),
-        None => range,
-    }
+    range.with(range_inside(b, otherwise.body))
 }
 
 #[cycle(landings)]

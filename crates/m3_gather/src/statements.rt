@@ -149,9 +149,7 @@ fn gather_case<'a>(gatherer: &mut Gatherer<'_, 'a>, statement: &'a Stmt<'a>) {
                 gather_labels(gatherer, branch.labels);
                 gather_statements(gatherer, branch.body);
             }
-            if let Some(statements) = otherwise {
-                gather_statements(gatherer, statements);
-            }
+            gather_statements(gatherer, otherwise.body);
         }
         _ => {}
     }
@@ -192,9 +190,7 @@ fn gather_if<'a>(gatherer: &mut Gatherer<'_, 'a>, statement: &'a Stmt<'a>) {
                 gather_expression(gatherer, arm.condition);
                 gather_statements(gatherer, arm.body);
             }
-            if let Some(statements) = otherwise {
-                gather_statements(gatherer, statements);
-            }
+            gather_statements(gatherer, otherwise.body);
         }
         _ => {}
     }
@@ -221,9 +217,7 @@ fn gather_try<'a>(gatherer: &mut Gatherer<'_, 'a>, statement: &'a Stmt<'a>) {
             for handler in *handlers {
                 gather_handler(gatherer, handler);
             }
-            if let Some(statements) = otherwise {
-                gather_statements(gatherer, statements);
-            }
+            gather_statements(gatherer, otherwise.body);
         }
         _ => {}
     }
@@ -256,9 +250,7 @@ fn gather_typecase<'a>(gatherer: &mut Gatherer<'_, 'a>, statement: &'a Stmt<'a>)
                 gather_branch_types(gatherer, branch);
                 gather_statements(gatherer, branch.body);
             }
-            if let Some(statements) = otherwise {
-                gather_statements(gatherer, statements);
-            }
+            gather_statements(gatherer, otherwise.body);
         }
         _ => {}
     }

@@ -15,6 +15,7 @@ use Rattle.m3_syntax.specs.declared.statements.CaseBranch.{CaseBranch}
 use Rattle.m3_syntax.specs.declared.statements.ConstDecl.{ConstDecl}
 use Rattle.m3_syntax.specs.declared.statements.Decl.{Decl}
 use Rattle.m3_syntax.specs.declared.statements.Decl.TheVariants as declare
+use Rattle.m3_syntax.specs.declared.statements.Else.{Else}
 use Rattle.m3_syntax.specs.declared.statements.ExceptionDecl.{ExceptionDecl}
 use Rattle.m3_syntax.specs.declared.statements.Handler.{Handler}
 use Rattle.m3_syntax.specs.declared.statements.Label.{Label}
@@ -145,7 +146,7 @@ mutual
         → IsSign s.OpenParen b c → IsActuals c d actuals.now → IsSign s.CloseParen d f → IsStmt a f (st.Call pos callee parenthesis actuals)
     block : {a b : Row} {block : Block} → IsBlock a b block → IsStmt a b (st.Block block)
     -- CASE Expr OF [Case] {"|" Case} [ELSE S] END
-    case : {a b c d f g h : Row} (pos : Pos) (value : Bor Expr) (branches : Bor (List CaseBranch)) (otherwise : Option (Bor (List Stmt))) → IsAt pos a → IsWord w.Case a b
+    case : {a b c d f g h : Row} (pos : Pos) (value : Bor Expr) (branches : Bor (List CaseBranch)) (otherwise : Else) → IsAt pos a → IsWord w.Case a b
         → IsExpr whole b c value.now → IsWord w.Of c d → IsCases d f branches.now → IsElse f g otherwise → IsWord w.End g h → IsStmt a h (st.Case pos value branches otherwise)
     exit : {a b : Row} (pos : Pos) → IsAt pos a → IsWord w.Exit a b → IsStmt a b (st.Exit pos)
     eval : {a b c : Row} (pos : Pos) (value : Bor Expr) → IsAt pos a → IsWord w.Eval a b → IsExpr whole b c value.now → IsStmt a c (st.Eval pos value)
@@ -154,7 +155,7 @@ mutual
         → IsSign s.Assign c d → IsExpr whole d f first.now → IsWord w.To f g → IsExpr whole g h last.now → IsStep h i by → IsWord w.Do i j → IsStatements j k body.now → IsWord w.End k l
         → IsStmt a l (st.For pos name first last by body)
     -- IF Expr THEN S {ELSIF Expr THEN S} [ELSE S] END
-    if : {a b c d : Row} (pos : Pos) (arms : Bor (List Arm)) (otherwise : Option (Bor (List Stmt))) → IsAt pos a → IsArms a b arms.now → IsElse b c otherwise → IsWord w.End c d
+    if : {a b c d : Row} (pos : Pos) (arms : Bor (List Arm)) (otherwise : Else) → IsAt pos a → IsArms a b arms.now → IsElse b c otherwise → IsWord w.End c d
         → IsStmt a d (st.If pos arms otherwise)
     -- LOCK Expr DO S END
     lock : {a b c d f g : Row} (pos : Pos) (mutex : Bor Expr) (body : Bor (List Stmt)) → IsAt pos a → IsWord w.Lock a b → IsExpr whole b c mutex.now → IsWord w.Do c d
@@ -170,13 +171,13 @@ mutual
     -- RETURN [Expr]
     return : {a b c : Row} (pos : Pos) (value : Option (Bor Expr)) → IsAt pos a → IsWord w.Return a b → IsValue b c value → IsStmt a c (st.Return pos value)
     -- TRY S EXCEPT [Handler] {"|" Handler} [ELSE S] END
-    try_except : {a b c d f g h : Row} (pos : Pos) (body : Bor (List Stmt)) (handlers : Bor (List Handler)) (otherwise : Option (Bor (List Stmt))) → IsAt pos a → IsWord w.Try a b
+    try_except : {a b c d f g h : Row} (pos : Pos) (body : Bor (List Stmt)) (handlers : Bor (List Handler)) (otherwise : Else) → IsAt pos a → IsWord w.Try a b
         → IsStatements b c body.now → IsWord w.Except c d → IsHandlers d f handlers.now → IsElse f g otherwise → IsWord w.End g h → IsStmt a h (st.TryExcept pos body handlers otherwise)
     -- TRY S FINALLY S END
     try_finally : {a b c d f g : Row} (pos : Pos) (body last : Bor (List Stmt)) → IsAt pos a → IsWord w.Try a b → IsStatements b c body.now → IsWord w.Finally c d
         → IsStatements d f last.now → IsWord w.End f g → IsStmt a g (st.TryFinally pos body last)
     -- TYPECASE Expr OF [TCase] {"|" TCase} [ELSE S] END
-    typecase : {a b c d f g h : Row} (pos : Pos) (value : Bor Expr) (branches : Bor (List TypeBranch)) (otherwise : Option (Bor (List Stmt))) → IsAt pos a → IsWord w.Typecase a b
+    typecase : {a b c d f g h : Row} (pos : Pos) (value : Bor Expr) (branches : Bor (List TypeBranch)) (otherwise : Else) → IsAt pos a → IsWord w.Typecase a b
         → IsExpr whole b c value.now → IsWord w.Of c d → IsTypeCases d f branches.now → IsElse f g otherwise → IsWord w.End g h → IsStmt a h (st.TypeCase pos value branches otherwise)
     -- WHILE Expr DO S END
     while : {a b c d f g : Row} (pos : Pos) (condition : Bor Expr) (body : Bor (List Stmt)) → IsAt pos a → IsWord w.While a b → IsExpr whole b c condition.now → IsWord w.Do c d
@@ -186,9 +187,9 @@ mutual
         → IsStatements d f body.now → IsWord w.End f g → IsStmt a g (st.With pos bindings body)
 
   -- [ELSE S]
-  pub data IsElse : Row → Row → Option (Bor (List Stmt)) → Type 0 where
-    no_else : {a : Row} → IsElse a a None
-    else : {a b c : Row} (body : Bor (List Stmt)) → IsWord w.Else a b → IsStatements b c body.now → IsElse a c (Some body)
+  pub data IsElse : Row → Row → Else → Type 0 where
+    no_else : {a : Row} (otherwise : Else) → otherwise.is_written ≡ false → otherwise.body.now ≡ [] → IsElse a a otherwise
+    else : {a b c : Row} (otherwise : Else) → otherwise.is_written ≡ true → IsWord w.Else a b → IsStatements b c otherwise.body.now → IsElse a c otherwise
 
   -- IF Expr THEN S {ELSIF Expr THEN S}
   pub data IsArms : Row → Row → List Arm → Type 0 where

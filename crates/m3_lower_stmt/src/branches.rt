@@ -25,10 +25,8 @@ pub fn if_arms<'m>(
         return rest;
     };
     let join = b.seal(rest);
-    let mut code = b.goto(join);
-    if let Some(row) = otherwise {
-        code = statements(b, exits, row, code);
-    }
+    let code = b.goto(join);
+    let mut code = statements(b, exits, otherwise.body, code);
     for arm in arms.iter().rev() {
         let no = b.seal(code);
         let body = b.goto(join);
@@ -57,12 +55,11 @@ pub fn case_of<'m>(
         return rest;
     };
     let join = b.seal(rest);
-    let code = match otherwise {
-        Some(row) => {
-            let code = b.goto(join);
-            statements(b, exits, row, code)
-        }
-        None => b.fault(FaultKind::NoCase, *pos),
+    let code = if otherwise.is_written {
+        let code = b.goto(join);
+        statements(b, exits, otherwise.body, code)
+    } else {
+        b.fault(FaultKind::NoCase, *pos)
     };
     let none = b.seal(code);
     let labels = labels_of(b, exits, branches, join);
@@ -110,12 +107,11 @@ pub fn type_case<'m>(
         return rest;
     };
     let join = b.seal(rest);
-    let mut code = match otherwise {
-        Some(row) => {
-            let code = b.goto(join);
-            statements(b, exits, row, code)
-        }
-        None => b.fault(FaultKind::NoTypecase, *pos),
+    let mut code = if otherwise.is_written {
+        let code = b.goto(join);
+        statements(b, exits, otherwise.body, code)
+    } else {
+        b.fault(FaultKind::NoTypecase, *pos)
     };
     let operand = source(b, value);
     for branch in branches.iter().rev() {

@@ -28,14 +28,13 @@ pub fn try_except<'m>(
     };
     let join = b.seal(rest);
     let slots = slots_inside(b, body);
-    let last = match otherwise {
-        Some(row) => {
-            let code = b.goto(join);
-            let code = statements(b, exits, row, code);
-            let code = clear_range(b, slots, code);
-            Some(b.seal(code))
-        }
-        None => None,
+    let last = if otherwise.is_written {
+        let code = b.goto(join);
+        let code = statements(b, exits, otherwise.body, code);
+        let code = clear_range(b, slots, code);
+        Some(b.seal(code))
+    } else {
+        None
     };
     let caught = catch(b, exits, handlers, last, join);
     let caught = clear_range(b, slots, caught);

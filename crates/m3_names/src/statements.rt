@@ -206,10 +206,7 @@ fn walk_case<'a>(linker: &mut Linker<'a>, statement: &'a Stmt<'a>) -> Result<(),
                 walk_labels(linker, branch.labels)?;
                 walk_statements(linker, branch.body)?;
             }
-            match otherwise {
-                Some(statements) => walk_statements(linker, statements),
-                None => Ok(()),
-            }
+            walk_statements(linker, otherwise.body)
         }
         _ => Ok(()),
     }
@@ -249,10 +246,7 @@ fn walk_if<'a>(linker: &mut Linker<'a>, statement: &'a Stmt<'a>) -> Result<(), N
                 walk_expression(linker, arm.condition)?;
                 walk_statements(linker, arm.body)?;
             }
-            match otherwise {
-                Some(statements) => walk_statements(linker, statements),
-                None => Ok(()),
-            }
+            walk_statements(linker, otherwise.body)
         }
         _ => Ok(()),
     }
@@ -279,10 +273,7 @@ fn walk_try<'a>(linker: &mut Linker<'a>, statement: &'a Stmt<'a>) -> Result<(), 
             for handler in *handlers {
                 walk_handler(linker, handler)?;
             }
-            match otherwise {
-                Some(statements) => walk_statements(linker, statements),
-                None => Ok(()),
-            }
+            walk_statements(linker, otherwise.body)
         }
         _ => Ok(()),
     }
@@ -301,10 +292,7 @@ fn walk_typecase<'a>(linker: &mut Linker<'a>, statement: &'a Stmt<'a>) -> Result
             for branch in *branches {
                 walk_type_branch(linker, branch)?;
             }
-            match otherwise {
-                Some(statements) => walk_statements(linker, statements),
-                None => Ok(()),
-            }
+            walk_statements(linker, otherwise.body)
         }
         _ => Ok(()),
     }

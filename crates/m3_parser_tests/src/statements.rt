@@ -72,27 +72,16 @@ fn show_inside(statement: &Stmt, sheet: &mut Sheet) {
 /// The statements behind ELSE, where a statement has one.
 #[cycle(statements)]
 fn show_otherwise(statement: &Stmt, sheet: &mut Sheet) {
-    match statement {
-        Stmt::Case {
-            otherwise: Some(last),
-            ..
-        }
-        | Stmt::If {
-            otherwise: Some(last),
-            ..
-        }
-        | Stmt::TypeCase {
-            otherwise: Some(last),
-            ..
-        }
-        | Stmt::TryExcept {
-            otherwise: Some(last),
-            ..
-        } => {
-            sheet.word(b"ELSE");
-            show_statements(last, sheet);
-        }
-        _ => {}
+    let (Stmt::Case { otherwise, .. }
+    | Stmt::If { otherwise, .. }
+    | Stmt::TypeCase { otherwise, .. }
+    | Stmt::TryExcept { otherwise, .. }) = statement
+    else {
+        return;
+    };
+    if otherwise.is_written {
+        sheet.word(b"ELSE");
+        show_statements(otherwise.body, sheet);
     }
 }
 

@@ -108,9 +108,7 @@ fn count_case(counts: &mut Counts<'_, '_>, s: &CoreStmt<'_>) {
         for branch in *branches {
             count_statements(counts, branch.body);
         }
-        if let Some(otherwise) = otherwise {
-            count_statements(counts, otherwise);
-        }
+        count_statements(counts, otherwise.body);
     }
 }
 
@@ -126,9 +124,7 @@ fn count_if(counts: &mut Counts<'_, '_>, s: &CoreStmt<'_>) {
             count_expression(counts, arm.condition);
             count_statements(counts, arm.body);
         }
-        if let Some(otherwise) = otherwise {
-            count_statements(counts, otherwise);
-        }
+        count_statements(counts, otherwise.body);
     }
 }
 
@@ -145,9 +141,7 @@ fn count_try(counts: &mut Counts<'_, '_>, s: &CoreStmt<'_>) {
         for handler in *handlers {
             count_statements(counts, handler.body);
         }
-        if let Some(otherwise) = otherwise {
-            count_statements(counts, otherwise);
-        }
+        count_statements(counts, otherwise.body);
     }
 }
 
@@ -164,9 +158,7 @@ fn count_type_case(counts: &mut Counts<'_, '_>, s: &CoreStmt<'_>) {
         for branch in *branches {
             count_statements(counts, branch.body);
         }
-        if let Some(otherwise) = otherwise {
-            count_statements(counts, otherwise);
-        }
+        count_statements(counts, otherwise.body);
     }
 }
 

@@ -4,7 +4,7 @@ use crate::handlers::parenthesized_name;
 use crate::statements::statements;
 use m3_cursor::{Reader, begins_expression, begins_type};
 use m3_phrases::{expression, type_expression};
-use m3_syntax::{Arm, CaseBranch, Label, Sign, Stmt, TypeBranch, TypeExp, Word};
+use m3_syntax::{Arm, CaseBranch, Else, Label, Sign, Stmt, TypeBranch, TypeExp, Word};
 
 #[cycle(statements)]
 pub fn if_statement<'a>(reader: &mut Reader<'_, 'a>, room: u32) -> Stmt<'a>
@@ -39,16 +39,17 @@ pub fn if_statement<'a>(reader: &mut Reader<'_, 'a>, room: u32) -> Stmt<'a>
 
 /// The statements behind ELSE, if it is here, and the END behind them.
 #[cycle(statements)]
-pub fn otherwise<'a>(reader: &mut Reader<'_, 'a>, room: u32) -> Option<&'a [Stmt<'a>]>
+pub fn otherwise<'a>(reader: &mut Reader<'_, 'a>, room: u32) -> Else<'a>
     ensures { Follows reader.old reader.new }
 {
-    let otherwise = if reader.skip_word(Word::Else) {
-        Some(statements(reader, room))
+    let is_written = reader.skip_word(Word::Else);
+    let body = if is_written {
+        statements(reader, room)
     } else {
-        None
+        reader.no_items()
     };
     reader.take_word(Word::End);
-    otherwise
+    Else { is_written, body }
 }
 
 #[cycle(statements)]

@@ -1,32 +1,31 @@
-use crate::loops::checked_condition;
 use crate::sequences::statements;
-use bumpalo::collections::into_bump_slice;
-use m3_branches::{all_ranges, branch_types, branch_variable, ranges_at};
-use m3_core::{Arm, CaseBranch, CoreStmt, TypeBranch};
-use m3_exprs::expression;
+use m3_core::Else;
+use m3_heads::{condition, handler, ranges, tested, type_head};
 use m3_syntax::Stmt;
 use m3_walk::Walk;
+use m3_wholes::{
+    add_arm, add_case, add_handler, add_type_branch, put_case, put_if, put_try, put_type_case,
+};
 
 /// IF with its ELSIFs.
 #[cycle(statements)]
 pub fn alternatives<'a>(walk: &mut Walk<'_, 'a>, statement: &Stmt<'a>) {
-    let Stmt::If { pos, arms, .. } = statement else {
+    let Stmt::If {
+        pos,
+        arms,
+        otherwise,
+    } = statement
+    else {
         return;
     };
-    let mut checked = Vec::new(walk.checker.arena);
+    let marks = walk.marks();
     for arm in *arms {
-        let value = checked_condition(walk, arm.condition);
+        let condition = condition(walk, arm.condition);
         let body = statements(walk, arm.body);
-        if let Some(condition) = value {
-            walk.memory.add(&mut checked, Arm { condition, body });
-        }
+        add_arm(walk, condition, body);
     }
-    let otherwise = otherwise(walk, statement);
-    walk.put(CoreStmt::If {
-        pos: *pos,
-        arms: into_bump_slice(checked),
-        otherwise,
-    });
+    let otherwise = behind_else(walk, otherwise);
+    put_if(walk, *pos, &marks, otherwise);
 }
 
 /// CASE.
@@ -36,102 +35,73 @@ pub fn choice<'a>(walk: &mut Walk<'_, 'a>, statement: &Stmt<'a>) {
         pos,
         value,
         branches,
-        ..
+        otherwise,
     } = statement
     else {
         return;
     };
-    let value = expression(&mut walk.checker, value);
-    let value = walk.memory.found(value);
-    let ranges = all_ranges(&mut walk.checker, branches, value);
-    let ranges = walk.memory.row(ranges);
-    let mut checked = Vec::new(walk.checker.arena);
+    let value = tested(walk, value);
+    let ranges = ranges(walk, branches, value);
+    let marks = walk.marks();
     for (place, branch) in branches.iter().enumerate() {
         let body = statements(walk, branch.body);
-        let ranges = ranges_at(ranges, place);
-        walk.memory.add(&mut checked, CaseBranch { ranges, body });
+        add_case(walk, ranges, place, body);
     }
-    let branches = into_bump_slice(checked);
-    let otherwise = otherwise(walk, statement);
-    if let Some(value) = value {
-        walk.put(CoreStmt::Case {
-            pos: *pos,
-            value: value.core(),
-            branches,
-            otherwise,
-        });
-    }
+    let otherwise = behind_else(walk, otherwise);
+    put_case(walk, *pos, value, &marks, otherwise);
 }
 
-/// TYPECASE: each type is a subtype of the value's (rule 81).
+/// TYPECASE.
 #[cycle(statements)]
 pub fn type_choice<'a>(walk: &mut Walk<'_, 'a>, statement: &Stmt<'a>) {
     let Stmt::TypeCase {
         pos,
         value,
         branches,
-        ..
+        otherwise,
     } = statement
     else {
         return;
     };
-    let value = expression(&mut walk.checker, value);
-    let value = walk.memory.found(value);
-    let mut checked = Vec::new(walk.checker.arena);
+    let value = tested(walk, value);
+    let marks = walk.marks();
     for branch in *branches {
-        let types = branch_types(&mut walk.checker, branch.kinds, value);
-        let types = walk.memory.row(types);
-        let written = (types, branch.kinds.len());
-        let variable = branch_variable(
-            &mut walk.checker,
-            &mut walk.body,
-            branch.name,
-            written,
-            value,
-        );
-        let variable = walk.memory.found(variable);
+        let head = type_head(walk, branch.kinds, branch.name, value);
         let body = statements(walk, branch.body);
-        walk.memory.add(
-            &mut checked,
-            TypeBranch {
-                types,
-                variable,
-                body,
-            },
-        );
+        add_type_branch(walk, &head, body);
     }
-    let branches = into_bump_slice(checked);
-    let otherwise = otherwise(walk, statement);
-    if let Some(value) = value {
-        walk.put(CoreStmt::TypeCase {
-            pos: *pos,
-            value: value.core(),
-            branches,
-            otherwise,
-        });
-    }
+    let otherwise = behind_else(walk, otherwise);
+    put_type_case(walk, *pos, value, &marks, otherwise);
 }
 
-/// The statements behind ELSE, where a statement has one.
+/// TRY EXCEPT.
 #[cycle(statements)]
-pub fn otherwise<'a>(walk: &mut Walk<'_, 'a>, statement: &Stmt<'a>) -> Option<&'a [CoreStmt<'a>]> {
-    match statement {
-        Stmt::If {
-            otherwise: Some(row),
-            ..
-        }
-        | Stmt::Case {
-            otherwise: Some(row),
-            ..
-        }
-        | Stmt::TypeCase {
-            otherwise: Some(row),
-            ..
-        }
-        | Stmt::TryExcept {
-            otherwise: Some(row),
-            ..
-        } => Some(statements(walk, row)),
-        _ => None,
+pub fn handled<'a>(walk: &mut Walk<'_, 'a>, statement: &Stmt<'a>) {
+    let Stmt::TryExcept {
+        pos,
+        body: row,
+        handlers,
+        otherwise,
+    } = statement
+    else {
+        return;
+    };
+    let row = statements(walk, row);
+    let marks = walk.marks();
+    for one in *handlers {
+        let head = handler(walk, one.exceptions, one.argument);
+        let body = statements(walk, one.body);
+        add_handler(walk, head, body);
+    }
+    let otherwise = behind_else(walk, otherwise);
+    put_try(walk, *pos, row, &marks, otherwise);
+}
+
+/// The statements behind ELSE.
+#[cycle(statements)]
+fn behind_else<'a>(walk: &mut Walk<'_, 'a>, otherwise: &m3_syntax::Else<'a>) -> Else<'a> {
+    Else {
+        is_written: otherwise.is_written,
+        body: statements(walk, otherwise.body),
     }
 }

@@ -3,7 +3,6 @@
 #![tactic(auto)]
 
 mod branches;
-mod exceptions;
 mod loops;
 mod procedures;
 mod scopes;

@@ -1,9 +1,8 @@
 use crate::sequences::statements;
-use m3_bound_names::for_head;
-use m3_branches::condition;
-use m3_core::{CoreExpr, CoreStmt};
-use m3_syntax::{Expr, Stmt};
+use m3_heads::{condition, counted};
+use m3_syntax::Stmt;
 use m3_walk::Walk;
+use m3_wholes::{put_for, put_loop, put_repeat, put_while};
 
 /// LOOP, WHILE, REPEAT and FOR. What stands beside the statements of a loop counts as inside
 /// it too, since no EXIT stands there.
@@ -14,62 +13,32 @@ pub fn repeated<'a>(walk: &mut Walk<'_, 'a>, statement: &Stmt<'a>) {
     match statement {
         Stmt::Loop { pos, body } => {
             let body = statements(walk, body);
-            walk.put(CoreStmt::Loop { pos: *pos, body });
+            put_loop(walk, *pos, body);
         }
         Stmt::While {
             pos,
-            condition,
+            condition: tested,
             body,
         } => {
-            let condition = checked_condition(walk, condition);
+            let condition = condition(walk, tested);
             let body = statements(walk, body);
-            if let Some(condition) = condition {
-                walk.put(CoreStmt::While {
-                    pos: *pos,
-                    condition,
-                    body,
-                });
-            }
+            put_while(walk, *pos, condition, body);
         }
         Stmt::Repeat {
             pos,
             body,
-            condition,
+            condition: tested,
         } => {
             let body = statements(walk, body);
-            if let Some(condition) = checked_condition(walk, condition) {
-                walk.put(CoreStmt::Repeat {
-                    pos: *pos,
-                    body,
-                    condition,
-                });
-            }
+            let condition = condition(walk, tested);
+            put_repeat(walk, *pos, body, condition);
         }
         Stmt::For { pos, body, .. } => {
-            let head = for_head(&mut walk.checker, &mut walk.body, statement);
-            let head = walk.memory.found(head);
+            let head = counted(walk, statement);
             let body = statements(walk, body);
-            if let Some(head) = head {
-                walk.put(CoreStmt::For {
-                    pos: *pos,
-                    variable: head.variable,
-                    first: head.first,
-                    last: head.last,
-                    step: head.step,
-                    body,
-                });
-            }
+            put_for(walk, *pos, head, body);
         }
         _ => {}
     }
     walk.body.loops = loops;
-}
-
-/// A condition.
-pub fn checked_condition<'a>(
-    walk: &mut Walk<'_, 'a>,
-    value: &Expr<'a>,
-) -> Option<&'a CoreExpr<'a>> {
-    let value = condition(&mut walk.checker, value);
-    walk.memory.found(value)
 }

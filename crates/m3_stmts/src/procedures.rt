@@ -1,11 +1,10 @@
 use crate::sequences::statements;
-use m3_assignments::initial_values;
-use m3_bodies::{Heading, declare_formals, declare_locals, define, known};
-use m3_core::CoreStmt;
-use m3_operand_types::result_type;
+use m3_bodies::Heading;
+use m3_heads::{enter, initial, locals};
 use m3_syntax::{Block, Decl};
 use m3_type_names::judge_declaration;
 use m3_walk::Walk;
+use m3_wholes::{leave, put_block};
 
 /// Checks the procedure that a declaration declares with a body, and those inside it. `around`
 /// is the procedure around it.
@@ -20,15 +19,12 @@ pub fn procedure<'a>(walk: &mut Walk<'_, 'a>, around: Option<u32>, declaration: 
     else {
         return;
     };
-    let Some((kind, number)) = known(&walk.checker, *name) else {
+    let Some(kind) = enter(walk, *name, signature) else {
         return;
     };
-    let due = result_type(&walk.checker, kind);
-    let outer = walk.enter(number, due);
-    let formals = declare_formals(&mut walk.checker, &mut walk.body, signature, kind);
-    walk.memory.made(formals);
-    let checked = block(walk, &declared.block);
-    let body = walk.leave(outer);
+    let marks = walk.marks();
+    block(walk, &declared.block);
+    let row = walk.close(&marks);
     let heading = Heading {
         name: *name,
         kind,
@@ -36,15 +32,13 @@ pub fn procedure<'a>(walk: &mut Walk<'_, 'a>, around: Option<u32>, declaration: 
         pos: *pos,
         end: declared.block.end,
     };
-    let defined = define(&walk.checker, &mut walk.procedures, body, &heading, checked);
-    walk.memory.made(defined);
+    leave(walk, &heading, row);
 }
 
 /// A block: its variables, the procedures inside it, the initial values and the statements.
 #[cycle(statements)]
-pub fn block<'a>(walk: &mut Walk<'_, 'a>, block: &Block<'a>) -> CoreStmt<'a> {
-    let variables = declare_locals(&mut walk.checker, &mut walk.body, block.declarations);
-    let variables = walk.memory.row(variables);
+pub fn block<'a>(walk: &mut Walk<'_, 'a>, block: &Block<'a>) {
+    let variables = locals(walk, block.declarations);
     let level = walk.checker.level;
     let around = Some(walk.body.number);
     for declaration in block.declarations {
@@ -53,11 +47,7 @@ pub fn block<'a>(walk: &mut Walk<'_, 'a>, block: &Block<'a>) -> CoreStmt<'a> {
         procedure(walk, around, declaration);
         walk.checker.level = level;
     }
-    let initial = initial_values(&mut walk.checker, block.declarations);
-    CoreStmt::Block {
-        pos: block.pos,
-        variables,
-        initial: walk.memory.row(initial),
-        body: statements(walk, block.body),
-    }
+    let initial = initial(walk, block.declarations);
+    let body = statements(walk, block.body);
+    put_block(walk, block.pos, variables, initial, body);
 }

@@ -1,46 +1,35 @@
 use crate::sequences::statements;
-use m3_bound_names::{add_lock, bind_all, hide};
-use m3_core::CoreStmt;
+use m3_heads::{bindings, mutex};
 use m3_syntax::Stmt;
 use m3_walk::Walk;
+use m3_wholes::{put_finally, put_lock, put_with};
 
-/// WITH, LOCK and TRY FINALLY. Each name of WITH stands for a designator, or for a new variable
-/// that can't be written. LOCK is written out: WITH x = m DO Thread.Acquire(x); TRY S FINALLY
-/// Thread.Release(x) END END.
+/// WITH, LOCK and TRY FINALLY.
 #[cycle(statements)]
 pub fn enclosed<'a>(walk: &mut Walk<'_, 'a>, statement: &Stmt<'a>) {
     match statement {
         Stmt::With {
             pos,
-            bindings,
+            bindings: names,
             body,
         } => {
-            let bindings = bind_all(&mut walk.checker, &mut walk.body, bindings);
-            let bindings = walk.memory.row(bindings);
+            let bindings = bindings(walk, names);
             let body = statements(walk, body);
-            walk.put(CoreStmt::With {
-                pos: *pos,
-                bindings,
-                body,
-            });
+            put_with(walk, *pos, bindings, body);
         }
-        Stmt::Lock { pos, mutex, body } => {
-            let hidden = hide(&mut walk.checker, &mut walk.body, *pos, mutex);
-            let hidden = walk.memory.found(hidden);
+        Stmt::Lock {
+            pos,
+            mutex: locked,
+            body,
+        } => {
+            let hidden = mutex(walk, *pos, locked);
             let body = statements(walk, body);
-            if let Some(hidden) = hidden {
-                let added = add_lock(&walk.checker, &mut walk.open, *pos, &hidden, body);
-                walk.memory.made(added);
-            }
+            put_lock(walk, *pos, hidden, body);
         }
         Stmt::TryFinally { pos, body, last } => {
             let body = statements(walk, body);
             let last = statements(walk, last);
-            walk.put(CoreStmt::TryFinally {
-                pos: *pos,
-                body,
-                last,
-            });
+            put_finally(walk, *pos, body, last);
         }
         _ => {}
     }

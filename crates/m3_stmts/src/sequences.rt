@@ -1,21 +1,20 @@
-use crate::branches::{alternatives, choice, type_choice};
-use crate::exceptions::handled;
+use crate::branches::{alternatives, choice, handled, type_choice};
 use crate::loops::repeated;
 use crate::procedures::block;
 use crate::scopes::enclosed;
 use m3_core::CoreStmt;
-use m3_exceptions::simple;
 use m3_syntax::Stmt;
 use m3_walk::Walk;
+use m3_wholes::put_leaf;
 
 /// The checked statements of a row; those that were refused are left out.
 #[cycle(statements)]
 pub fn statements<'a>(walk: &mut Walk<'_, 'a>, row: &[Stmt<'a>]) -> &'a [CoreStmt<'a>] {
-    let around = walk.open_row();
+    let marks = walk.marks();
     for one in row {
         statement(walk, one);
     }
-    walk.close_row(around)
+    walk.close(&marks)
 }
 
 /// Checks a statement, and adds it to the row in which it stands, if it isn't refused.
@@ -28,11 +27,8 @@ fn statement<'a>(walk: &mut Walk<'_, 'a>, statement: &Stmt<'a>) {
         | Stmt::Eval { .. }
         | Stmt::Return { .. }
         | Stmt::Raise { .. }
-        | Stmt::Exit { .. } => leaf(walk, statement),
-        Stmt::Block(inner) => {
-            let checked = block(walk, inner);
-            walk.put(checked);
-        }
+        | Stmt::Exit { .. } => put_leaf(walk, statement),
+        Stmt::Block(inner) => block(walk, inner),
         Stmt::Case { .. } => choice(walk, statement),
         Stmt::TypeCase { .. } => type_choice(walk, statement),
         Stmt::If { .. } => alternatives(walk, statement),
@@ -43,13 +39,5 @@ fn statement<'a>(walk: &mut Walk<'_, 'a>, statement: &Stmt<'a>) {
         Stmt::Loop { .. } | Stmt::While { .. } | Stmt::Repeat { .. } | Stmt::For { .. } => {
             repeated(walk, statement)
         }
-    }
-}
-
-/// A statement without statements in it.
-fn leaf<'a>(walk: &mut Walk<'_, 'a>, statement: &Stmt<'a>) {
-    let checked = simple(&mut walk.checker, &walk.body, statement);
-    if let Some(checked) = walk.memory.found(checked) {
-        walk.put(checked);
     }
 }

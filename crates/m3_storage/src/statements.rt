@@ -65,9 +65,7 @@ fn mark_statement(uses: &mut Uses, statement: &CoreStmt) {
         } => {
             mark_expression(uses, value);
             mark_branches(uses, branches);
-            if let Some(row) = otherwise {
-                mark_statements(uses, row);
-            }
+            mark_statements(uses, otherwise.body);
         }
         CoreStmt::For {
             first,
@@ -87,9 +85,7 @@ fn mark_statement(uses: &mut Uses, statement: &CoreStmt) {
             ..
         } => {
             mark_arms(uses, arms);
-            if let Some(row) = otherwise {
-                mark_statements(uses, row);
-            }
+            mark_statements(uses, otherwise.body);
         }
         CoreStmt::Loop { body, .. } => mark_statements(uses, body),
         CoreStmt::Repeat {
@@ -108,9 +104,7 @@ fn mark_statement(uses: &mut Uses, statement: &CoreStmt) {
         } => {
             mark_statements(uses, body);
             mark_handlers(uses, handlers);
-            if let Some(row) = otherwise {
-                mark_statements(uses, row);
-            }
+            mark_statements(uses, otherwise.body);
         }
         CoreStmt::TryFinally { body, last, .. } => {
             mark_statements(uses, body);
@@ -124,9 +118,7 @@ fn mark_statement(uses: &mut Uses, statement: &CoreStmt) {
         } => {
             mark_expression(uses, value);
             mark_type_branches(uses, branches);
-            if let Some(row) = otherwise {
-                mark_statements(uses, row);
-            }
+            mark_statements(uses, otherwise.body);
         }
         CoreStmt::While {
             condition,

@@ -13,8 +13,8 @@ pub use expressions::{
 };
 pub use names::{Mode, Name, Qualid, Raises, TypeName};
 pub use statements::{
-    Arm, Binding, Block, CaseBranch, ConstDecl, Decl, ExceptionDecl, Handler, Label, ProcedureBody,
-    Revelation, Stmt, TypeBranch, TypeDecl, VarDecl,
+    Arm, Binding, Block, CaseBranch, ConstDecl, Decl, Else, ExceptionDecl, Handler, Label,
+    ProcedureBody, Revelation, Stmt, TypeBranch, TypeDecl, VarDecl,
 };
 pub use tokens::{Lexed, Sign, Token, TokenKind, Word};
 pub use units::{Import, ImportItem, Kept, Unit, UnitKind};

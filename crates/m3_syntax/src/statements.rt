@@ -23,7 +23,7 @@ pub enum Stmt<'a> {
         pos: Pos,
         value: &'a Expr<'a>,
         branches: &'a [CaseBranch<'a>],
-        otherwise: Option<&'a [Stmt<'a>]>,
+        otherwise: Else<'a>,
     },
     Exit {
         pos: Pos,
@@ -44,7 +44,7 @@ pub enum Stmt<'a> {
     If {
         pos: Pos,
         arms: &'a [Arm<'a>],
-        otherwise: Option<&'a [Stmt<'a>]>,
+        otherwise: Else<'a>,
     },
     Lock {
         pos: Pos,
@@ -73,7 +73,7 @@ pub enum Stmt<'a> {
         pos: Pos,
         body: &'a [Stmt<'a>],
         handlers: &'a [Handler<'a>],
-        otherwise: Option<&'a [Stmt<'a>]>,
+        otherwise: Else<'a>,
     },
     TryFinally {
         pos: Pos,
@@ -84,7 +84,7 @@ pub enum Stmt<'a> {
         pos: Pos,
         value: &'a Expr<'a>,
         branches: &'a [TypeBranch<'a>],
-        otherwise: Option<&'a [Stmt<'a>]>,
+        otherwise: Else<'a>,
     },
     While {
         pos: Pos,
@@ -114,6 +114,14 @@ pub struct Block<'a> {
 pub struct Arm<'a> {
     pub pos: Pos,
     pub condition: &'a Expr<'a>,
+    pub body: &'a [Stmt<'a>],
+}
+
+/// The statements behind ELSE: none where no ELSE is written.
+#[cycle(statements)]
+#[derive(Clone, Copy)]
+pub struct Else<'a> {
+    pub is_written: bool,
     pub body: &'a [Stmt<'a>],
 }
 

@@ -1,13 +1,14 @@
 use bumpalo::collections::into_bump_slice;
-use m3_assignments::initial_values;
 use m3_base::{NoMemory, Pos};
 use m3_bodies::Body;
 use m3_core::{CoreStmt, ProcDef};
+use m3_heads::initial;
 use m3_operands::Checker;
 use m3_stmts::statements;
 use m3_syntax::{Block, Name};
 use m3_types::{Formal, Raises, TypeNode};
 use m3_walk::Walk;
+use m3_wholes::put_block;
 
 /// What is known of a module beside its block.
 #[derive(Clone, Copy)]
@@ -26,22 +27,20 @@ pub fn check_module<'a>(
     let Some(number) = walk.checker.declared.module_number(walk.checker.unit) else {
         return Ok(());
     };
-    let around = walk.enter(number, None);
-    let checked = module_block(walk, block);
-    let body = walk.leave(around);
-    let module = module_of(&mut walk.checker, body, heading, checked)?;
+    walk.enter(number, None);
+    let marks = walk.marks();
+    module_block(walk, block);
+    let row = walk.close(&marks);
+    let body = walk.leave();
+    let module = module_of(&mut walk.checker, body, heading, row)?;
     walk.procedures.push((number, module))?;
     Ok(())
 }
 
-fn module_block<'a>(walk: &mut Walk<'_, 'a>, block: &Block<'a>) -> CoreStmt<'a> {
-    let initial = initial_values(&mut walk.checker, block.declarations);
-    CoreStmt::Block {
-        pos: block.pos,
-        variables: no_variables(),
-        initial: walk.memory.row(initial),
-        body: statements(walk, block.body),
-    }
+fn module_block<'a>(walk: &mut Walk<'_, 'a>, block: &Block<'a>) {
+    let initial = initial(walk, block.declarations);
+    let body = statements(walk, block.body);
+    put_block(walk, block.pos, no_variables(), initial, body);
 }
 
 fn no_variables<'a>() -> &'a [u32] {
@@ -52,12 +51,12 @@ fn no_formals<'a>() -> &'a [Formal<'a>] {
     &[]
 }
 
-/// The body of a module as a procedure.
+/// The body of a module as a procedure. `row` has its block.
 fn module_of<'a>(
     checker: &mut Checker<'_, 'a>,
     body: Body<'a>,
     heading: ModuleHeading<'a>,
-    checked: CoreStmt<'a>,
+    row: &'a [CoreStmt<'a>],
 ) -> Result<ProcDef<'a>, NoMemory> {
     let Body {
         formals,
@@ -77,7 +76,7 @@ fn module_of<'a>(
         locals: into_bump_slice(locals),
         level: 0,
         outer: None,
-        body: &*checker.arena.try_alloc_slice_copy(&[checked])?,
+        body: row,
         pos: heading.pos,
         name_pos: heading.name.pos,
         end: heading.end,

@@ -1,4 +1,3 @@
-use bumpalo::Bump;
 use m3_base::NoMemory;
 
 /// Whether there was memory enough. A walk goes on where there wasn't, and asks for that at its
@@ -54,11 +53,5 @@ impl Memory {
                 &[]
             }
         }
-    }
-
-    /// Adds to a row.
-    pub fn add<T: Copy>(&mut self, row: &mut Vec<T, &Bump>, part: T) {
-        let added = row.push(part);
-        self.note(added.is_ok());
     }
 }

@@ -1,13 +1,9 @@
 use crate::memory::Memory;
-use bumpalo::Bump;
-use bumpalo::collections::into_bump_slice;
+use crate::rows::{Marks, Rows};
 use m3_bodies::{Body, Procedures};
 use m3_core::CoreStmt;
 use m3_operands::Checker;
 use m3_types::TypeId;
-
-/// The checked statements of a row so far.
-pub type Row<'a> = Vec<CoreStmt<'a>, &'a Bump>;
 
 /// What walks over the statements of a program: what checks the expressions in them, the body in
 /// which they stand, and the procedures that were checked.
@@ -15,51 +11,61 @@ pub type Row<'a> = Vec<CoreStmt<'a>, &'a Bump>;
 pub struct Walk<'p, 'a> {
     pub checker: Checker<'p, 'a>,
     pub body: Body<'a>,
+    /// The bodies around it, the innermost last.
+    around: Vec<Body<'a>>,
     pub procedures: Procedures<'a>,
     pub memory: Memory,
-    /// What was checked of the row that is open.
-    pub open: Row<'a>,
+    pub rows: Rows<'a>,
 }
 
 impl<'p, 'a> Walk<'p, 'a> {
     /// A walk outside all bodies.
     pub fn new(checker: Checker<'p, 'a>) -> Walk<'p, 'a> {
         let body = Body::new(&checker, 0, None);
+        let around = Vec::new(checker.alloc);
         let procedures = Vec::new(checker.alloc);
-        let open = Vec::new(checker.arena);
+        let rows = Rows::new(checker.alloc, checker.arena);
         Walk {
             checker,
             body,
+            around,
             procedures,
             memory: Memory::new(),
-            open,
+            rows,
         }
     }
 
-    /// Goes into the body of a procedure, and gives the one around it, to which `leave` goes back.
-    pub fn enter(&mut self, number: u32, due: Option<TypeId>) -> Body<'a> {
+    /// Goes into the body of a procedure.
+    pub fn enter(&mut self, number: u32, due: Option<TypeId>) {
         let body = Body::new(&self.checker, number, due);
-        std::mem::replace(&mut self.body, body)
+        let around = std::mem::replace(&mut self.body, body);
+        let added = self.around.push(around);
+        self.memory.note(added.is_ok());
     }
 
     /// Goes back to the body around, and gives the one that is left.
-    pub fn leave(&mut self, around: Body<'a>) -> Body<'a> {
+    pub fn leave(&mut self) -> Body<'a> {
+        let around = match self.around.pop() {
+            Some(around) => around,
+            None => Body::new(&self.checker, 0, None),
+        };
         std::mem::replace(&mut self.body, around)
     }
 
-    /// Adds a statement to the open row.
+    /// Where rows begin that are opened here.
+    pub fn marks(&self) -> Marks {
+        self.rows.marks()
+    }
+
+    /// Adds a statement to the innermost row.
     pub fn put(&mut self, checked: CoreStmt<'a>) {
-        self.memory.add(&mut self.open, checked);
+        self.rows.statements.add(&mut self.memory, checked);
     }
 
-    /// Opens a row, and gives the one around it, to which `close_row` goes back.
-    pub fn open_row(&mut self) -> Row<'a> {
-        let row = Vec::new(self.checker.arena);
-        std::mem::replace(&mut self.open, row)
-    }
-
-    /// Goes back to the row around, and gives what stands in the one that is left.
-    pub fn close_row(&mut self, around: Row<'a>) -> &'a [CoreStmt<'a>] {
-        into_bump_slice(std::mem::replace(&mut self.open, around))
+    /// Closes the innermost row of statements, which begins where `marks` says, and gives it.
+    pub fn close(&mut self, marks: &Marks) -> &'a [CoreStmt<'a>] {
+        self.rows
+            .statements
+            .close(&mut self.memory, marks.statements)
     }
 }
