@@ -42,14 +42,19 @@ pub fn if_statement<'a>(reader: &mut Reader<'_, 'a>, room: u32) -> Stmt<'a>
 pub fn otherwise<'a>(reader: &mut Reader<'_, 'a>, room: u32) -> Else<'a>
     ensures { Follows reader.old reader.new }
 {
-    let is_written = reader.skip_word(Word::Else);
-    let body = if is_written {
-        statements(reader, room)
-    } else {
-        reader.no_items()
-    };
+    if !reader.skip_word(Word::Else) {
+        reader.take_word(Word::End);
+        return Else {
+            is_written: false,
+            body: reader.no_items(),
+        };
+    }
+    let body = statements(reader, room);
     reader.take_word(Word::End);
-    Else { is_written, body }
+    Else {
+        is_written: true,
+        body,
+    }
 }
 
 #[cycle(statements)]
