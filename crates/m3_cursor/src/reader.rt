@@ -9,7 +9,7 @@ use bumpalo::Bump;
 use m3_base::Pos;
 use m3_grammar::{is_sign, is_word};
 use m3_stops::{Stop, Why};
-use m3_syntax::{Kept, Lexed, Name, Sign, Token, TokenKind, Word};
+use m3_syntax::{Lexed, Name, Sign, Token, TokenKind, Word};
 use std::alloc::Global;
 
 /// Reads the tokens of a file from the first to the last. It keeps the first error, and stands at
@@ -326,20 +326,6 @@ impl<'t, 'a> Reader<'t, 'a> {
                 &[]
             }
         }
-    }
-
-    /// Keeps the parts of a unit. None where there is no memory for them.
-    pub fn parts<T: Copy>(&mut self, parts: T) -> Option<Kept<'a, T>>
-        ensures follows { Follows self.old self.new }
-        ensures stopped { IfNone result (IsSome self.new.stop) }
-    {
-        if let Ok(parts) = Box::new(self.arena, parts) {
-            if let Ok(kept) = self.arena.try_alloc(parts) {
-                return Some(&*kept);
-            }
-        }
-        self.fail(Why::NoMemory);
-        None
     }
 
     /// Keeps a node. Where there is no memory for it, a spare one stands for it.

@@ -77,7 +77,7 @@ impl<'a> Expansion<'_, 'a> {
     fn unit(&mut self, arena: &'a Bump, unit: &Unit<'a>) -> Result<(), NoMemory> {
         match unit.kind {
             UnitKind::GenericInterface { .. } | UnitKind::GenericModule { .. } => {}
-            UnitKind::Interface { .. } | UnitKind::Module { .. } => self.expanded.push(*unit)?,
+            UnitKind::Interface | UnitKind::Module { .. } => self.expanded.push(*unit)?,
             UnitKind::InterfaceInstance { .. } | UnitKind::ModuleInstance { .. } => {
                 self.instance(arena, unit)?;
             }
@@ -122,13 +122,15 @@ impl<'a> Expansion<'_, 'a> {
             self.note(unit.pos.file, head.generic.pos, 16);
         }
         self.count(unit.pos, text.tokens);
-        let imports = imports_of(arena, head.actuals, formals, text.imports())?;
+        let imports = imports_of(arena, head.actuals, formals, text.imports)?;
         let exports = exports_of(&unit.kind);
         self.expanded.push(Unit {
             pos: unit.pos,
             is_unsafe: unit.is_unsafe,
             name: unit.name,
-            kind: written_out(&text.kind, exports, imports),
+            kind: written_out(&text.kind, exports),
+            imports,
+            block: text.block,
             closing: unit.closing,
             tokens: unit.tokens,
         })?;
@@ -195,22 +197,11 @@ fn exports_of<'a>(head: &UnitKind<'a>) -> Option<&'a [Name<'a>]> {
     }
 }
 
-/// What the unit of an instance is: its head's exports, these imports, and the text of its generic.
-fn written_out<'a>(
-    generic: &UnitKind<'a>,
-    exports: Option<&'a [Name<'a>]>,
-    imports: &'a [Import<'a>],
-) -> UnitKind<'a> {
+/// What the unit of an instance of this generic is, given its head's exports.
+fn written_out<'a>(generic: &UnitKind<'a>, exports: Option<&'a [Name<'a>]>) -> UnitKind<'a> {
     match generic {
-        UnitKind::GenericInterface { declarations, .. } => UnitKind::Interface {
-            imports,
-            declarations: *declarations,
-        },
-        UnitKind::GenericModule { block, .. } => UnitKind::Module {
-            exports,
-            imports,
-            block: *block,
-        },
+        UnitKind::GenericInterface { .. } => UnitKind::Interface,
+        UnitKind::GenericModule { .. } => UnitKind::Module { exports },
         other => *other,
     }
 }

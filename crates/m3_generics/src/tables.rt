@@ -34,7 +34,7 @@ impl<'a> Tables<'a> {
     fn add(&mut self, place: usize, unit: &Unit<'a>) -> Result<(), NoMemory> {
         let name = unit.name.text;
         match unit.kind {
-            UnitKind::Interface { .. } | UnitKind::InterfaceInstance { .. } => {
+            UnitKind::Interface | UnitKind::InterfaceInstance { .. } => {
                 self.interfaces.insert(name)?;
             }
             UnitKind::GenericInterface { .. } => {

@@ -1,10 +1,9 @@
 -- The grammar of units (the report, section 2.5).
-use Rattle.std.specs.Prelude.{◌≢◌, Bool, true, false, List, [], ◌∷◌, ◌++◌, Option, None, Some}
+use Rattle.std.specs.Prelude.{◌≡◌, ◌≢◌, Bool, true, false, List, [], ◌∷◌, ◌++◌, Option, None, Some}
 use Rattle.std.proofs.Common.{Bor}
 use Rattle.m3_base.specs.declared.places.Pos.{Pos}
 use Rattle.m3_syntax.specs.declared.names.Name.{Name}
 use Rattle.m3_syntax.specs.declared.statements.Block.{Block}
-use Rattle.m3_syntax.specs.declared.statements.Decl.{Decl}
 use Rattle.m3_syntax.specs.declared.tokens.Sign.TheVariants as s
 use Rattle.m3_syntax.specs.declared.tokens.Word.TheVariants as w
 use Rattle.m3_syntax.specs.declared.units.Import.{Import}
@@ -40,9 +39,9 @@ pub data IsImports : Row → Row → List Import → Type 0 where
   import_more : {a b c : Row} {before : List Import} {import : Import} → IsImports a b before → IsImport b c import → IsImports a c (before ++ import ∷ [])
 
 -- ";" {Import} {Decl} END
-pub data IsDeclared : Row → Row → List Import → List Decl → Type 0 where
-  declared : {a b c d f : Row} {imports : List Import} {declarations : List Decl} → IsSign s.Semicolon a b → IsImports b c imports → IsDecls c d declarations → IsWord w.End d f
-      → IsDeclared a f imports declarations
+pub data IsDeclared : Row → Row → List Import → Block → Type 0 where
+  declared : {a b c d f : Row} {imports : List Import} (block : Block) → IsSign s.Semicolon a b → IsImports b c imports → IsAt block.pos c → IsDecls c d block.declarations.now
+      → block.body.now ≡ [] → IsAt block.end d → IsWord w.End d f → IsDeclared a f imports block
 
 -- ";" {Import} Block
 pub data IsProgrammed : Row → Row → List Import → Block → Type 0 where
@@ -61,23 +60,29 @@ pub data IsExports : Row → Row → Option (Bor (List Name)) → Type 0 where
   no_exports : {a : Row} → IsExports a a None
   exporting : {a b c : Row} (names : Bor (List Name)) → IsWord w.Exports a b → IsNames b c names.now → names.now ≢ [] → IsExports a c (Some names)
 
+-- nothing is imported or declared
+pub record IsNothing (imports : List Import) (block : Block) : Type 0 where
+  pub imports_nothing : imports ≡ []
+  pub declares_nothing : block.declarations.now ≡ []
+  pub does_nothing : block.body.now ≡ []
+
 -- what stands between a unit's name and the name that closes it
-abbrev pub IsBody : Row → Row → UnitKind → Type 0
-IsBody a b (k.Interface imports declarations) = IsDeclared a b imports.now declarations.now.value.now
-IsBody a b (k.InterfaceInstance generic actuals) = IsInstance a b generic actuals.now
-IsBody a b (k.Module exports imports block) = (c : Row) × IsExports a c exports × IsProgrammed c b imports.now block.now.value
-IsBody a b (k.ModuleInstance exports generic actuals) = (c : Row) × IsExports a c exports × IsInstance c b generic actuals.now
-IsBody a b (k.GenericInterface formals imports declarations) = (c : Row) × IsParameters a c formals.now × IsDeclared c b imports.now declarations.now.value.now
-IsBody a b (k.GenericModule formals imports block) = (c : Row) × IsParameters a c formals.now × IsProgrammed c b imports.now block.now.value
+abbrev pub IsBody : Row → Row → UnitKind → List Import → Block → Type 0
+IsBody a b k.Interface imports block = IsDeclared a b imports block
+IsBody a b (k.InterfaceInstance generic actuals) imports block = IsNothing imports block × IsInstance a b generic actuals.now
+IsBody a b (k.Module exports) imports block = (c : Row) × IsExports a c exports × IsProgrammed c b imports block
+IsBody a b (k.ModuleInstance exports generic actuals) imports block = IsNothing imports block × ((c : Row) × IsExports a c exports × IsInstance c b generic actuals.now)
+IsBody a b (k.GenericInterface formals) imports block = (c : Row) × IsParameters a c formals.now × IsDeclared c b imports block
+IsBody a b (k.GenericModule formals) imports block = (c : Row) × IsParameters a c formals.now × IsProgrammed c b imports block
 
 -- the word that says what a unit is
 abbrev pub IsSort : Row → Row → UnitKind → Type 0
-IsSort a b (k.Interface imports declarations) = IsWord w.Interface a b
+IsSort a b k.Interface = IsWord w.Interface a b
 IsSort a b (k.InterfaceInstance generic actuals) = IsWord w.Interface a b
-IsSort a b (k.Module exports imports block) = IsWord w.Module a b
+IsSort a b (k.Module exports) = IsWord w.Module a b
 IsSort a b (k.ModuleInstance exports generic actuals) = IsWord w.Module a b
-IsSort a b (k.GenericInterface formals imports declarations) = (c : Row) × IsWord w.Generic a c × IsWord w.Interface c b
-IsSort a b (k.GenericModule formals imports block) = (c : Row) × IsWord w.Generic a c × IsWord w.Module c b
+IsSort a b (k.GenericInterface formals) = (c : Row) × IsWord w.Generic a c × IsWord w.Interface c b
+IsSort a b (k.GenericModule formals) = (c : Row) × IsWord w.Generic a c × IsWord w.Module c b
 
 -- [UNSAFE], which stands before no generic unit
 pub data IsUnsafe : Row → Row → Bool → Bool → Type 0 where
@@ -85,8 +90,8 @@ pub data IsUnsafe : Row → Row → Bool → Bool → Type 0 where
   unsafe : {a b : Row} → IsWord w.Unsafe a b → IsUnsafe a b false true
 
 abbrev pub is_generic : UnitKind → Bool
-is_generic (k.GenericInterface formals imports declarations) = true
-is_generic (k.GenericModule formals imports block) = true
+is_generic (k.GenericInterface formals) = true
+is_generic (k.GenericModule formals) = true
 is_generic _ = false
 
 -- a whole file: Unit = [UNSAFE] (Interface | Module) | GenInf | GenMod
@@ -100,6 +105,6 @@ pub record IsUnit (row : Row) (unit : units.Unit) : Type 0 where
   pub safety : IsUnsafe row safe_from (is_generic unit.kind) unit.is_unsafe
   pub sort : IsSort safe_from named_from unit.kind
   pub name : IsName named_from body_from unit.name
-  pub body : IsBody body_from closed_from unit.kind
+  pub body : IsBody body_from closed_from unit.kind unit.imports.now unit.block.now.value
   pub closing : IsName closed_from dot_from unit.closing
   pub dot : IsSign s.Dot dot_from []

@@ -12,9 +12,7 @@ const BUILT_IN: [&[u8]; 5] = [b"Main", b"IO", b"Text", b"Word", b"Thread"];
 fn is_interface(kind: UnitKind<'_>) -> bool {
     matches!(
         kind,
-        UnitKind::Interface { .. }
-            | UnitKind::InterfaceInstance { .. }
-            | UnitKind::GenericInterface { .. }
+        UnitKind::Interface | UnitKind::InterfaceInstance { .. } | UnitKind::GenericInterface { .. }
     )
 }
 
@@ -133,11 +131,11 @@ fn walk_unit<'a>(linker: &mut Linker<'a>, unit: &Unit<'a>, place: usize) -> Resu
         linker.note(unit.pos, 29);
     }
     linker.scopes.enter()?;
-    for import in unit.imports() {
+    for import in unit.imports {
         read_import(linker, import)?;
     }
     show_own(linker)?;
-    if let UnitKind::Module { exports, .. } = unit.kind {
+    if let UnitKind::Module { exports } = unit.kind {
         read_exports(linker, unit.name, exports)?;
     }
     walk_declarations(linker, unit.declarations(), true)?;

@@ -5,11 +5,11 @@ ghost use Rattle.m3_parser.specs.Places.{HasPlaces};
 ghost use Rattle.m3_stops.specs.Refusals.{IsRefusal};
 
 use bumpalo::Bump;
-use m3_base::Refused;
-use m3_cursor::{Heading, Reader, closing_name, name_list, names_between, unit_heading};
+use m3_base::{NoMemory, Refused};
+use m3_cursor::{FirstWords, Reader, closing_name, name_list, names_between, unit_heading};
 use m3_statements::{block, declaration_list};
 use m3_stops::{counted, refusal_of};
-use m3_syntax::{Block, Decl, Import, ImportItem, Kept, Lexed, Name, Sign, Unit, UnitKind, Word};
+use m3_syntax::{Block, Import, ImportItem, Kept, Lexed, Name, Sign, Unit, UnitKind, Word};
 use std::alloc::Global;
 
 /// How many constructs may be open at a place.
@@ -29,75 +29,92 @@ pub fn parse<'a>(alloc: Global, arena: &'a Bump, lexed: &Lexed<'a>) -> Result<Un
     ensures refused { IfErr result (IsRefusal lexed.now.end lexed.now.tokens.items) }
 {
     let mut reader = Reader::new(alloc, arena, lexed);
-    let unit = unit(&mut reader);
-    match reader.stop() {
-        Some(stop) => Err(refusal_of(lexed, stop)),
-        None => match counted(lexed, reader.wrong_closing()) {
-            Ok(tokens) => Ok(Unit { tokens, ..unit }),
-            Err(refused) => Err(refused),
-        },
+    let heading = unit_heading(&mut reader);
+    let body = body(&mut reader, heading.words);
+    let closing = closing_name(&mut reader, &heading.name);
+    if let Some(stop) = reader.stop() {
+        return Err(refusal_of(lexed, stop));
     }
-}
-
-/// The unit that all tokens make. The number of tokens is left at 0.
-fn unit<'a>(reader: &mut Reader<'_, 'a>) -> Unit<'a>
-    ensures follows { Follows reader.old reader.new }
-    ensures places { (file : List Token) → IsRest file reader.old.rest.now → reader.new.stop ≡ None
-        → HasPlaces file result }
-    ensures closed { reader.new.wrong_closing ≡ None
-        → result.closing.text.now ≡ result.name.text.now }
-{
-    let heading = unit_heading(reader);
-    let kind = unit_kind(reader, &heading);
-    let closing = closing_name(reader, &heading.name);
-    Unit {
+    let tokens = counted(lexed, reader.wrong_closing())?;
+    let Ok(block) = kept(arena, body.block) else {
+        return Err(Refused::NoMemory);
+    };
+    Ok(Unit {
         pos: heading.pos,
         is_unsafe: heading.words.is_unsafe,
         name: heading.name,
-        kind,
+        kind: body.kind,
+        imports: body.imports,
+        block,
         closing,
-        tokens: 0,
-    }
+        tokens,
+    })
 }
 
-/// What stands in a unit behind its name, up to its closing name. Where there is no memory to keep
-/// it, an instance stands for it.
-fn unit_kind<'a>(reader: &mut Reader<'_, 'a>, heading: &Heading<'a>) -> UnitKind<'a>
+/// Keeps the block of a unit.
+fn kept<'a>(arena: &'a Bump, block: Block<'a>) -> Result<Kept<'a, Block<'a>>, NoMemory> {
+    let kept = arena.try_alloc(Box::new(arena, block)?)?;
+    Ok(&*kept)
+}
+
+/// What stands in a unit between its name and its closing name.
+#[derive(Clone, Copy)]
+struct Body<'a> {
+    kind: UnitKind<'a>,
+    imports: &'a [Import<'a>],
+    block: Block<'a>,
+}
+
+fn body<'a>(reader: &mut Reader<'_, 'a>, words: FirstWords) -> Body<'a>
     ensures { Follows reader.old reader.new }
 {
-    let kept = if heading.words.is_generic {
-        generic(reader, heading.words.is_interface)
-    } else if heading.words.is_interface {
-        interface(reader)
-    } else {
-        module(reader)
-    };
-    match kept {
-        Some(kind) => kind,
-        None => UnitKind::InterfaceInstance {
-            generic: heading.name,
-            actuals: reader.no_items(),
+    let kind = unit_kind(reader, words);
+    match kind {
+        UnitKind::InterfaceInstance { .. } | UnitKind::ModuleInstance { .. } => Body {
+            kind,
+            imports: reader.no_items(),
+            block: no_block(reader),
+        },
+        _ => Body {
+            kind,
+            imports: imports(reader),
+            block: own_block(reader, words.is_interface),
         },
     }
 }
 
-/// What stands in an interface behind its name, up to its closing name.
-fn interface<'a>(reader: &mut Reader<'_, 'a>) -> Option<UnitKind<'a>>
+/// What a unit is, up to what it imports, or to the end of an instance.
+fn unit_kind<'a>(reader: &mut Reader<'_, 'a>, words: FirstWords) -> UnitKind<'a>
+    ensures { Follows reader.old reader.new }
+{
+    if words.is_generic {
+        let formals = names_between(reader, Sign::OpenParen, Sign::CloseParen);
+        reader.take_sign(Sign::Semicolon);
+        return if words.is_interface {
+            UnitKind::GenericInterface { formals }
+        } else {
+            UnitKind::GenericModule { formals }
+        };
+    }
+    if words.is_interface {
+        interface_kind(reader)
+    } else {
+        module_kind(reader)
+    }
+}
+
+fn interface_kind<'a>(reader: &mut Reader<'_, 'a>) -> UnitKind<'a>
     ensures { Follows reader.old reader.new }
 {
     if reader.skip_sign(Sign::Equal) {
         let (generic, actuals) = instance(reader);
-        return Some(UnitKind::InterfaceInstance { generic, actuals });
+        return UnitKind::InterfaceInstance { generic, actuals };
     }
     reader.take_sign(Sign::Semicolon);
-    Some(UnitKind::Interface {
-        imports: imports(reader),
-        declarations: kept_declarations(reader)?,
-    })
+    UnitKind::Interface
 }
 
-/// What stands in a module behind its name, up to its closing name.
-fn module<'a>(reader: &mut Reader<'_, 'a>) -> Option<UnitKind<'a>>
+fn module_kind<'a>(reader: &mut Reader<'_, 'a>) -> UnitKind<'a>
     ensures { Follows reader.old reader.new }
 {
     let exports = if reader.skip_word(Word::Exports) {
@@ -107,57 +124,43 @@ fn module<'a>(reader: &mut Reader<'_, 'a>) -> Option<UnitKind<'a>>
     };
     if reader.skip_sign(Sign::Equal) {
         let (generic, actuals) = instance(reader);
-        return Some(UnitKind::ModuleInstance {
+        return UnitKind::ModuleInstance {
             exports,
             generic,
             actuals,
-        });
+        };
     }
     reader.take_sign(Sign::Semicolon);
-    Some(UnitKind::Module {
-        exports,
-        imports: imports(reader),
-        block: kept_block(reader)?,
-    })
+    UnitKind::Module { exports }
 }
 
-/// What stands in a generic unit behind its name, up to its closing name.
-fn generic<'a>(reader: &mut Reader<'_, 'a>, is_interface: bool) -> Option<UnitKind<'a>>
-    ensures { Follows reader.old reader.new }
-{
-    let formals = names_between(reader, Sign::OpenParen, Sign::CloseParen);
-    reader.take_sign(Sign::Semicolon);
-    let imports = imports(reader);
-    if is_interface {
-        return Some(UnitKind::GenericInterface {
-            formals,
-            imports,
-            declarations: kept_declarations(reader)?,
-        });
+/// The block of an instance, which has none of its own.
+fn no_block<'a>(reader: &Reader<'_, 'a>) -> Block<'a> {
+    let pos = reader.pos();
+    Block {
+        pos,
+        declarations: reader.no_items(),
+        body: reader.no_items(),
+        end: pos,
     }
-    Some(UnitKind::GenericModule {
-        formals,
-        imports,
-        block: kept_block(reader)?,
-    })
 }
 
-/// The declarations of an interface, with the END behind them. None where there is no memory to
-/// keep them.
-fn kept_declarations<'a>(reader: &mut Reader<'_, 'a>) -> Option<Kept<'a, &'a [Decl<'a>]>>
+/// The block of a module, or the declarations of an interface with the END behind them.
+fn own_block<'a>(reader: &mut Reader<'_, 'a>, is_interface: bool) -> Block<'a>
     ensures { Follows reader.old reader.new }
 {
+    if !is_interface {
+        return block(reader, MAX_OPEN);
+    }
+    let pos = reader.pos();
     let declarations = declaration_list(reader, MAX_OPEN);
-    reader.take_word(Word::End);
-    reader.parts(declarations)
-}
-
-/// The block of a module. None where there is no memory to keep it.
-fn kept_block<'a>(reader: &mut Reader<'_, 'a>) -> Option<Kept<'a, Block<'a>>>
-    ensures { Follows reader.old reader.new }
-{
-    let block = block(reader, MAX_OPEN);
-    reader.parts(block)
+    let end = reader.take_word(Word::End);
+    Block {
+        pos,
+        declarations,
+        body: reader.no_items(),
+        end,
+    }
 }
 
 /// The generic's name and the actuals of an instance, with the END behind them.

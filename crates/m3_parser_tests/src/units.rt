@@ -11,6 +11,8 @@ pub fn text_of_tree(alloc: Global, unit: &Unit, has_places: bool) -> Result<Vec<
     sheet.open(head_of_unit(unit), unit.pos);
     sheet.name(&unit.name);
     show_kind(&unit.kind, &mut sheet);
+    show_imports(unit.imports, &mut sheet);
+    show_own(unit, &mut sheet);
     sheet.word(b"END");
     sheet.name(&unit.closing);
     sheet.close();
@@ -19,10 +21,8 @@ pub fn text_of_tree(alloc: Global, unit: &Unit, has_places: bool) -> Result<Vec<
 
 fn head_of_unit(unit: &Unit) -> &'static [u8] {
     match (&unit.kind, unit.is_unsafe) {
-        (UnitKind::Interface { .. } | UnitKind::InterfaceInstance { .. }, false) => b"INTERFACE",
-        (UnitKind::Interface { .. } | UnitKind::InterfaceInstance { .. }, true) => {
-            b"UNSAFE-INTERFACE"
-        }
+        (UnitKind::Interface | UnitKind::InterfaceInstance { .. }, false) => b"INTERFACE",
+        (UnitKind::Interface | UnitKind::InterfaceInstance { .. }, true) => { b"UNSAFE-INTERFACE" }
         (UnitKind::Module { .. } | UnitKind::ModuleInstance { .. }, false) => b"MODULE",
         (UnitKind::Module { .. } | UnitKind::ModuleInstance { .. }, true) => b"UNSAFE-MODULE",
         (UnitKind::GenericInterface { .. }, false) => b"GENERIC-INTERFACE",
@@ -33,25 +33,11 @@ fn head_of_unit(unit: &Unit) -> &'static [u8] {
 
 fn show_kind(kind: &UnitKind, sheet: &mut Sheet) {
     match kind {
-        UnitKind::Interface {
-            imports,
-            declarations,
-        } => {
-            show_imports(imports, sheet);
-            show_declarations(declarations, sheet);
-        }
+        UnitKind::Interface => {}
         UnitKind::InterfaceInstance { generic, actuals } => {
             show_instance(generic, actuals, sheet);
         }
-        UnitKind::Module {
-            exports,
-            imports,
-            block,
-        } => {
-            show_exports(exports, sheet);
-            show_imports(imports, sheet);
-            show_block(block, sheet);
-        }
+        UnitKind::Module { exports } => show_exports(exports, sheet),
         UnitKind::ModuleInstance {
             exports,
             generic,
@@ -60,24 +46,17 @@ fn show_kind(kind: &UnitKind, sheet: &mut Sheet) {
             show_exports(exports, sheet);
             show_instance(generic, actuals, sheet);
         }
-        UnitKind::GenericInterface {
-            formals,
-            imports,
-            declarations,
-        } => {
+        UnitKind::GenericInterface { formals } | UnitKind::GenericModule { formals } => {
             show_names(b"formals", formals, sheet);
-            show_imports(imports, sheet);
-            show_declarations(declarations, sheet);
         }
-        UnitKind::GenericModule {
-            formals,
-            imports,
-            block,
-        } => {
-            show_names(b"formals", formals, sheet);
-            show_imports(imports, sheet);
-            show_block(block, sheet);
-        }
+    }
+}
+
+/// What a unit declares, and the block of a module.
+fn show_own(unit: &Unit, sheet: &mut Sheet) {
+    match unit.kind {
+        UnitKind::Module { .. } | UnitKind::GenericModule { .. } => show_block(unit.block, sheet),
+        _ => show_declarations(unit.declarations(), sheet),
     }
 }
 

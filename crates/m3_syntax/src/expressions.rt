@@ -83,7 +83,7 @@ impl Expr<'_> {
 }
 
 /// The operators between two operands.
-#[derive(Clone, Copy, Debug, PartialEq, Eq)]
+#[derive(Clone, Copy, PartialEq, Eq)]
 pub enum Operator {
     Or,
     And,
@@ -114,7 +114,7 @@ pub struct Operation<'a> {
 }
 
 /// A sign before an operand, and whether it is a minus.
-#[derive(Clone, Copy, Debug)]
+#[derive(Clone, Copy)]
 pub struct PrefixSign {
     pub pos: Pos,
     pub is_minus: bool,

@@ -8,13 +8,16 @@ use m3_base::Pos;
 pub type Kept<'a, T> = &'a Box<T, &'a Bump>;
 
 /// A unit (the report, section 2.5): a file's whole text. Its place is that of its first token, and
-/// `closing` is the name behind its last END.
+/// `closing` is the name behind its last END. The block of an interface has declarations alone; an
+/// instance has no imports, and nothing in its block.
 #[derive(Clone, Copy)]
 pub struct Unit<'a> {
     pub pos: Pos,
     pub is_unsafe: bool,
     pub name: Name<'a>,
     pub kind: UnitKind<'a>,
+    pub imports: &'a [Import<'a>],
+    pub block: Kept<'a, Block<'a>>,
     pub closing: Name<'a>,
     /// How many tokens its file has.
     pub tokens: u32,
@@ -23,10 +26,7 @@ pub struct Unit<'a> {
 /// What a unit is. A module without EXPORTS exports the interface of its own name.
 #[derive(Clone, Copy)]
 pub enum UnitKind<'a> {
-    Interface {
-        imports: &'a [Import<'a>],
-        declarations: Kept<'a, &'a [Decl<'a>]>,
-    },
+    Interface,
     /// `INTERFACE I = G(A1, A2) END I.`
     InterfaceInstance {
         generic: Name<'a>,
@@ -34,8 +34,6 @@ pub enum UnitKind<'a> {
     },
     Module {
         exports: Option<&'a [Name<'a>]>,
-        imports: &'a [Import<'a>],
-        block: Kept<'a, Block<'a>>,
     },
     /// `MODULE M = G(A1, A2) END M.`
     ModuleInstance {
@@ -45,51 +43,26 @@ pub enum UnitKind<'a> {
     },
     GenericInterface {
         formals: &'a [Name<'a>],
-        imports: &'a [Import<'a>],
-        declarations: Kept<'a, &'a [Decl<'a>]>,
     },
     GenericModule {
         formals: &'a [Name<'a>],
-        imports: &'a [Import<'a>],
-        block: Kept<'a, Block<'a>>,
     },
 }
 
 impl<'a> Unit<'a> {
-    /// Its imports; none of an instance.
-    pub fn imports(&self) -> &'a [Import<'a>] {
-        match self.kind {
-            UnitKind::Interface { imports, .. }
-            | UnitKind::Module { imports, .. }
-            | UnitKind::GenericInterface { imports, .. }
-            | UnitKind::GenericModule { imports, .. } => imports,
-            UnitKind::InterfaceInstance { .. } | UnitKind::ModuleInstance { .. } => &[],
-        }
-    }
-
-    /// Its declarations; none of an instance.
+    /// Its declarations.
     pub fn declarations(&self) -> &'a [Decl<'a>] {
-        match self.kind {
-            UnitKind::Interface { declarations, .. }
-            | UnitKind::GenericInterface { declarations, .. } => **declarations,
-            UnitKind::Module { block, .. } | UnitKind::GenericModule { block, .. } => {
-                block.declarations
-            }
-            UnitKind::InterfaceInstance { .. } | UnitKind::ModuleInstance { .. } => &[],
-        }
+        self.block.declarations
     }
 
     /// The statements of a module's body; none of another unit.
     pub fn statements(&self) -> &'a [Stmt<'a>] {
-        match self.kind {
-            UnitKind::Module { block, .. } | UnitKind::GenericModule { block, .. } => block.body,
-            _ => &[],
-        }
+        self.block.body
     }
 }
 
 /// What a unit imports, by the place of the first word: interfaces, or names of one interface.
-#[derive(Clone, Copy, Debug)]
+#[derive(Clone, Copy)]
 pub enum Import<'a> {
     Interfaces {
         pos: Pos,
@@ -103,7 +76,7 @@ pub enum Import<'a> {
 }
 
 /// An imported interface, with the name that it has here where AS gives one.
-#[derive(Clone, Copy, Debug)]
+#[derive(Clone, Copy)]
 pub struct ImportItem<'a> {
     pub interface: Name<'a>,
     pub alias: Option<Name<'a>>,

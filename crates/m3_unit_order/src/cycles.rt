@@ -111,7 +111,7 @@ fn judge_unit<'a>(
     if !is_given_interface(linker, linker.unit) {
         return Ok(());
     }
-    for import in unit.imports() {
+    for import in unit.imports {
         match import {
             Import::Interfaces { items, .. } => {
                 for item in *items {

@@ -52,16 +52,14 @@ fn check_constants<'a>(
 fn check_unit<'a>(walk: &mut Walk<'_, 'a>, unit: &Unit<'a>) -> Result<(), NoMemory> {
     check_procedures(walk, unit.declarations());
     match unit.kind {
-        UnitKind::Interface { declarations, .. } => {
-            check_variables(&mut walk.checker, **declarations)
-        }
-        UnitKind::Module { block, .. } => {
+        UnitKind::Interface => check_variables(&mut walk.checker, unit.declarations()),
+        UnitKind::Module { .. } => {
             let heading = ModuleHeading {
                 name: unit.name,
                 pos: unit.pos,
-                end: block.end,
+                end: unit.block.end,
             };
-            check_module(walk, heading, &**block)
+            check_module(walk, heading, &**unit.block)
         }
         _ => Ok(()),
     }
