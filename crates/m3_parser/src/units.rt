@@ -30,21 +30,23 @@ pub fn parse<'a>(alloc: Global, arena: &'a Bump, lexed: &Lexed<'a>) -> Result<Un
 {
     let mut reader = Reader::new(alloc, arena, lexed);
     let heading = unit_heading(&mut reader);
-    let body = body(&mut reader, heading.words);
+    let kind = unit_kind(&mut reader, heading.words);
+    let imports = own_imports(&mut reader, &kind);
+    let block = own_block(&mut reader, &kind);
     let closing = closing_name(&mut reader, &heading.name);
     if let Some(stop) = reader.stop() {
         return Err(refusal_of(lexed, stop));
     }
     let tokens = counted(lexed, reader.wrong_closing())?;
-    let Ok(block) = kept(arena, body.block) else {
+    let Ok(block) = kept(arena, block) else {
         return Err(Refused::NoMemory);
     };
     Ok(Unit {
         pos: heading.pos,
         is_unsafe: heading.words.is_unsafe,
         name: heading.name,
-        kind: body.kind,
-        imports: body.imports,
+        kind,
+        imports,
         block,
         closing,
         tokens,
@@ -55,32 +57,6 @@ pub fn parse<'a>(alloc: Global, arena: &'a Bump, lexed: &Lexed<'a>) -> Result<Un
 fn kept<'a>(arena: &'a Bump, block: Block<'a>) -> Result<Kept<'a, Block<'a>>, NoMemory> {
     let kept = arena.try_alloc(Box::new(arena, block)?)?;
     Ok(&*kept)
-}
-
-/// What stands in a unit between its name and its closing name.
-#[derive(Clone, Copy)]
-struct Body<'a> {
-    kind: UnitKind<'a>,
-    imports: &'a [Import<'a>],
-    block: Block<'a>,
-}
-
-fn body<'a>(reader: &mut Reader<'_, 'a>, words: FirstWords) -> Body<'a>
-    ensures { Follows reader.old reader.new }
-{
-    let kind = unit_kind(reader, words);
-    match kind {
-        UnitKind::InterfaceInstance { .. } | UnitKind::ModuleInstance { .. } => Body {
-            kind,
-            imports: reader.no_items(),
-            block: no_block(reader),
-        },
-        _ => Body {
-            kind,
-            imports: imports(reader),
-            block: own_block(reader, words.is_interface),
-        },
-    }
 }
 
 /// What a unit is, up to what it imports, or to the end of an instance.
@@ -134,25 +110,41 @@ fn module_kind<'a>(reader: &mut Reader<'_, 'a>) -> UnitKind<'a>
     UnitKind::Module { exports }
 }
 
-/// The block of an instance, which has none of its own.
-fn no_block<'a>(reader: &Reader<'_, 'a>) -> Block<'a> {
-    let pos = reader.pos();
-    Block {
-        pos,
-        declarations: reader.no_items(),
-        body: reader.no_items(),
-        end: pos,
+fn is_instance(kind: &UnitKind<'_>) -> bool {
+    matches!(
+        kind,
+        UnitKind::InterfaceInstance { .. } | UnitKind::ModuleInstance { .. }
+    )
+}
+
+/// What a unit imports; nothing of an instance.
+fn own_imports<'a>(reader: &mut Reader<'_, 'a>, kind: &UnitKind<'a>) -> &'a [Import<'a>]
+    ensures { Follows reader.old reader.new }
+{
+    if is_instance(kind) {
+        reader.no_items()
+    } else {
+        imports(reader)
     }
 }
 
-/// The block of a module, or the declarations of an interface with the END behind them.
-fn own_block<'a>(reader: &mut Reader<'_, 'a>, is_interface: bool) -> Block<'a>
+/// The block of a module, the declarations of an interface with the END behind them, or nothing of
+/// an instance.
+fn own_block<'a>(reader: &mut Reader<'_, 'a>, kind: &UnitKind<'a>) -> Block<'a>
     ensures { Follows reader.old reader.new }
 {
-    if !is_interface {
+    if let UnitKind::Module { .. } | UnitKind::GenericModule { .. } = kind {
         return block(reader, MAX_OPEN);
     }
     let pos = reader.pos();
+    if is_instance(kind) {
+        return Block {
+            pos,
+            declarations: reader.no_items(),
+            body: reader.no_items(),
+            end: pos,
+        };
+    }
     let declarations = declaration_list(reader, MAX_OPEN);
     let end = reader.take_word(Word::End);
     Block {

@@ -1,12 +1,13 @@
 ghost use Rattle.std.specs.Prelude.{◌<◌, ◌≤◌, OnSome, length};
 ghost use Rattle.m3_cursor.specs.Readers.{Follows};
 
-use crate::blocks::block;
+use crate::blocks::{begins_block, block};
 use m3_base::Pos;
 use m3_cursor::{Reader, name_list, qualid};
 use m3_phrases::{expression, initial, signature, type_expression};
 use m3_syntax::{
-    ConstDecl, Decl, ExceptionDecl, ProcedureBody, Revelation, Sign, TypeDecl, VarDecl, Word,
+    ConstDecl, Decl, ExceptionDecl, ProcedureBody, Revelation, Sign, TokenKind, TypeDecl, VarDecl,
+    Word,
 };
 
 /// The declarations that are here. `room` is that inside the block or unit to which they belong.
@@ -15,38 +16,60 @@ pub fn declaration_list<'a>(reader: &mut Reader<'_, 'a>, room: u32) -> &'a [Decl
     ensures { Follows reader.old reader.new }
 {
     let mut declarations = Vec::new(reader.alloc);
-    'declarations: while let Some(declaration) = declaration(reader, room) {
+    'declarations: loop {
+        let pos = reader.pos();
+        let Some(word) = declaring(reader) else {
+            break;
+        };
+        let declaration = declaration(reader, room, pos, word);
         reader.put(&mut declarations, declaration);
     }
     reader.row(declarations)
 }
 
-/// The declaration that is here, if one is.
-#[cycle(statements)]
-fn declaration<'a>(reader: &mut Reader<'_, 'a>, room: u32) -> Option<Decl<'a>>
+/// The word that begins declarations, past it. None where none begin here.
+fn declaring(reader: &mut Reader<'_, '_>) -> Option<Word>
     ensures follows { Follows reader.old reader.new }
     ensures past { OnSome result (length reader.new.rest.now < length reader.old.rest.now) }
 {
-    let pos = reader.pos();
-    if reader.skip_word(Word::Const) {
-        let constants = constants(reader, room);
-        Some(Decl::Const { pos, constants })
-    } else if reader.skip_word(Word::Type) {
-        let types = types(reader, room);
-        Some(Decl::Type { pos, types })
-    } else if reader.skip_word(Word::Exception) {
-        let exceptions = exceptions(reader, room);
-        Some(Decl::Exception { pos, exceptions })
-    } else if reader.skip_word(Word::Var) {
-        let variables = variables(reader, room);
-        Some(Decl::Var { pos, variables })
-    } else if reader.skip_word(Word::Procedure) {
-        Some(procedure(reader, room, pos))
-    } else if reader.skip_word(Word::Reveal) {
-        let reveals = reveals(reader, room);
-        Some(Decl::Reveal { pos, reveals })
+    let word = match reader.kind() {
+        Some(TokenKind::Keyword(word)) if word != Word::Begin && begins_block(word) => word,
+        _ => return None,
+    };
+    if reader.skip_word(word) {
+        Some(word)
     } else {
         None
+    }
+}
+
+/// The declarations behind a word, whose place this is.
+#[cycle(statements)]
+fn declaration<'a>(reader: &mut Reader<'_, 'a>, room: u32, pos: Pos, word: Word) -> Decl<'a>
+    ensures { Follows reader.old reader.new }
+{
+    match word {
+        Word::Const => {
+            let constants = constants(reader, room);
+            Decl::Const { pos, constants }
+        }
+        Word::Type => {
+            let types = types(reader, room);
+            Decl::Type { pos, types }
+        }
+        Word::Exception => {
+            let exceptions = exceptions(reader, room);
+            Decl::Exception { pos, exceptions }
+        }
+        Word::Var => {
+            let variables = variables(reader, room);
+            Decl::Var { pos, variables }
+        }
+        Word::Reveal => {
+            let reveals = reveals(reader, room);
+            Decl::Reveal { pos, reveals }
+        }
+        _ => procedure(reader, room, pos),
     }
 }
 

@@ -4,11 +4,8 @@ use crate::blocks::{begins_block, block};
 use crate::branches::{case_statement, if_statement, typecase_statement};
 use crate::handlers::try_statement;
 use crate::heads::call_of;
-use crate::jumps::{eval_statement, raise_statement, return_statement};
-use crate::loops::{
-    for_statement, lock_statement, loop_statement, repeat_statement, while_statement,
-    with_statement,
-};
+use crate::jumps::jump;
+use crate::loops::{enclosing, for_statement};
 use m3_cursor::{Reader, begins_expression};
 use m3_phrases::{expression, statement_head};
 use m3_syntax::{Sign, Stmt, TokenKind, Word};
@@ -69,21 +66,14 @@ fn statement<'a>(reader: &mut Reader<'_, 'a>, room: u32) -> Stmt<'a>
     match reader.kind() {
         Some(TokenKind::Keyword(word)) => match word {
             Word::Case => case_statement(reader, room),
-            Word::Eval => eval_statement(reader, room),
-            Word::Exit => Stmt::Exit {
-                pos: reader.take_word(word),
-            },
+            Word::Eval | Word::Exit | Word::Raise | Word::Return => jump(reader, room, word),
             Word::For => for_statement(reader, room),
             Word::If => if_statement(reader, room),
-            Word::Lock => lock_statement(reader, room),
-            Word::Loop => loop_statement(reader, room),
-            Word::Raise => raise_statement(reader, room),
-            Word::Repeat => repeat_statement(reader, room),
-            Word::Return => return_statement(reader, room),
+            Word::Lock | Word::Loop | Word::Repeat | Word::While | Word::With => {
+                enclosing(reader, room, word)
+            }
             Word::Try => try_statement(reader, room),
             Word::Typecase => typecase_statement(reader, room),
-            Word::While => while_statement(reader, room),
-            Word::With => with_statement(reader, room),
             Word::Procedure => block_or_call(reader, room),
             _ if begins_block(word) => Stmt::Block(block(reader, room)),
             _ => assignment_or_call(reader, room),

@@ -38,20 +38,8 @@ decreases-loops::done l = 16 * l.room + 2
 abbrev pub decreases-loops::for_statement : goal.decreases-loops::for_statement
 decreases-loops::for_statement l = 16 * l.room + 3
 
-abbrev pub decreases-loops::lock_statement : goal.decreases-loops::lock_statement
-decreases-loops::lock_statement l = 16 * l.room + 3
-
-abbrev pub decreases-loops::loop_statement : goal.decreases-loops::loop_statement
-decreases-loops::loop_statement l = 16 * l.room + 3
-
-abbrev pub decreases-loops::repeat_statement : goal.decreases-loops::repeat_statement
-decreases-loops::repeat_statement l = 16 * l.room + 3
-
-abbrev pub decreases-loops::while_statement : goal.decreases-loops::while_statement
-decreases-loops::while_statement l = 16 * l.room + 3
-
-abbrev pub decreases-loops::with_statement : goal.decreases-loops::with_statement
-decreases-loops::with_statement l = 16 * l.room + 3
+abbrev pub decreases-loops::enclosing : goal.decreases-loops::enclosing
+decreases-loops::enclosing l = 16 * l.room + 3
 
 abbrev pub decreases-statements::block_or_call : goal.decreases-statements::block_or_call
 decreases-statements::block_or_call l = 16 * l.room + 1
@@ -97,9 +85,3 @@ invariant-declarations::declaration_list-declarations l = Follows l.initial.read
 
 abbrev pub decreases-declarations::declaration_list-declarations : goal.decreases-declarations::declaration_list-declarations
 decreases-declarations::declaration_list-declarations l = length l.reader.rest.now
-
-abbrev pub invariant-loops::with_statement-bindings : goal.invariant-loops::with_statement-bindings
-invariant-loops::with_statement-bindings l = Follows l.initial.reader l.reader
-
-abbrev pub decreases-loops::with_statement-bindings : goal.decreases-loops::with_statement-bindings
-decreases-loops::with_statement-bindings l = length l.reader.rest.now
