@@ -28,22 +28,21 @@ pub fn fields<'a>(reader: &mut Reader<'_, 'a>, room: u32) -> &'a [Field<'a>]
 pub fn methods<'a>(reader: &mut Reader<'_, 'a>, room: u32) -> &'a [Method<'a>]
     ensures { Follows reader.old reader.new }
 {
-    if !reader.skip_word(Word::Methods) {
-        return reader.no_items();
-    }
     let mut methods = Vec::new(reader.alloc);
-    'methods: while reader.is_name() {
-        let name = reader.take_name();
-        let signature = signature(reader, room);
-        let default = assigned(reader, room);
-        let method = Method {
-            name,
-            signature,
-            default,
-        };
-        reader.put(&mut methods, method);
-        if !reader.skip_sign(Sign::Semicolon) {
-            break;
+    if reader.skip_word(Word::Methods) {
+        'methods: while reader.is_name() {
+            let name = reader.take_name();
+            let signature = signature(reader, room);
+            let default = assigned(reader, room);
+            let method = Method {
+                name,
+                signature,
+                default,
+            };
+            reader.put(&mut methods, method);
+            if !reader.skip_sign(Sign::Semicolon) {
+                break;
+            }
         }
     }
     reader.row(methods)
@@ -55,17 +54,16 @@ pub fn methods<'a>(reader: &mut Reader<'_, 'a>, room: u32) -> &'a [Method<'a>]
 pub fn overrides<'a>(reader: &mut Reader<'_, 'a>, room: u32) -> &'a [Override<'a>]
     ensures { Follows reader.old reader.new }
 {
-    if !reader.skip_word(Word::Overrides) {
-        return reader.no_items();
-    }
     let mut overrides = Vec::new(reader.alloc);
-    'overrides: while reader.is_name() {
-        let name = reader.take_name();
-        reader.take_sign(Sign::Assign);
-        let value = expression(reader, room);
-        reader.put(&mut overrides, Override { name, value });
-        if !reader.skip_sign(Sign::Semicolon) {
-            break;
+    if reader.skip_word(Word::Overrides) {
+        'overrides: while reader.is_name() {
+            let name = reader.take_name();
+            reader.take_sign(Sign::Assign);
+            let value = expression(reader, room);
+            reader.put(&mut overrides, Override { name, value });
+            if !reader.skip_sign(Sign::Semicolon) {
+                break;
+            }
         }
     }
     reader.row(overrides)

@@ -269,23 +269,22 @@ fn constructor<'a>(reader: &mut Reader<'_, 'a>, setting: Setting, head: Found<'a
 fn elements<'a>(reader: &mut Reader<'_, 'a>, room: u32) -> (&'a [Element<'a>], bool)
     ensures { Follows reader.old reader.new }
 {
-    if reader.skip_sign(Sign::CloseBrace) {
-        return (reader.no_items(), false);
-    }
     let mut elements = Vec::new(reader.alloc);
     let mut is_filled = false;
-    'elements: loop {
-        let element = element(reader, room);
-        reader.put(&mut elements, element);
-        if !reader.skip_sign(Sign::Comma) {
-            break;
+    if !reader.skip_sign(Sign::CloseBrace) {
+        'elements: loop {
+            let element = element(reader, room);
+            reader.put(&mut elements, element);
+            if !reader.skip_sign(Sign::Comma) {
+                break;
+            }
+            if reader.skip_sign(Sign::DotDot) {
+                is_filled = true;
+                break;
+            }
         }
-        if reader.skip_sign(Sign::DotDot) {
-            is_filled = true;
-            break;
-        }
+        reader.take_sign(Sign::CloseBrace);
     }
-    reader.take_sign(Sign::CloseBrace);
     (reader.row(elements), is_filled)
 }
 
