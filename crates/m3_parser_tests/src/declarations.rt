@@ -2,12 +2,28 @@ use crate::expressions::show_expr;
 use crate::sheets::Sheet;
 use crate::statements::show_block;
 use crate::types::{show_init, show_signature, show_type};
+use m3_base::Pos;
 use m3_syntax::{ConstDecl, Decl, ExceptionDecl, Revelation, TypeDecl, TypeExp, VarDecl};
 
 #[cycle(statements)]
 pub fn show_declarations(declarations: &[Decl], sheet: &mut Sheet) {
     for declaration in declarations {
+        let (word, pos) = head_of(declaration);
+        sheet.open(word, pos);
         show_declaration(declaration, sheet);
+        sheet.close();
+    }
+}
+
+/// The word that begins a declaration, and its place.
+fn head_of(declaration: &Decl) -> (&'static [u8], Pos) {
+    match declaration {
+        Decl::Procedure { pos, .. } => (&b"PROCEDURE"[..], *pos),
+        Decl::Const { pos, .. } => (&b"CONST"[..], *pos),
+        Decl::Type { pos, .. } => (&b"TYPE"[..], *pos),
+        Decl::Exception { pos, .. } => (&b"EXCEPTION"[..], *pos),
+        Decl::Var { pos, .. } => (&b"VAR"[..], *pos),
+        Decl::Reveal { pos, .. } => (&b"REVEAL"[..], *pos),
     }
 }
 
@@ -15,12 +31,11 @@ pub fn show_declarations(declarations: &[Decl], sheet: &mut Sheet) {
 fn show_declaration(declaration: &Decl, sheet: &mut Sheet) {
     match declaration {
         Decl::Procedure {
-            pos,
             name,
             signature,
             body,
+            ..
         } => {
-            sheet.open(b"PROCEDURE", *pos);
             sheet.name(name);
             show_signature(signature, sheet);
             if let Some(body) = body {
@@ -29,28 +44,12 @@ fn show_declaration(declaration: &Decl, sheet: &mut Sheet) {
                 sheet.name(&body.closing);
             }
         }
-        Decl::Const { pos, constants } => {
-            sheet.open(b"CONST", *pos);
-            show_constants(constants, sheet);
-        }
-        Decl::Type { pos, types } => {
-            sheet.open(b"TYPE", *pos);
-            show_types(types, sheet);
-        }
-        Decl::Exception { pos, exceptions } => {
-            sheet.open(b"EXCEPTION", *pos);
-            show_exceptions(exceptions, sheet);
-        }
-        Decl::Var { pos, variables } => {
-            sheet.open(b"VAR", *pos);
-            show_variables(variables, sheet);
-        }
-        Decl::Reveal { pos, reveals } => {
-            sheet.open(b"REVEAL", *pos);
-            show_reveals(reveals, sheet);
-        }
+        Decl::Const { constants, .. } => show_constants(constants, sheet),
+        Decl::Type { types, .. } => show_types(types, sheet),
+        Decl::Exception { exceptions, .. } => show_exceptions(exceptions, sheet),
+        Decl::Var { variables, .. } => show_variables(variables, sheet),
+        Decl::Reveal { reveals, .. } => show_reveals(reveals, sheet),
     }
-    sheet.close();
 }
 
 fn show_constants(constants: &[ConstDecl], sheet: &mut Sheet) {

@@ -6,68 +6,68 @@ use m3_syntax::{Actual, Element, Expr, Operation, Operator, PrefixSign, Selector
 #[cycle(phrases)]
 pub fn show_expr(expr: &Expr, sheet: &mut Sheet) {
     match expr {
-        Expr::Operations { pos, first, rest } => {
-            sheet.open(b"", *pos);
+        Expr::Name(name) => sheet.name(name),
+        Expr::Number { pos, value } => sheet.number(b"", *value, *pos),
+        Expr::CharLit { pos, value } => sheet.number(b"#", i64::from(*value), *pos),
+        Expr::TextLit { pos, text } => sheet.sign(text, *pos),
+        Expr::Missing { pos } => sheet.sign(b"missing", *pos),
+        _ => {
+            sheet.open(word_of_expr(expr), expr.pos());
+            show_parts_of_expr(expr, sheet);
+            sheet.close();
+        }
+    }
+}
+
+/// The word that shows what an expression is.
+fn word_of_expr(expr: &Expr) -> &'static [u8] {
+    match expr {
+        Expr::Selected { .. } => b"sel",
+        Expr::Parenthesis { .. } => b"paren",
+        Expr::Constructor { .. } => b"{}",
+        _ => b"",
+    }
+}
+
+#[cycle(phrases)]
+fn show_parts_of_expr(expr: &Expr, sheet: &mut Sheet) {
+    match expr {
+        Expr::Operations { first, rest, .. } => {
             show_expr(first, sheet);
             show_operations(rest, sheet);
-            sheet.close();
         }
-        Expr::Not {
-            pos,
-            words,
-            operand,
-        } => {
-            sheet.open(b"", *pos);
+        Expr::Not { words, operand, .. } => {
             show_nots(words, sheet);
             show_expr(operand, sheet);
-            sheet.close();
         }
-        Expr::Signed {
-            pos,
-            signs,
-            operand,
-        } => {
-            sheet.open(b"", *pos);
+        Expr::Signed { signs, operand, .. } => {
             show_signs(signs, sheet);
             show_expr(operand, sheet);
-            sheet.close();
         }
         Expr::Selected {
-            pos,
             operand,
             selectors,
+            ..
         } => {
-            sheet.open(b"sel", *pos);
             show_expr(operand, sheet);
             show_selectors(selectors, sheet);
-            sheet.close();
         }
-        Expr::Parenthesis { pos, inner } => {
-            sheet.open(b"paren", *pos);
-            show_expr(inner, sheet);
-            sheet.close();
-        }
+        Expr::Parenthesis { inner, .. } => show_expr(inner, sheet),
         Expr::Constructor {
-            pos,
             kind,
             brace,
             elements,
             is_filled,
+            ..
         } => {
-            sheet.open(b"{}", *pos);
             show_type(kind, sheet);
             sheet.mark(b"at", *brace);
             show_elements(elements, sheet);
             if *is_filled {
                 sheet.word(b"..");
             }
-            sheet.close();
         }
-        Expr::Name(name) => sheet.name(name),
-        Expr::Number { pos, value } => sheet.number(b"", *value, *pos),
-        Expr::CharLit { pos, value } => sheet.number(b"#", i64::from(*value), *pos),
-        Expr::TextLit { pos, text } => sheet.sign(text, *pos),
-        Expr::Missing { pos } => sheet.sign(b"missing", *pos),
+        _ => {}
     }
 }
 

@@ -18,20 +18,62 @@ pub fn show_block(block: &Block, sheet: &mut Sheet) {
 #[cycle(statements)]
 fn show_statements(statements: &[Stmt], sheet: &mut Sheet) {
     for statement in statements {
-        show_statement(statement, sheet);
+        if let Stmt::Block(block) = statement {
+            show_block(block, sheet);
+        } else {
+            sheet.open(word_of(statement), place_of(statement));
+            show_head(statement, sheet);
+            show_inside(statement, sheet);
+            show_otherwise(statement, sheet);
+            sheet.close();
+        }
     }
 }
 
-#[cycle(statements)]
-fn show_statement(statement: &Stmt, sheet: &mut Sheet) {
-    if let Stmt::Block(block) = statement {
-        show_block(block, sheet);
-        return;
+/// The word that shows what a statement is.
+fn word_of(statement: &Stmt) -> &'static [u8] {
+    match statement {
+        Stmt::Assign { .. } => b":=",
+        Stmt::Call { .. } => b"call",
+        Stmt::Block(_) => b"block",
+        Stmt::Case { .. } => b"CASE",
+        Stmt::Exit { .. } => b"EXIT",
+        Stmt::Eval { .. } => b"EVAL",
+        Stmt::For { .. } => b"FOR",
+        Stmt::If { .. } => b"IF",
+        Stmt::Lock { .. } => b"LOCK",
+        Stmt::Loop { .. } => b"LOOP",
+        Stmt::Raise { .. } => b"RAISE",
+        Stmt::Repeat { .. } => b"REPEAT",
+        Stmt::Return { .. } => b"RETURN",
+        Stmt::TryExcept { .. } | Stmt::TryFinally { .. } => b"TRY",
+        Stmt::TypeCase { .. } => b"TYPECASE",
+        Stmt::While { .. } => b"WHILE",
+        Stmt::With { .. } => b"WITH",
     }
-    show_head(statement, sheet);
-    show_inside(statement, sheet);
-    show_otherwise(statement, sheet);
-    sheet.close();
+}
+
+fn place_of(statement: &Stmt) -> Pos {
+    match statement {
+        Stmt::Block(block) => block.pos,
+        Stmt::Assign { pos, .. }
+        | Stmt::Call { pos, .. }
+        | Stmt::Case { pos, .. }
+        | Stmt::Exit { pos }
+        | Stmt::Eval { pos, .. }
+        | Stmt::For { pos, .. }
+        | Stmt::If { pos, .. }
+        | Stmt::Lock { pos, .. }
+        | Stmt::Loop { pos, .. }
+        | Stmt::Raise { pos, .. }
+        | Stmt::Repeat { pos, .. }
+        | Stmt::Return { pos, .. }
+        | Stmt::TryExcept { pos, .. }
+        | Stmt::TryFinally { pos, .. }
+        | Stmt::TypeCase { pos, .. }
+        | Stmt::While { pos, .. }
+        | Stmt::With { pos, .. } => *pos,
+    }
 }
 
 /// The lists of statements in a statement, but for that behind ELSE.
@@ -62,9 +104,12 @@ fn show_inside(statement: &Stmt, sheet: &mut Sheet) {
         }
         Stmt::For { body, .. }
         | Stmt::Lock { body, .. }
-        | Stmt::Loop { body, .. }
         | Stmt::While { body, .. }
-        | Stmt::With { body, .. } => show_statements(body, sheet),
+        | Stmt::With { body, .. } => {
+            sheet.word(b"DO");
+            show_statements(body, sheet);
+        }
+        Stmt::Loop { body, .. } => show_statements(body, sheet),
         _ => {}
     }
 }
@@ -85,94 +130,70 @@ fn show_otherwise(statement: &Stmt, sheet: &mut Sheet) {
     }
 }
 
-/// A statement up to the first list of statements in it.
+/// What stands in a statement before its statements.
 fn show_head(statement: &Stmt, sheet: &mut Sheet) {
     match statement {
-        Stmt::Assign { pos, target, value } => {
-            sheet.open(b":=", *pos);
+        Stmt::Assign { target, value, .. } => {
             show_expr(target, sheet);
             show_expr(value, sheet);
         }
         Stmt::Call {
-            pos,
             callee,
             parenthesis,
             actuals,
+            ..
         } => {
-            sheet.open(b"call", *pos);
             show_expr(callee, sheet);
             sheet.mark(b"at", *parenthesis);
             show_actuals(actuals, sheet);
         }
-        Stmt::Exit { pos } => sheet.open(b"EXIT", *pos),
-        Stmt::Eval { pos, value } => show_word_and_value(b"EVAL", *pos, value, sheet),
-        Stmt::Return { pos, value: None } => sheet.open(b"RETURN", *pos),
-        Stmt::Return {
-            pos,
-            value: Some(value),
-        } => show_word_and_value(b"RETURN", *pos, value, sheet),
+        Stmt::Eval { value, .. }
+        | Stmt::Case { value, .. }
+        | Stmt::TypeCase { value, .. }
+        | Stmt::Lock { mutex: value, .. }
+        | Stmt::While {
+            condition: value,
+            ..
+        } => show_expr(value, sheet),
+        Stmt::Return { value, .. } => show_value_behind(b"", value, sheet),
         Stmt::Raise {
-            pos,
             exception,
             argument,
+            ..
         } => {
-            sheet.open(b"RAISE", *pos);
             sheet.qualid(exception);
             show_value_behind(b"WITH", argument, sheet);
         }
-        Stmt::Case { pos, value, .. } => show_word_and_value(b"CASE", *pos, value, sheet),
-        Stmt::TypeCase { pos, value, .. } => show_word_and_value(b"TYPECASE", *pos, value, sheet),
-        Stmt::If { pos, .. } => sheet.open(b"IF", *pos),
-        Stmt::Repeat { pos, .. } => sheet.open(b"REPEAT", *pos),
-        Stmt::TryExcept { pos, .. } | Stmt::TryFinally { pos, .. } => sheet.open(b"TRY", *pos),
-        _ => show_head_of_loop(statement, sheet),
+        Stmt::With { bindings, .. } => show_bindings(bindings, sheet),
+        Stmt::For { .. } => show_range(statement, sheet),
+        _ => {}
     }
 }
 
-fn show_word_and_value(word: &[u8], pos: Pos, value: &Expr, sheet: &mut Sheet) {
-    sheet.open(word, pos);
-    show_expr(value, sheet);
+/// The range of a FOR.
+fn show_range(statement: &Stmt, sheet: &mut Sheet) {
+    if let Stmt::For {
+        name,
+        first,
+        last,
+        step,
+        ..
+    } = statement
+    {
+        sheet.name(name);
+        show_expr(first, sheet);
+        show_expr(last, sheet);
+        show_value_behind(b"BY", step, sheet);
+    }
 }
 
+/// A value, behind a word unless that is empty, where there is a value.
 fn show_value_behind(word: &[u8], value: &Option<&Expr>, sheet: &mut Sheet) {
     if let Some(value) = value {
-        sheet.word(word);
+        if !word.is_empty() {
+            sheet.word(word);
+        }
         show_expr(value, sheet);
-    }
-}
-
-fn show_head_of_loop(statement: &Stmt, sheet: &mut Sheet) {
-    match statement {
-        Stmt::Loop { pos, .. } => sheet.open(b"LOOP", *pos),
-        Stmt::Lock { pos, mutex, .. } => {
-            show_word_and_value(b"LOCK", *pos, mutex, sheet);
-            sheet.word(b"DO");
-        }
-        Stmt::While { pos, condition, .. } => {
-            show_word_and_value(b"WHILE", *pos, condition, sheet);
-            sheet.word(b"DO");
-        }
-        Stmt::With { pos, bindings, .. } => {
-            sheet.open(b"WITH", *pos);
-            show_bindings(bindings, sheet);
-            sheet.word(b"DO");
-        }
-        Stmt::For {
-            pos,
-            name,
-            first,
-            last,
-            step,
-            ..
-        } => {
-            sheet.open(b"FOR", *pos);
-            sheet.name(name);
-            show_expr(first, sheet);
-            show_expr(last, sheet);
-            show_value_behind(b"BY", step, sheet);
-            sheet.word(b"DO");
-        }
-        _ => sheet.word(b"?"),
     }
 }
 

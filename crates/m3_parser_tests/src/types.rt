@@ -8,86 +8,80 @@ use m3_syntax::{
 pub fn show_type(kind: &TypeExp, sheet: &mut Sheet) {
     match kind {
         TypeExp::Named(name) => show_type_name(name, sheet),
-        TypeExp::Parenthesis { pos, inner } => {
-            sheet.open(b"paren", *pos);
-            show_type(inner, sheet);
+        TypeExp::Missing { pos } => sheet.sign(b"missing", *pos),
+        _ => {
+            sheet.open(word_of_type(kind), kind.pos());
+            show_parts_of_type(kind, sheet);
             sheet.close();
         }
+    }
+}
+
+/// The word that shows what a type is.
+fn word_of_type(kind: &TypeExp) -> &'static [u8] {
+    match kind {
+        TypeExp::Named(_) | TypeExp::Missing { .. } => b"",
+        TypeExp::Parenthesis { .. } => b"paren",
+        TypeExp::Array { .. } => b"ARRAY",
+        TypeExp::Bits { .. } => b"BITS",
+        TypeExp::Enumeration { .. } => b"enum",
+        TypeExp::Object { .. } => b"object",
+        TypeExp::Procedure { .. } => b"PROCEDURE",
+        TypeExp::Record { .. } => b"RECORD",
+        TypeExp::Ref { is_untraced, .. } => {
+            if *is_untraced {
+                b"UNTRACED-REF"
+            } else {
+                b"REF"
+            }
+        }
+        TypeExp::Set { .. } => b"SET",
+        TypeExp::Subrange { .. } => b"..",
+    }
+}
+
+#[cycle(phrases)]
+fn show_parts_of_type(kind: &TypeExp, sheet: &mut Sheet) {
+    match kind {
+        TypeExp::Named(_) | TypeExp::Missing { .. } => {}
+        TypeExp::Parenthesis { inner: part, .. } | TypeExp::Set { base: part, .. } => {
+            show_type(part, sheet);
+        }
         TypeExp::Array {
-            pos,
             indexes,
             element,
+            ..
         } => {
-            sheet.open(b"ARRAY", *pos);
             for index in *indexes {
                 show_type(index, sheet);
             }
             sheet.word(b"OF");
             show_type(element, sheet);
-            sheet.close();
         }
-        TypeExp::Bits { pos, width, target } => {
-            sheet.open(b"BITS", *pos);
+        TypeExp::Bits { width, target, .. } => {
             show_expr(width, sheet);
             sheet.word(b"FOR");
             show_type(target, sheet);
-            sheet.close();
         }
-        TypeExp::Enumeration { pos, members } => {
-            sheet.open(b"enum", *pos);
-            sheet.names(members);
-            sheet.close();
-        }
-        TypeExp::Object { pos, parent, parts } => {
-            sheet.open(b"object", *pos);
+        TypeExp::Enumeration { members, .. } => sheet.names(members),
+        TypeExp::Object { parent, parts, .. } => {
             match parent {
                 Some(name) => show_type_name(name, sheet),
                 None => sheet.word(b"-"),
             }
             show_object_parts(parts, sheet);
-            sheet.close();
         }
-        TypeExp::Procedure { pos, signature } => {
-            sheet.open(b"PROCEDURE", *pos);
-            show_signature(signature, sheet);
-            sheet.close();
-        }
-        TypeExp::Record { pos, fields } => {
-            sheet.open(b"RECORD", *pos);
-            show_fields(fields, sheet);
-            sheet.close();
-        }
-        TypeExp::Ref {
-            pos,
-            is_untraced,
-            brand,
-            target,
-        } => {
-            sheet.open(
-                if *is_untraced {
-                    b"UNTRACED-REF"
-                } else {
-                    b"REF"
-                },
-                *pos,
-            );
+        TypeExp::Procedure { signature, .. } => show_signature(signature, sheet),
+        TypeExp::Record { fields, .. } => show_fields(fields, sheet),
+        TypeExp::Ref { brand, target, .. } => {
             if let Some(brand) = brand {
                 show_brand(brand, sheet);
             }
             show_type(target, sheet);
-            sheet.close();
         }
-        TypeExp::Set { pos, base } => {
-            sheet.open(b"SET", *pos);
-            show_type(base, sheet);
-            sheet.close();
-        }
-        TypeExp::Missing { pos } => sheet.sign(b"missing", *pos),
-        TypeExp::Subrange { pos, first, last } => {
-            sheet.open(b"..", *pos);
+        TypeExp::Subrange { first, last, .. } => {
             show_expr(first, sheet);
             show_expr(last, sheet);
-            sheet.close();
         }
     }
 }
