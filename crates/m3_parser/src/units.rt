@@ -53,9 +53,9 @@ pub fn parse<'a>(alloc: Global, arena: &'a Bump, lexed: &Lexed<'a>) -> Result<Un
     })
 }
 
-/// Keeps the block of a unit.
-fn kept<'a>(arena: &'a Bump, block: Block<'a>) -> Result<Kept<'a, Block<'a>>, NoMemory> {
-    let kept = arena.try_alloc(Box::new(arena, block)?)?;
+/// Keeps a part of a unit.
+fn kept<'a, T: Copy>(arena: &'a Bump, part: T) -> Result<Kept<'a, T>, NoMemory> {
+    let kept = arena.try_alloc(Box::new(arena, part)?)?;
     Ok(&*kept)
 }
 
@@ -122,10 +122,9 @@ fn own_imports<'a>(reader: &mut Reader<'_, 'a>, kind: &UnitKind<'a>) -> &'a [Imp
     ensures { Follows reader.old reader.new }
 {
     if is_instance(kind) {
-        reader.no_items()
-    } else {
-        imports(reader)
+        return reader.no_items();
     }
+    imports(reader)
 }
 
 /// The block of a module, the declarations of an interface with the END behind them, or nothing of
