@@ -5,14 +5,14 @@ use std::alloc::{AllocError, Global};
 use std::io;
 
 /// How many cases were tried, and how many of them came out otherwise.
-#[derive(Clone, Copy, Debug)]
+#[derive(Clone, Copy)]
 pub struct Tally {
     pub cases: u32,
     pub differing: u32,
 }
 
 /// What a line of a file of cases is.
-#[derive(Clone, Copy, Debug)]
+#[derive(Clone, Copy)]
 enum Line<'s> {
     Remark,
     /// The frame of the cases from here on.
@@ -80,7 +80,7 @@ impl Tally {
 }
 
 /// A text with its frame, and what it is to give.
-#[derive(Clone, Copy, Debug)]
+#[derive(Clone, Copy)]
 struct Case<'s> {
     frame: Frame,
     text: &'s str,

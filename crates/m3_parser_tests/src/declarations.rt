@@ -8,22 +8,31 @@ use m3_syntax::{ConstDecl, Decl, ExceptionDecl, Revelation, TypeDecl, TypeExp, V
 #[cycle(statements)]
 pub fn show_declarations(declarations: &[Decl], sheet: &mut Sheet) {
     for declaration in declarations {
-        let (word, pos) = head_of(declaration);
-        sheet.open(word, pos);
+        sheet.open(word_of(declaration), place_of(declaration));
         show_declaration(declaration, sheet);
         sheet.close();
     }
 }
 
-/// The word that begins a declaration, and its place.
-fn head_of(declaration: &Decl) -> (&'static [u8], Pos) {
+fn word_of(declaration: &Decl) -> &'static [u8] {
     match declaration {
-        Decl::Procedure { pos, .. } => (&b"PROCEDURE"[..], *pos),
-        Decl::Const { pos, .. } => (&b"CONST"[..], *pos),
-        Decl::Type { pos, .. } => (&b"TYPE"[..], *pos),
-        Decl::Exception { pos, .. } => (&b"EXCEPTION"[..], *pos),
-        Decl::Var { pos, .. } => (&b"VAR"[..], *pos),
-        Decl::Reveal { pos, .. } => (&b"REVEAL"[..], *pos),
+        Decl::Procedure { .. } => b"PROCEDURE",
+        Decl::Const { .. } => b"CONST",
+        Decl::Type { .. } => b"TYPE",
+        Decl::Exception { .. } => b"EXCEPTION",
+        Decl::Var { .. } => b"VAR",
+        Decl::Reveal { .. } => b"REVEAL",
+    }
+}
+
+fn place_of(declaration: &Decl) -> Pos {
+    match declaration {
+        Decl::Procedure { pos, .. }
+        | Decl::Const { pos, .. }
+        | Decl::Type { pos, .. }
+        | Decl::Exception { pos, .. }
+        | Decl::Var { pos, .. }
+        | Decl::Reveal { pos, .. } => *pos,
     }
 }
 
