@@ -4,7 +4,7 @@ use Rattle.std.proofs.lemmas.List.{drop_more, take_more}
 use Rattle.std.specs.Char.{is_ascii_alphanumeric}
 use Rattle.std.proofs.lemmas.Bool.Decides.{nat_tests}
 use Rattle.m3_build.specs.declared.tokens.Token.{Token}
-use Rattle.m3_build.specs.Lexing.{with_word, with_byte, line_after, then_lexed, lexed}
+use Rattle.m3_build.specs.Lexing.{with_open_word, with_byte, line_after, then_lexed, lexed}
 
 -- a letter or a digit is one more of the word that is open
 pub lexes_letter : (tokens : List Token) (line start i : ℕ) (text : List ℕ) → start ≤ i → i < length text → is_ascii_alphanumeric (get_or text i 0) ≡ true
@@ -19,39 +19,39 @@ lexes_letter tokens line start i text opened within letter =
     ap (λ k. take k (drop start text)) n ∙ take_more (drop start text) (i - start) 0 inside
     ∙ ap (λ x. word ++ x ∷ []) (get_or-drop start text (i - start) 0 ∙ ap (λ k. get_or text k 0) at) in
     ap (λ bs. lexed tokens line word bs) (drop_more text i 0 within)
-    ∙ ap (λ t. cond t (lexed tokens line (word ++ b ∷ []) (drop (i + 1) text)) (then_lexed (with_word tokens line word) (λ ended. then_lexed (with_byte ended line b) (λ more. lexed more (line_after line b) [] (drop (i + 1) text))))) letter
+    ∙ ap (λ t. cond t (lexed tokens line (word ++ b ∷ []) (drop (i + 1) text)) (then_lexed (with_open_word tokens line word) (λ ended. then_lexed (with_byte ended line b) (λ more. lexed more (line_after line b) [] (drop (i + 1) text))))) letter
     ∙ ap (λ w. lexed tokens line w (drop (i + 1) text)) (sym more)
 
 -- another byte ends it
 pub lexes_byte : (tokens ended more : List Token) (line line2 i : ℕ) (word text : List ℕ) → i < length text → is_ascii_alphanumeric (get_or text i 0) ≡ false
-    → with_word tokens line word ≡ Some ended → with_byte ended line (get_or text i 0) ≡ Some more → line2 ≡ line_after line (get_or text i 0)
+    → with_open_word tokens line word ≡ Some ended → with_byte ended line (get_or text i 0) ≡ Some more → line2 ≡ line_after line (get_or text i 0)
     → lexed tokens line word (drop i text) ≡ lexed more line2 [] (drop (i + 1) text)
 lexes_byte tokens ended more line line2 i word text within other e1 e2 e3 =
     let b = get_or text i 0 in
     let rest = drop (i + 1) text in
     ap (λ bs. lexed tokens line word bs) (drop_more text i 0 within)
-    ∙ ap (λ t. cond t (lexed tokens line (word ++ b ∷ []) rest) (then_lexed (with_word tokens line word) (λ ended. then_lexed (with_byte ended line b) (λ more. lexed more (line_after line b) [] rest)))) other
+    ∙ ap (λ t. cond t (lexed tokens line (word ++ b ∷ []) rest) (then_lexed (with_open_word tokens line word) (λ ended. then_lexed (with_byte ended line b) (λ more. lexed more (line_after line b) [] rest)))) other
     ∙ ap (λ o. then_lexed o (λ ended. then_lexed (with_byte ended line b) (λ more. lexed more (line_after line b) [] rest))) e1
     ∙ ap (λ o. then_lexed o (λ more. lexed more (line_after line b) [] rest)) e2
     ∙ ap (λ n. lexed more n [] rest) (sym e3)
 
 -- no tokens, where the word or the byte is none
 pub lexes_no_word : (tokens : List Token) (line i : ℕ) (word text : List ℕ) → i < length text → is_ascii_alphanumeric (get_or text i 0) ≡ false
-    → with_word tokens line word ≡ None → lexed tokens line word (drop i text) ≡ None
+    → with_open_word tokens line word ≡ None → lexed tokens line word (drop i text) ≡ None
 lexes_no_word tokens line i word text within other e1 =
     let b = get_or text i 0 in
     let rest = drop (i + 1) text in
     ap (λ bs. lexed tokens line word bs) (drop_more text i 0 within)
-    ∙ ap (λ t. cond t (lexed tokens line (word ++ b ∷ []) rest) (then_lexed (with_word tokens line word) (λ ended. then_lexed (with_byte ended line b) (λ more. lexed more (line_after line b) [] rest)))) other
+    ∙ ap (λ t. cond t (lexed tokens line (word ++ b ∷ []) rest) (then_lexed (with_open_word tokens line word) (λ ended. then_lexed (with_byte ended line b) (λ more. lexed more (line_after line b) [] rest)))) other
     ∙ ap (λ o. then_lexed o (λ ended. then_lexed (with_byte ended line b) (λ more. lexed more (line_after line b) [] rest))) e1
 
 pub lexes_no_byte : (tokens ended : List Token) (line i : ℕ) (word text : List ℕ) → i < length text → is_ascii_alphanumeric (get_or text i 0) ≡ false
-    → with_word tokens line word ≡ Some ended → with_byte ended line (get_or text i 0) ≡ None → lexed tokens line word (drop i text) ≡ None
+    → with_open_word tokens line word ≡ Some ended → with_byte ended line (get_or text i 0) ≡ None → lexed tokens line word (drop i text) ≡ None
 lexes_no_byte tokens ended line i word text within other e1 e2 =
     let b = get_or text i 0 in
     let rest = drop (i + 1) text in
     ap (λ bs. lexed tokens line word bs) (drop_more text i 0 within)
-    ∙ ap (λ t. cond t (lexed tokens line (word ++ b ∷ []) rest) (then_lexed (with_word tokens line word) (λ ended. then_lexed (with_byte ended line b) (λ more. lexed more (line_after line b) [] rest)))) other
+    ∙ ap (λ t. cond t (lexed tokens line (word ++ b ∷ []) rest) (then_lexed (with_open_word tokens line word) (λ ended. then_lexed (with_byte ended line b) (λ more. lexed more (line_after line b) [] rest)))) other
     ∙ ap (λ o. then_lexed o (λ ended. then_lexed (with_byte ended line b) (λ more. lexed more (line_after line b) [] rest))) e1
     ∙ ap (λ o. then_lexed o (λ more. lexed more (line_after line b) [] rest)) e2
 

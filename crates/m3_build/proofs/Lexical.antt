@@ -14,7 +14,7 @@ use Rattle.m3_build.specs.declared.tokens.Kind.{Kind}
 use Rattle.m3_build.specs.declared.tokens.Kind.TheVariants.{Module, Main, Import, Io, Begin, End, PutInt, Semicolon, Dot, Open, Close, Operator, Literal}
 use Rattle.m3_build.specs.declared.tokens.Token.{Token}
 use Rattle.m3_build.specs.PlainForm.{is_space, is_line_feed, number_of, IsLiteral, IsSpelled, begins_word, Begins, Spells}
-use Rattle.m3_build.specs.Lexing.{keyword, literal, word_kind, sign_kind, with_token, with_word, with_byte, line_after, then_lexed, lexed}
+use Rattle.m3_build.specs.Lexing.{keyword, literal, word_kind, sign_kind, with_token, with_open_word, with_byte, line_after, then_lexed, lexed}
 use Rattle.m3_build.proofs.Numbers.{below}
 use Rattle.m3_build.proofs.Parsings.{found_nothing, found_same}
 
@@ -185,7 +185,7 @@ read_letters : (bytes : List ℕ) (tokens : List Token) (line : ℕ) (word rest 
 read_letters [] tokens line word rest e = ap (λ w. lexed tokens line w rest) (sym (append-nil word))
 read_letters (b ∷ bytes) tokens line word rest e =
     let p = and_parts (is_ascii_alphanumeric b) (list_all is_ascii_alphanumeric bytes) e in
-    ap (λ t. cond t (lexed tokens line (word ++ b ∷ []) (bytes ++ rest)) (then_lexed (with_word tokens line word) (λ ended. then_lexed (with_byte ended line b) (λ more. lexed more (line_after line b) [] (bytes ++ rest))))) p.0
+    ap (λ t. cond t (lexed tokens line (word ++ b ∷ []) (bytes ++ rest)) (then_lexed (with_open_word tokens line word) (λ ended. then_lexed (with_byte ended line b) (λ more. lexed more (line_after line b) [] (bytes ++ rest))))) p.0
     ∙ read_letters bytes tokens line (word ++ b ∷ []) rest p.1
     ∙ ap (λ w. lexed tokens line w rest) (append_assoc word (b ∷ []) bytes)
 
@@ -193,17 +193,17 @@ then_some : (o : Option (List Token)) → then_lexed o (λ t. Some t) ≡ o
 then_some None = refl
 then_some (Some x) = refl
 
-read_end : (tokens : List Token) (line : ℕ) (word rest : List ℕ) → begins_word rest ≡ false → lexed tokens line word rest ≡ then_lexed (with_word tokens line word) (λ ended. lexed ended line [] rest)
-read_end tokens line word [] e = sym (then_some (with_word tokens line word))
+read_end : (tokens : List Token) (line : ℕ) (word rest : List ℕ) → begins_word rest ≡ false → lexed tokens line word rest ≡ then_lexed (with_open_word tokens line word) (λ ended. lexed ended line [] rest)
+read_end tokens line word [] e = sym (then_some (with_open_word tokens line word))
 read_end tokens line word (b ∷ rest) e =
-    ap (λ t. cond t (lexed tokens line (word ++ b ∷ []) rest) (then_lexed (with_word tokens line word) (λ ended. then_lexed (with_byte ended line b) (λ more. lexed more (line_after line b) [] rest)))) e
-    ∙ sym (same_then (with_word tokens line word) _ _ (λ ended. read_byte ended line b rest e))
+    ap (λ t. cond t (lexed tokens line (word ++ b ∷ []) rest) (then_lexed (with_open_word tokens line word) (λ ended. then_lexed (with_byte ended line b) (λ more. lexed more (line_after line b) [] rest)))) e
+    ∙ sym (same_then (with_open_word tokens line word) _ _ (λ ended. read_byte ended line b rest e))
   where
     same_then : (o : Option (List Token)) (f g : List Token → Option (List Token)) → ((t : List Token) → f t ≡ g t) → then_lexed o f ≡ then_lexed o g
     same_then None f g h = refl
     same_then (Some t) f g h = h t
 
-with_word_kind : (tokens : List Token) (line : ℕ) (k : Kind) (bytes : List ℕ) → word_kind bytes ≡ Some k → length tokens < 2000 → with_word tokens line bytes ≡ Some (tokens ++ token_at k line ∷ [])
+with_word_kind : (tokens : List Token) (line : ℕ) (k : Kind) (bytes : List ℕ) → word_kind bytes ≡ Some k → length tokens < 2000 → with_open_word tokens line bytes ≡ Some (tokens ++ token_at k line ∷ [])
 with_word_kind tokens line k [] e h = absurd (found_nothing k e)
 with_word_kind tokens line k (b ∷ bytes) e h =
     ap (λ o. with_token tokens line o) e ∙ ap (λ t. cond t (Some (tokens ++ token_at k line ∷ [])) None) (above (length tokens) 2000 h)
@@ -305,7 +305,7 @@ reads_byte tokens more all line b text other e r =
     e
 
 -- a word that has ended
-reads_word : (tokens ended all : List Token) (line : ℕ) (word text : List ℕ) → begins_word text ≡ false → with_word tokens line word ≡ Some ended → Reads ended line text all → Reads tokens line (word ++ text) all
+reads_word : (tokens ended all : List Token) (line : ℕ) (word text : List ℕ) → begins_word text ≡ false → with_open_word tokens line word ≡ Some ended → Reads ended line text all → Reads tokens line (word ++ text) all
 reads_word tokens ended all line [] text apart e r =
     let same = found_same tokens ended e in record { more = r.more; parts = r.parts ∙ ap (λ x. x ++ r.more) (sym same); spelled = r.spelled; few = r.few }
 reads_word tokens ended all line (b ∷ bytes) text apart e r =
@@ -317,7 +317,7 @@ reads_word tokens ended all line (b ∷ bytes) text apart e r =
       few = r.few;
     }
 
-few_word : (tokens all : List Token) (line : ℕ) (word : List ℕ) → length tokens ≤ 2000 → with_word tokens line word ≡ Some all → length all ≤ 2000
+few_word : (tokens all : List Token) (line : ℕ) (word : List ℕ) → length tokens ≤ 2000 → with_open_word tokens line word ≡ Some all → length all ≤ 2000
 few_word tokens all line [] h e = let l = ap length (found_same tokens all e) in omega arith
 few_word tokens all line (b ∷ bytes) h e =
     let a = token_added tokens all line (word_kind (b ∷ bytes)) e in
@@ -335,7 +335,7 @@ reads [] word tokens all line h e =
 reads (b ∷ text) word tokens all line h e =
     pick (is_ascii_alphanumeric b) _ _ all
     (λ t e. subst (λ x. Reads tokens line x all) (append_assoc word (b ∷ []) text) (reads text (word ++ b ∷ []) tokens all line h e))
-    (λ t e. then_parts (with_word tokens line word) _ all (λ ended w e. then_parts (with_byte ended line b) _ all (λ more y e.
+    (λ t e. then_parts (with_open_word tokens line word) _ all (λ ended w e. then_parts (with_byte ended line b) _ all (λ more y e.
     let few = few_word tokens ended line word h w in
     reads_word tokens ended all line word (b ∷ text) t w
     (reads_byte ended more all line b text t y (reads text [] more all (line_after line b) (few_byte ended more line b few y) e))) e) e)

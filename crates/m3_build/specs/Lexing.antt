@@ -50,9 +50,9 @@ with_token tokens line (Some kind) =
     if nat_lt (length tokens) 2000 then Some (tokens ++ record { kind = kind; line = line } ∷ []) else None
 
 -- the word that was open ends
-abbrev pub with_word : List Token → ℕ → List ℕ → Option (List Token)
-with_word tokens line [] = Some tokens
-with_word tokens line (b ∷ bytes) = with_token tokens line (word_kind (b ∷ bytes))
+abbrev pub with_open_word : List Token → ℕ → List ℕ → Option (List Token)
+with_open_word tokens line [] = Some tokens
+with_open_word tokens line (b ∷ bytes) = with_token tokens line (word_kind (b ∷ bytes))
 
 -- white space or a sign
 abbrev pub with_byte : List Token → ℕ → ℕ → Option (List Token)
@@ -66,7 +66,7 @@ then_lexed None next = None
 then_lexed (Some tokens) next = next tokens
 
 abbrev pub lexed : List Token → ℕ → List ℕ → List ℕ → Option (List Token)
-lexed tokens line word [] = with_word tokens line word
+lexed tokens line word [] = with_open_word tokens line word
 lexed tokens line word (b ∷ bytes) =
     if is_ascii_alphanumeric b then lexed tokens line (word ++ b ∷ []) bytes
-    else then_lexed (with_word tokens line word) (λ ended. then_lexed (with_byte ended line b) (λ more. lexed more (line_after line b) [] bytes))
+    else then_lexed (with_open_word tokens line word) (λ ended. then_lexed (with_byte ended line b) (λ more. lexed more (line_after line b) [] bytes))

@@ -3,7 +3,7 @@
 ghost use Rattle.std.specs.Prelude.{◌≡◌, ◌-◌, ◌<◌, ◌≤◌, ◌^◌, length, [], Option, Some, None, OnOk};
 ghost use Rattle.std.specs.Prelude.{OnErr, IfOk, IsErrOf};
 ghost use Rattle.m3_build.specs.Lexing.{keyword, literal, word_kind, sign_kind, with_token};
-ghost use Rattle.m3_build.specs.Lexing.{with_word, with_byte, lexed};
+ghost use Rattle.m3_build.specs.Lexing.{with_open_word, with_byte, lexed};
 
 use crate::plain::{Arith, PlainRefused};
 use crate::tokens::{Kind, Token};
@@ -38,9 +38,9 @@ pub fn lex(alloc: Global, text: &[u8]) -> Result<Vec<Token>, PlainRefused>
 
 // Adds the token of the word or the number that has ended.
 fn end_word(tokens: &mut Vec<Token>, line: u32, word: &[u8]) -> Result<(), PlainRefused>
-    ensures ok { OnOk result (with_word tokens.old.items line word.now ≡ Some tokens.new.items) }
+    ensures ok { OnOk result (with_open_word tokens.old.items line word.now ≡ Some tokens.new.items) }
     ensures not_built { IsErrOf result PlainRefused.NotBuilt
-        → with_word tokens.old.items line word.now ≡ None }
+        → with_open_word tokens.old.items line word.now ≡ None }
 {
     if word.is_empty() {
         return Ok(());

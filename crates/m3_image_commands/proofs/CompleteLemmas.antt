@@ -15,7 +15,7 @@ use Rattle.m3_image_commands.specs.declared.answers.Refusal.{Refusal}
 use Rattle.m3_image_commands.specs.Statuses.{Shelving, Putting, CountRose, PutsNothing, Took, IsRead, IsGiven, LacksMemory, LacksOutput, Cuts, Unfetched, read_fault, no_memory, absent, too_long, Only, OfOptions, Refuses, image_cap, file_cap}
 use Rattle.m3_image_commands.specs.Reports.{Setting, Ended}
 use Rattle.m3_image_commands.specs.ImageCommands.{by_schedule, on_input, IsNoSchedule, ImageAnswer, image_refused, ended, RunAnswer, OfRun, Runs, DumpAnswer, not_dumped, dumped, Dumps}
-use Rattle.m3_image_commands.specs.Complete.{IsHeld, IsHeldIfNamed, IsReady, CutsShort, RunsWhole, DumpsWhole}
+use Rattle.m3_image_commands.specs.Complete.{IsHeld, IsHeldIfNamed, HoldsAll, CutsShort, RunsWhole, DumpsWhole}
 
 some_same : {A : Type 0} (x y : A) → Some x ≡ Some y → x ≡ y
 some_same x y e = cc
@@ -61,7 +61,7 @@ options_held : (held : Option Files) (switches input : Option (List ℕ)) (text 
 options_held held switches input text given s g n c (inl e, cap) = (text, at_cap held n file_cap c text cap (named_held held switches text n s e))
 options_held held switches input text given s g n c (inr e, cap) = (given, at_cap held n file_cap c given cap (named_held held input given n g e))
 
-run_held : (held : Option Files) (name : List ℕ) (switches input : Option (List ℕ)) (i : Image) (schedule : List Entry) (given : List ℕ) → IsReady held name switches input i schedule given → AllHeld held (OfRun name switches input)
+run_held : (held : Option Files) (name : List ℕ) (switches input : Option (List ℕ)) (i : Image) (schedule : List Entry) (given : List ℕ) → HoldsAll held name switches input i schedule given → AllHeld held (OfRun name switches input)
 run_held held name switches input i schedule given r n c (inl o) = only_held held name r.bytes r.image n c o
 run_held held name switches input i schedule given r n c (inr o) = options_held held switches input r.text given r.of_switches r.of_input n c o
 

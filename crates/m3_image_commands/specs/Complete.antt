@@ -26,7 +26,7 @@ IsHeldIfNamed held None bytes = bytes ≡ []
 IsHeldIfNamed held (Some name) bytes = IsHeld held name file_cap bytes
 
 -- the image, the switches and the input of a run are held: the image is one, and the switches are a schedule
-pub record IsReady (held : Option Files) (name : List ℕ) (switches input : Option (List ℕ)) (i : Image) (schedule : List Entry) (given : List ℕ) : Type 0 where
+pub record HoldsAll (held : Option Files) (name : List ℕ) (switches input : Option (List ℕ)) (i : Image) (schedule : List Entry) (given : List ℕ) : Type 0 where
   pub bytes : List ℕ
   pub text : List ℕ
   pub image : IsHeld held name image_cap bytes
@@ -42,7 +42,7 @@ CutsShort out r = LacksMemory r × PutsNothing out
 -- `run`: where all is ready, the image ran to the end of its run, or memory ran out before any output
 abbrev pub RunsWhole : Shelving → Putting → List ℕ → Option (List ℕ) → Option (List ℕ) → Setting → Result Answer Refusal → Type 0
 RunsWhole shelf out name switches input limits result =
-    (i : Image) (schedule : List Entry) (given : List ℕ) → IsReady shelf.held.0 name switches input i schedule given
+    (i : Image) (schedule : List Entry) (given : List ℕ) → HoldsAll shelf.held.0 name switches input i schedule given
     → ¬ CountRose shelf.faults → ¬ CountRose out.faults
     → MatchResult result (λ a. Ended i (by_schedule (on_input limits given) schedule) (is_some switches) out a.status a.line.items) (CutsShort out)
 

@@ -17,7 +17,7 @@ use Rattle.m3_image_commands.specs.declared.answers.Refusal.{Refusal}
 use Rattle.m3_image_commands.specs.Statuses.{Shelving, Putting, Took, Tells, image_cap}
 use Rattle.m3_image_commands.specs.Reports.{Setting, Ended}
 use Rattle.m3_image_commands.specs.ImageCommands.{by_schedule, on_input}
-use Rattle.m3_image_commands.specs.Complete.{CutsShort, IsHeld, IsReady}
+use Rattle.m3_image_commands.specs.Complete.{CutsShort, IsHeld, HoldsAll}
 use Rattle.m3_image_commands.proofs.CompleteLemmas.{runs_whole, dumps_whole}
 use Rattle.m3_source_commands.specs.Orders.{Commands, usage, no_words, carried_out, Fulfils, within}
 use Rattle.m3_source_commands.proofs.UsageLemmas.{never_usage}

@@ -23,7 +23,7 @@ use Rattle.m3_image_commands.specs.Statuses.{Shelving, Putting, Tells, image_cap
 pub use Rattle.m3_image_commands.specs.Statuses.{CountRose, Took}
 use Rattle.m3_image_commands.specs.Reports.{Setting, Ended}
 use Rattle.m3_image_commands.specs.ImageCommands.{by_schedule, on_input}
-use Rattle.m3_image_commands.specs.Complete.{IsHeld, IsReady}
+use Rattle.m3_image_commands.specs.Complete.{IsHeld, HoldsAll}
 use Rattle.m3_command_line.specs.Orders.{Options, run, exec, dump}
 use Rattle.m3_command_line.specs.Asked.{asked, usual_options}
 use Rattle.m3_source_commands.specs.Orders.{Fulfils, Commands, within}
@@ -184,7 +184,7 @@ RanOut call status = (status ≡ 5) × IsSilent call
 abbrev pub IsRunComplete : Call → ℕ → Type 0
 IsRunComplete call status =
     (name : List ℕ) (options : Options) (i : Image) (schedule : List Entry) (given : List ℕ) → asked call.words ≡ Some (run name options)
-    → IsReady call.shelf.held.0 name options.switches options.input i schedule given → IsCalm call
+    → HoldsAll call.shelf.held.0 name options.switches options.input i schedule given → IsCalm call
     → RanImage call i (by_schedule (on_input (within options.bounds) given) schedule) (is_some options.switches) status ⊎ RanOut call status
 
 -- and of `dump`
