@@ -38,7 +38,8 @@ pub fn lex(alloc: Global, text: &[u8]) -> Result<Vec<Token>, PlainRefused>
 
 // Adds the token of the word or the number that has ended.
 fn end_word(tokens: &mut Vec<Token>, line: u32, word: &[u8]) -> Result<(), PlainRefused>
-    ensures ok { OnOk result (with_open_word tokens.old.items line word.now ≡ Some tokens.new.items) }
+    ensures ok { OnOk result
+        (with_open_word tokens.old.items line word.now ≡ Some tokens.new.items) }
     ensures not_built { IsErrOf result PlainRefused.NotBuilt
         → with_open_word tokens.old.items line word.now ≡ None }
 {
