@@ -39,12 +39,7 @@ pub fn opened_type<'a>(reader: &mut Reader<'_, 'a>, room: u32) -> &'a TypeExp<'a
             let name = TypeName::Named(qualid(reader));
             named_type(reader, room, name)
         }
-        Some(TokenKind::Symbol(Sign::OpenParen)) => parenthesized_type(reader, room),
-        Some(TokenKind::Symbol(Sign::OpenBracket)) => subrange(reader, room),
-        Some(TokenKind::Symbol(_)) => {
-            let members = names_between(reader, Sign::OpenBrace, Sign::CloseBrace);
-            keep_type(reader, TypeExp::Enumeration { pos, members })
-        }
+        Some(TokenKind::Symbol(sign)) => enclosed_type(reader, room, sign),
         Some(TokenKind::Keyword(word)) => match word {
             Word::Root => {
                 reader.step();
@@ -53,20 +48,7 @@ pub fn opened_type<'a>(reader: &mut Reader<'_, 'a>, room: u32) -> &'a TypeExp<'a
             Word::Untraced | Word::Ref | Word::Branded | Word::Object => {
                 reference_or_object(reader, room)
             }
-            Word::Array => array(reader, room),
-            Word::Bits => bits(reader, room),
-            Word::Set => {
-                reader.step();
-                reader.take_word(Word::Of);
-                let base = type_expression(reader, room);
-                keep_type(reader, TypeExp::Set { pos, base })
-            }
-            Word::Procedure => {
-                reader.step();
-                let signature = signature(reader, room);
-                keep_type(reader, TypeExp::Procedure { pos, signature })
-            }
-            _ => record(reader, room),
+            _ => composed_type(reader, room, word),
         },
         _ => {
             reader.unexpected();
@@ -75,26 +57,97 @@ pub fn opened_type<'a>(reader: &mut Reader<'_, 'a>, room: u32) -> &'a TypeExp<'a
     }
 }
 
+/// A type in parentheses, a subrange or an enumeration, which this sign begins.
 #[cycle(expressions)]
-fn parenthesized_type<'a>(reader: &mut Reader<'_, 'a>, room: u32) -> &'a TypeExp<'a>
+fn enclosed_type<'a>(reader: &mut Reader<'_, 'a>, room: u32, sign: Sign) -> &'a TypeExp<'a>
     ensures { Follows reader.old reader.new }
 {
-    let pos = reader.take_sign(Sign::OpenParen);
-    let inner = type_expression(reader, room);
-    reader.take_sign(Sign::CloseParen);
-    keep_type(reader, TypeExp::Parenthesis { pos, inner })
+    let pos = reader.pos();
+    let kind = match sign {
+        Sign::OpenParen => {
+            reader.take_sign(Sign::OpenParen);
+            let inner = type_expression(reader, room);
+            reader.take_sign(Sign::CloseParen);
+            TypeExp::Parenthesis { pos, inner }
+        }
+        Sign::OpenBracket => {
+            reader.take_sign(Sign::OpenBracket);
+            let first = expression(reader, room);
+            reader.take_sign(Sign::DotDot);
+            let last = expression(reader, room);
+            reader.take_sign(Sign::CloseBracket);
+            TypeExp::Subrange { pos, first, last }
+        }
+        _ => {
+            let members = names_between(reader, Sign::OpenBrace, Sign::CloseBrace);
+            TypeExp::Enumeration { pos, members }
+        }
+    };
+    keep_type(reader, kind)
 }
 
+/// ARRAY, BITS, PROCEDURE, RECORD or SET, which this word begins.
 #[cycle(expressions)]
-fn subrange<'a>(reader: &mut Reader<'_, 'a>, room: u32) -> &'a TypeExp<'a>
+fn composed_type<'a>(reader: &mut Reader<'_, 'a>, room: u32, word: Word) -> &'a TypeExp<'a>
     ensures { Follows reader.old reader.new }
 {
-    let pos = reader.take_sign(Sign::OpenBracket);
-    let first = expression(reader, room);
-    reader.take_sign(Sign::DotDot);
-    let last = expression(reader, room);
-    reader.take_sign(Sign::CloseBracket);
-    keep_type(reader, TypeExp::Subrange { pos, first, last })
+    let pos = reader.pos();
+    let kind = match word {
+        Word::Array => {
+            let indexes = array_indexes(reader, room);
+            let element = type_expression(reader, room);
+            TypeExp::Array {
+                pos,
+                indexes,
+                element,
+            }
+        }
+        Word::Bits => {
+            reader.take_word(Word::Bits);
+            let width = expression(reader, room);
+            reader.take_word(Word::For);
+            let target = type_expression(reader, room);
+            TypeExp::Bits { pos, width, target }
+        }
+        Word::Procedure => {
+            reader.take_word(Word::Procedure);
+            let signature = signature(reader, room);
+            TypeExp::Procedure { pos, signature }
+        }
+        Word::Set => {
+            reader.take_word(Word::Set);
+            reader.take_word(Word::Of);
+            let base = type_expression(reader, room);
+            TypeExp::Set { pos, base }
+        }
+        _ => {
+            reader.take_word(Word::Record);
+            let fields = fields(reader, room);
+            reader.take_word(Word::End);
+            TypeExp::Record { pos, fields }
+        }
+    };
+    keep_type(reader, kind)
+}
+
+/// ARRAY, the types of the indexes and OF.
+#[cycle(expressions)]
+fn array_indexes<'a>(reader: &mut Reader<'_, 'a>, room: u32) -> &'a [TypeExp<'a>]
+    ensures { Follows reader.old reader.new }
+{
+    reader.take_word(Word::Array);
+    let mut indexes = Vec::new(reader.alloc);
+    if !reader.is_word(Word::Of) {
+        'indexes: loop {
+            let index = *type_expression(reader, room);
+            reader.put(&mut indexes, index);
+            if !reader.skip_sign(Sign::Comma) {
+                break;
+            }
+        }
+    }
+    reader.take_word(Word::Of);
+    reader.row(indexes)
 }
 
 /// A reference or an object type, or `UNTRACED ROOT`.
@@ -124,52 +177,6 @@ fn reference_or_object<'a>(reader: &mut Reader<'_, 'a>, room: u32) -> &'a TypeEx
         }
     };
     keep_type(reader, kind)
-}
-
-#[cycle(expressions)]
-fn array<'a>(reader: &mut Reader<'_, 'a>, room: u32) -> &'a TypeExp<'a>
-    ensures { Follows reader.old reader.new }
-{
-    let pos = reader.take_word(Word::Array);
-    let mut indexes = Vec::new(reader.alloc);
-    if !reader.is_word(Word::Of) {
-        'indexes: loop {
-            let index = *type_expression(reader, room);
-            reader.put(&mut indexes, index);
-            if !reader.skip_sign(Sign::Comma) {
-                break;
-            }
-        }
-    }
-    reader.take_word(Word::Of);
-    let element = type_expression(reader, room);
-    let array = TypeExp::Array {
-        pos,
-        indexes: reader.row(indexes),
-        element,
-    };
-    keep_type(reader, array)
-}
-
-#[cycle(expressions)]
-fn bits<'a>(reader: &mut Reader<'_, 'a>, room: u32) -> &'a TypeExp<'a>
-    ensures { Follows reader.old reader.new }
-{
-    let pos = reader.take_word(Word::Bits);
-    let width = expression(reader, room);
-    reader.take_word(Word::For);
-    let target = type_expression(reader, room);
-    keep_type(reader, TypeExp::Bits { pos, width, target })
-}
-
-#[cycle(expressions)]
-fn record<'a>(reader: &mut Reader<'_, 'a>, room: u32) -> &'a TypeExp<'a>
-    ensures { Follows reader.old reader.new }
-{
-    let pos = reader.take_word(Word::Record);
-    let fields = fields(reader, room);
-    reader.take_word(Word::End);
-    keep_type(reader, TypeExp::Record { pos, fields })
 }
 
 /// A named type, or an object type of which it is the parent.

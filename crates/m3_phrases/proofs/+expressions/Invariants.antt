@@ -81,11 +81,14 @@ decreases-operands::selector l = 64 * l.setting.calls + 14
 abbrev pub decreases-operands::without_brace : goal.decreases-operands::without_brace
 decreases-operands::without_brace l = 64 * l.setting.calls + 16
 
-abbrev pub decreases-types::array : goal.decreases-types::array
-decreases-types::array l = 64 * l.room + 2
+abbrev pub decreases-types::array_indexes : goal.decreases-types::array_indexes
+decreases-types::array_indexes l = 64 * l.room + 2
 
-abbrev pub decreases-types::bits : goal.decreases-types::bits
-decreases-types::bits l = 64 * l.room + 2
+abbrev pub decreases-types::composed_type : goal.decreases-types::composed_type
+decreases-types::composed_type l = 64 * l.room + 12
+
+abbrev pub decreases-types::enclosed_type : goal.decreases-types::enclosed_type
+decreases-types::enclosed_type l = 64 * l.room + 12
 
 abbrev pub decreases-types::brand : goal.decreases-types::brand
 decreases-types::brand l = 64 * l.room + 2
@@ -102,17 +105,8 @@ decreases-types::object_parts l = 64 * l.room + 10
 abbrev pub decreases-types::opened_type : goal.decreases-types::opened_type
 decreases-types::opened_type l = 64 * l.room + 13
 
-abbrev pub decreases-types::parenthesized_type : goal.decreases-types::parenthesized_type
-decreases-types::parenthesized_type l = 64 * l.room + 2
-
-abbrev pub decreases-types::record : goal.decreases-types::record
-decreases-types::record l = 64 * l.room + 6
-
 abbrev pub decreases-types::reference_or_object : goal.decreases-types::reference_or_object
 decreases-types::reference_or_object l = 64 * l.room + 12
-
-abbrev pub decreases-types::subrange : goal.decreases-types::subrange
-decreases-types::subrange l = 64 * l.room + 2
 
 abbrev pub decreases-types::type_expression : goal.decreases-types::type_expression
 decreases-types::type_expression l = 64 * l.room + 0
@@ -123,11 +117,11 @@ invariant-operands::actuals-actuals l = record { follows : Follows l.initial.rea
 abbrev pub decreases-operands::actuals-actuals : goal.decreases-operands::actuals-actuals
 decreases-operands::actuals-actuals l = length l.reader.rest.now
 
-abbrev pub invariant-types::array-indexes : goal.invariant-types::array-indexes
-invariant-types::array-indexes l = Follows l.initial.reader l.reader
+abbrev pub invariant-types::array_indexes-indexes : goal.invariant-types::array_indexes-indexes
+invariant-types::array_indexes-indexes l = Follows l.initial.reader l.reader
 
-abbrev pub decreases-types::array-indexes : goal.decreases-types::array-indexes
-decreases-types::array-indexes l = length l.reader.rest.now
+abbrev pub decreases-types::array_indexes-indexes : goal.decreases-types::array_indexes-indexes
+decreases-types::array_indexes-indexes l = length l.reader.rest.now
 
 abbrev pub invariant-operands::elements-elements : goal.invariant-operands::elements-elements
 invariant-operands::elements-elements l = Follows l.initial.reader l.reader
