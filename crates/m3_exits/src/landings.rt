@@ -131,17 +131,17 @@ fn inside_one(b: &Builder, s: &CoreStmt) -> SlotRange {
 /// The slots inside a statement that may have an ELSE.
 #[cycle(landings)]
 fn inside_branches(b: &Builder, s: &CoreStmt) -> SlotRange {
-    let (range, otherwise) = match s {
+    let (range, last) = match s {
         CoreStmt::Case {
             branches,
             otherwise,
             ..
-        } => (inside_cases(b, branches), *otherwise),
+        } => (inside_cases(b, branches), otherwise.body),
         CoreStmt::If {
             arms,
             otherwise,
             ..
-        } => (inside_arms(b, arms), *otherwise),
+        } => (inside_arms(b, arms), otherwise.body),
         CoreStmt::TryExcept {
             body,
             handlers,
@@ -149,16 +149,16 @@ fn inside_branches(b: &Builder, s: &CoreStmt) -> SlotRange {
             ..
         } => {
             let range = range_inside(b, body);
-            (range.with(inside_handlers(b, handlers)), *otherwise)
+            (range.with(inside_handlers(b, handlers)), otherwise.body)
         }
         CoreStmt::TypeCase {
             branches,
             otherwise,
             ..
-        } => (inside_types(b, branches), *otherwise),
+        } => (inside_types(b, branches), otherwise.body),
         _ => return NOTHING,
     };
-    range.with(range_inside(b, otherwise.body))
+    range.with(range_inside(b, last))
 }
 
 #[cycle(landings)]
