@@ -1,82 +1,119 @@
 use m3_base::{
     Bytes, Entry, FaultKind, NoMemory, ScheduleRefusal, fault_name, gap, read_schedule, rule_text,
 };
+use std::fmt::{Debug, Display};
+use std::process::Abort;
 use std::test::Fail;
+
+/// What was found is what was wanted.
+fn expect<T: PartialEq + Debug + Drop>(rt: &impl Abort, found: T, wanted: T, what: &impl Display) {
+    assert_eq!(rt; found, wanted, "{what}");
+}
+
+static RULES: [(u16, Option<&str>); 7] = [
+    (1, Some("bad byte")),
+    (18, Some("too many tokens in all")),
+    (19, None),
+    (51, Some("not assignable")),
+    (69, None),
+    (95, Some("program too large")),
+    (99, None),
+];
 
 #[test]
 fn names_rules_and_faults(rt: HostRuntime) {
-    for (rule, text) in [
-        (1, Some("bad byte")),
-        (18, Some("too many tokens in all")),
-        (19, None),
-        (51, Some("not assignable")),
-        (69, None),
-        (95, Some("program too large")),
-        (99, None),
-    ] {
-        assert_eq!(rt; rule_text(rule), text, "rule {rule}");
+    for (rule, text) in &RULES {
+        expect(&rt, rule_text(*rule), *text, rule);
     }
-    assert_eq!(rt; fault_name(FaultKind::NestedProc), "NestedProc");
-    assert_eq!(rt; FaultKind::JoinTwice.number(), 15);
-    assert_eq!(rt; gap(), NoMemory);
+    let fault = (
+        fault_name(FaultKind::NestedProc),
+        FaultKind::JoinTwice.number(),
+    );
+    expect(&rt, fault, ("NestedProc", 15), &"faults");
+    expect(&rt, gap(), NoMemory, &"a gap");
 }
 
 #[test]
 fn copies_bytes(rt: HostRuntime) -> Result<(), Fail> {
     let bytes = Bytes::of(rt.alloc(), b"abc")?;
-    assert_eq!(rt; bytes.as_slice(), b"abc".as_slice());
+    expect(&rt, bytes.as_slice(), b"abc", &"bytes");
     Ok(())
 }
 
-fn entry(to: Option<u64>, collect: bool) -> Entry {
-    Entry { to, collect }
-}
+/// Texts with their entries.
+static TEXTS: [(&[u8], &[Entry]); 3] = [
+    (
+        b"-\ng\n0\n7 g\n18446744073709551615\n10 g",
+        &[
+            Entry {
+                to: None,
+                collect: false,
+            },
+            Entry {
+                to: None,
+                collect: true,
+            },
+            Entry {
+                to: Some(0),
+                collect: false,
+            },
+            Entry {
+                to: Some(7),
+                collect: true,
+            },
+            Entry {
+                to: Some(18446744073709551615),
+                collect: false,
+            },
+            Entry {
+                to: Some(10),
+                collect: true,
+            },
+        ],
+    ),
+    (b"", &[]),
+    (
+        b"-\n",
+        &[Entry {
+            to: None,
+            collect: false,
+        }],
+    ),
+];
 
 #[test]
 fn reads_entries(rt: HostRuntime) -> Result<(), Fail> {
-    let all = read_schedule(rt.alloc(), b"-\ng\n0\n7 g\n18446744073709551615\n10 g")?;
-    let wanted = [
-        entry(None, false),
-        entry(None, true),
-        entry(Some(0), false),
-        entry(Some(7), true),
-        entry(Some(18446744073709551615), false),
-        entry(Some(10), true),
-    ];
-    assert_eq!(rt; all.as_slice(), wanted.as_slice());
-    let none = read_schedule(rt.alloc(), b"")?;
-    assert!(rt; none.is_empty());
-    let one = read_schedule(rt.alloc(), b"-\n")?;
-    assert_eq!(rt; one.as_slice(), [entry(None, false)].as_slice());
+    for (row, (text, wanted)) in TEXTS.iter().enumerate() {
+        let found = read_schedule(rt.alloc(), text)?;
+        expect(&rt, found.as_slice(), *wanted, &row);
+    }
     Ok(())
 }
 
+/// Texts with the number of their first bad line.
+static BAD_LINES: [(&[u8], u32); 15] = [
+    (b"\n", 1),
+    (b"-\n\n-\n", 2),
+    (b" g", 1),
+    (b"00", 1),
+    (b"1\n01\nx", 2),
+    (b"1  g", 1),
+    (b"1 g ", 1),
+    (b"g g", 1),
+    (b"- g", 1),
+    (b"+1", 1),
+    (b"-1", 1),
+    (b"--", 1),
+    (b"-\n-\r\n-", 2),
+    (b"18446744073709551615\n18446744073709551616\n", 2),
+    (b"99999999999999999999999999999999999999999x", 1),
+];
+
 #[test]
 fn refuses_the_first_bad_line(rt: HostRuntime) {
-    for (text, line) in [
-        (b"\n".as_slice(), 1),
-        (b"-\n\n-\n".as_slice(), 2),
-        (b" g".as_slice(), 1),
-        (b"00".as_slice(), 1),
-        (b"1\n01\nx".as_slice(), 2),
-        (b"1  g".as_slice(), 1),
-        (b"1 g ".as_slice(), 1),
-        (b"g g".as_slice(), 1),
-        (b"- g".as_slice(), 1),
-        (b"+1".as_slice(), 1),
-        (b"-1".as_slice(), 1),
-        (b"--".as_slice(), 1),
-        (b"-\n-\r\n-".as_slice(), 2),
-        (
-            b"18446744073709551615\n18446744073709551616\n".as_slice(),
-            2,
-        ),
-        (b"99999999999999999999999999999999999999999x".as_slice(), 1),
-    ] {
-        match read_schedule(rt.alloc(), text) {
-            Err(e) => assert_eq!(rt; e, ScheduleRefusal::BadLine(line), "line {line}"),
-            Ok(_) => panic!(rt; "read, and line {line} is bad"),
-        }
+    for (row, (text, line)) in BAD_LINES.iter().enumerate() {
+        let found = read_schedule(rt.alloc(), text).err();
+        expect(&rt, found, Some(ScheduleRefusal::BadLine(*line)), &row);
     }
 }
 
@@ -90,43 +127,50 @@ fn long_text(rt: &HostRuntime, lines: u32, last: &[u8]) -> Result<Vec<u8>, Fail>
     Ok(text)
 }
 
+/// So many lines, a last one, and the refusal.
+static LONG_TEXTS: [(u32, &[u8], ScheduleRefusal); 4] = [
+    (1_000_000, b"-", ScheduleRefusal::TooMany),
+    (1_000_000, b"x\nx", ScheduleRefusal::TooMany),
+    (1_000_000, b"\n", ScheduleRefusal::TooMany),
+    (999_999, b"x\n-\n", ScheduleRefusal::BadLine(1_000_000)),
+];
+
 #[test]
 fn a_million_lines(rt: HostRuntime) -> Result<(), Fail> {
     let most = long_text(&rt, 999_999, b"5 g")?;
     let entries = read_schedule(rt.alloc(), &most)?;
-    assert_eq!(rt; entries.len(), 1_000_000);
-    assert_eq!(rt;
-        entries.as_slice().last().copied(),
-        Some(entry(Some(5), true))
-    );
-    for (lines, last, wanted) in [
-        (1_000_000, b"-".as_slice(), ScheduleRefusal::TooMany),
-        (1_000_000, b"x\nx".as_slice(), ScheduleRefusal::TooMany),
-        (1_000_000, b"\n".as_slice(), ScheduleRefusal::TooMany),
+    let found = (entries.len(), entries.as_slice().last().copied());
+    expect(
+        &rt,
+        found,
         (
-            999_999,
-            b"x\n-\n".as_slice(),
-            ScheduleRefusal::BadLine(1_000_000),
+            1_000_000,
+            Some(Entry {
+                to: Some(5),
+                collect: true,
+            }),
         ),
-    ] {
-        let text = long_text(&rt, lines, last)?;
-        match read_schedule(rt.alloc(), &text) {
-            Err(e) => assert_eq!(rt; e, wanted),
-            Ok(_) => panic!(rt; "read"),
-        }
+        &"a million",
+    );
+    for (row, (lines, last, wanted)) in LONG_TEXTS.iter().enumerate() {
+        let text = long_text(&rt, *lines, last)?;
+        let found = read_schedule(rt.alloc(), &text).err();
+        expect(&rt, found, Some(*wanted), &row);
     }
     Ok(())
 }
 
+static REFUSALS: [(ScheduleRefusal, &str); 3] = [
+    (ScheduleRefusal::BadLine(17), "line 17"),
+    (ScheduleRefusal::TooMany, "too many"),
+    (ScheduleRefusal::NoMemory, "out of memory"),
+];
+
 #[test]
 fn prints_refusals(rt: HostRuntime) -> Result<(), Fail> {
-    for (refusal, text) in [
-        (ScheduleRefusal::BadLine(17), "line 17"),
-        (ScheduleRefusal::TooMany, "too many"),
-        (ScheduleRefusal::NoMemory, "out of memory"),
-    ] {
+    for (refusal, text) in &REFUSALS {
         let printed = format!(in rt.alloc(); "{refusal}")?;
-        assert_eq!(rt; printed.as_str(), text);
+        expect(&rt, printed.as_str(), *text, refusal);
     }
     Ok(())
 }

@@ -5,6 +5,7 @@ use crate::collecting::collect;
 use crate::layouts::NODE;
 use m3_heap::{SemiSpace, Steps, Store};
 use std::alloc::{AllocError, Global};
+use std::fmt::{Debug, Display};
 use std::marker::Brand;
 use std::process::Abort;
 use std::sync::ledger::{Blank, Ledger};
@@ -33,12 +34,27 @@ fn collected(heap: &mut SemiSpace, roots: &mut [u64]) -> bool
     collect_with::<Brand>(heap, roots, Blank::new(1))
 }
 
+/// What was found is what was wanted.
+fn expect<T: PartialEq + Debug + Drop>(rt: &impl Abort, found: T, wanted: T, what: &impl Display) {
+    assert_eq!(rt; found, wanted, "{what}");
+}
+
 /// A word of the cell that lies so many words into the second half.
 fn moved(heap: &SemiSpace, cell: u64, place: u64) -> u64
     requires { heap.now.halves.heap.is_open ≡ false }
 {
     let at = THERE.saturating_add(cell).saturating_add(place);
     heap.load(at).unwrap_or(u64::MAX)
+}
+
+/// What a collection of one root leaves: whether it traced all, the root, and the free words.
+fn collect_one(heap: &mut SemiSpace, root: u64) -> (bool, u64, u64)
+    requires { heap.old.halves.heap.is_open ≡ false }
+    ensures { heap.new.halves.heap.is_open ≡ false }
+{
+    let mut roots = [root];
+    let is_traced = collected(heap, &mut roots);
+    (is_traced, roots[0], heap.free_words())
 }
 
 /// A list that fills its half: its links lie in order from the second half's first word on.
@@ -48,12 +64,14 @@ fn list_moves(rt: &impl Abort, alloc: Global, words: u64, links: u64, free: u64)
 {
     let mut heap = SemiSpace::new(alloc, words)?;
     let (first, made) = list(&mut heap, words);
-    assert_eq!(rt; made, links);
-    let mut roots = [first];
-    assert!(rt; collected(&mut heap, &mut roots));
-    assert_eq!(rt; roots[0], THERE);
-    assert_eq!(rt; heap.free_words(), free);
-    assert_eq!(rt; links_in_order(&heap, links), links);
+    let left = collect_one(&mut heap, first);
+    let right = links_in_order(&heap, links);
+    expect(
+        rt,
+        (made, right, left),
+        (links, links, (true, THERE, free)),
+        &"a list",
+    );
     Ok(())
 }
 
@@ -92,49 +110,69 @@ fn a_chain_of_five_million_cells(rt: HostRuntime) -> Result<(), Fail> {
     list_moves(&rt, rt.alloc(), 15_000_000, 5_000_000, 0)
 }
 
+/// The address of a node in the second half, and 0 for a node that a tree of so many has not.
+fn node(number: u64, nodes: u64) -> u64 {
+    if number < nodes {
+        THERE.saturating_add(number.saturating_mul(4))
+    } else {
+        0
+    }
+}
+
+/// How many nodes, in order from the second half's first word on, lead to their children.
+fn nodes_in_order(heap: &SemiSpace, nodes: u64) -> u64
+    requires { heap.now.halves.heap.is_open ≡ false }
+{
+    let mut right: u64 = 0;
+    for number in 0..nodes {
+        let cell = number.saturating_mul(4);
+        let left = number.saturating_mul(2).saturating_add(1);
+        if moved(heap, cell, 1) == node(left, nodes)
+            && moved(heap, cell, 2) == node(left.saturating_add(1), nodes)
+            && moved(heap, cell, 3) == number
+        {
+            right = right.saturating_add(1);
+        }
+    }
+    right
+}
+
 #[test]
 fn a_full_half_in_one_tree(rt: HostRuntime) -> Result<(), Fail> {
     let mut heap = SemiSpace::new(rt.alloc(), 1_048_576)?;
-    let (root, nodes) = tree(rt.alloc(), &mut heap, 1_048_576)?;
-    assert_eq!(rt; nodes, 262_144);
-    let mut roots = [root];
-    assert!(rt; collected(&mut heap, &mut roots));
-    assert_eq!(rt; roots[0], THERE);
-    assert_eq!(rt; heap.free_words(), 0);
-    for number in 0..262_144 {
-        let left = 2 * number + 1;
-        assert_eq!(rt;
-            moved(&heap, 4 * number, 1),
-            if left < 262_144 { THERE + 4 * left } else { 0 }
-        );
-        assert_eq!(rt;
-            moved(&heap, 4 * number, 2),
-            if left < 262_143 {
-                THERE + 4 * left + 4
-            } else {
-                0
-            }
-        );
-        assert_eq!(rt; moved(&heap, 4 * number, 3), number);
-    }
+    let (root, made) = tree(rt.alloc(), &mut heap, 1_048_576)?;
+    let left = collect_one(&mut heap, root);
+    let right = nodes_in_order(&heap, 262_144);
+    let wanted = (262_144, 262_144, (true, THERE, 0));
+    expect(&rt, (made, right, left), wanted, &"a tree");
     Ok(())
+}
+
+/// How many words of the array at the second half's first word lead to the cells behind it, each
+/// with its place as its number.
+fn numbers_in_order(heap: &SemiSpace, numbers: u64) -> u64
+    requires { heap.now.halves.heap.is_open ≡ false }
+{
+    let mut right: u64 = 0;
+    let mut cell = numbers.saturating_add(2);
+    for number in 0..numbers {
+        if moved(heap, 2, number) == THERE.saturating_add(cell) && moved(heap, cell, 1) == number {
+            right = right.saturating_add(1);
+        }
+        cell = cell.saturating_add(2);
+    }
+    right
 }
 
 #[test]
 fn a_full_half_in_one_array(rt: HostRuntime) -> Result<(), Fail> {
     let mut heap = SemiSpace::new(rt.alloc(), 1_048_576)?;
-    let (all, numbers) = array(&mut heap, 349_524);
-    assert_eq!(rt; numbers, 349_524);
-    let mut roots = [all];
-    assert!(rt; collected(&mut heap, &mut roots));
-    assert_eq!(rt; roots[0], THERE);
-    assert_eq!(rt; heap.free_words(), 2);
-    assert_eq!(rt; moved(&heap, 0, 1), 349_524);
-    for number in 0..349_524 {
-        let cell = 349_526 + 2 * number;
-        assert_eq!(rt; moved(&heap, 2, number), THERE + cell);
-        assert_eq!(rt; moved(&heap, cell, 1), number);
-    }
+    let (all, made) = array(&mut heap, 349_524);
+    let left = collect_one(&mut heap, all);
+    let right = numbers_in_order(&heap, 349_524);
+    let wanted = (349_524, 349_524, (true, THERE, 2));
+    expect(&rt, (made, right, left), wanted, &"an array");
+    expect(&rt, moved(&heap, 0, 1), 349_524, &"its size");
     Ok(())
 }
 
@@ -142,50 +180,52 @@ fn a_full_half_in_one_array(rt: HostRuntime) -> Result<(), Fail> {
 fn nothing_is_reached(rt: HostRuntime) -> Result<(), Fail> {
     let mut heap = SemiSpace::new(rt.alloc(), 1_048_576)?;
     let (_first, made) = list(&mut heap, 1_048_576);
-    assert!(rt; collected(&mut heap, &mut []));
-    assert_eq!(rt; heap.free_words(), 1_048_576);
+    let is_traced = collected(&mut heap, &mut []);
+    let free = heap.free_words();
     let (_again, again) = list(&mut heap, 1_048_576);
-    assert_eq!(rt; again, made);
+    expect(
+        &rt,
+        (is_traced, free, again),
+        (true, 1_048_576, made),
+        &"garbage",
+    );
     Ok(())
 }
 
-/// What lies where heaps lie and is no cell's start is refused, where it is reached. Two links are
-/// made, the second leads to the first, and the first holds the word.
+/// Whether all is traced from these roots over a heap of two links, the second leading to the first,
+/// which holds this word as its pointer.
+fn is_traced(alloc: Global, held: u64, roots: &mut [u64]) -> Result<bool, Fail> {
+    let mut heap = SemiSpace::new(alloc, 64)?;
+    let (_first, _made) = list(&mut heap, 2);
+    set(&mut heap, HERE, 1, held);
+    Ok(collected(&mut heap, roots))
+}
+
+/// Words, and whether a collection takes them as pointers.
+static WORDS: [(u64, bool); 9] = [
+    (0, true),
+    (HERE - 1, true),
+    (HERE, true),
+    (HERE + 1, false),
+    (HERE + 3, true),
+    (HERE + 5, false),
+    (HERE + 6, false),
+    (THERE, false),
+    (u64::MAX, false),
+];
+
+/// What lies where heaps lie and is no cell's start is refused, where it is reached: as the pointer
+/// of a cell, or as a root.
 #[test]
 fn bad_pointers(rt: HostRuntime) -> Result<(), Fail> {
-    let words = [
-        (0, true),
-        (HERE - 1, true),
-        (HERE, true),
-        (HERE + 1, false),
-        (HERE + 3, true),
-        (HERE + 5, false),
-        (HERE + 6, false),
-        (THERE, false),
-        (u64::MAX, false),
-    ];
-    for (word, is_fine) in words {
-        let mut heap = SemiSpace::new(rt.alloc(), 64)?;
-        let (first, _made) = list(&mut heap, 2);
-        set(&mut heap, HERE, 1, word);
-        assert_eq!(rt;
-            collected(&mut heap, &mut [first]),
-            is_fine,
-            "reached: {word}"
+    let alloc = rt.alloc();
+    for (word, is_fine) in &WORDS {
+        let found = (
+            is_traced(alloc, *word, &mut [HERE + 3])?,
+            is_traced(alloc, 0, &mut [*word])?,
+            is_traced(alloc, *word, &mut [])?,
         );
-
-        let mut heap = SemiSpace::new(rt.alloc(), 64)?;
-        let (_first, _made) = list(&mut heap, 2);
-        assert_eq!(rt;
-            collected(&mut heap, &mut [word]),
-            is_fine,
-            "a root: {word}"
-        );
-
-        let mut heap = SemiSpace::new(rt.alloc(), 64)?;
-        let (_first, _made) = list(&mut heap, 2);
-        set(&mut heap, HERE, 1, word);
-        assert!(rt; collected(&mut heap, &mut []), "not reached: {word}");
+        expect(&rt, found, (*is_fine, *is_fine, true), word);
     }
     Ok(())
 }
@@ -262,58 +302,73 @@ fn agrees(
     kept: u64,
 ) -> Result<(), Fail> {
     let mut found = reached(alloc, cells, roots)?;
-    let mut heap = heap_of(alloc, cells)?;
+    let count = found.iter().filter(|is_found| **is_found).count() as u64;
     let mut words = Vec::new(alloc);
     for root in roots {
         words.push(address(*root))?;
     }
-    assert!(rt; collected(&mut heap, &mut words));
-    assert_eq!(rt;
-        heap.free_words().saturating_add(kept.saturating_mul(4)),
-        64
+    let mut heap = heap_of(alloc, cells)?;
+    let is_traced = collected(&mut heap, &mut words);
+    let used = 64u64.saturating_sub(heap.free_words()) / 4;
+    let right = right_cells(&heap, cells, &mut found, kept);
+    expect(
+        rt,
+        (is_traced, count, used, right),
+        (true, kept, kept, kept),
+        &"cells",
     );
-    assert_eq!(rt;
-        found.iter().filter(|is_found| **is_found).count() as u64,
-        kept
-    );
-    for cell in 0..kept {
-        let start = cell.saturating_mul(4);
-        let number = moved(&heap, start, 3) as usize;
-        let (left, right) = cells.get(number).copied().ok_or("no such cell")?;
-        assert_eq!(rt; found.get(number).copied(), Some(true));
-        mark_off(&mut found, number);
-        assert_eq!(rt; number_at(&heap, moved(&heap, start, 1)), left as u64);
-        assert_eq!(rt; number_at(&heap, moved(&heap, start, 2)), right as u64);
-    }
     Ok(())
 }
 
-fn mark_off(found: &mut Vec<bool>, cell: usize) {
-    if let Some(is_found) = found.get_mut(cell) {
-        *is_found = false;
+/// How many of so many cells of the second half are cells that were found, each once, and have the
+/// children that they are to have.
+fn right_cells(heap: &SemiSpace, cells: &[(usize, usize)], found: &mut Vec<bool>, kept: u64) -> u64
+    requires { heap.now.halves.heap.is_open ≡ false }
+{
+    let mut right: u64 = 0;
+    for cell in 0..kept {
+        let start = cell.saturating_mul(4);
+        let number = moved(heap, start, 3) as usize;
+        let children = (
+            number_at(heap, moved(heap, start, 1)) as usize,
+            number_at(heap, moved(heap, start, 2)) as usize,
+        );
+        if mark_off(found, number) && cells.get(number).copied() == Some(children) {
+            right = right.saturating_add(1);
+        }
+    }
+    right
+}
+
+/// Whether a cell was found and isn't marked off yet, which it is afterwards.
+fn mark_off(found: &mut Vec<bool>, cell: usize) -> bool {
+    match found.get_mut(cell) {
+        Some(is_found) => {
+            let was_found = *is_found;
+            *is_found = false;
+            was_found
+        }
+        None => false,
     }
 }
 
-#[test]
-fn cycles_and_sharing(rt: HostRuntime) -> Result<(), Fail> {
-    let alloc = rt.alloc();
-    // one cell that leads to itself
-    agrees(&rt, alloc, &[(0, 0)], &[0], 1)?;
-    agrees(&rt, alloc, &[(0, 0)], &[], 0)?;
-    // two that lead to each other, and one that leads to them
-    agrees(&rt, alloc, &[(1, NONE), (0, NONE), (0, 1)], &[1], 2)?;
-    // a diamond, rooted twice
-    agrees(
-        &rt,
-        alloc,
+/// Cells with their children, the roots, and how many cells are kept.
+type Shape = (&'static [(usize, usize)], &'static [usize], u64);
+
+static SHAPES: [Shape; 7] = [
+    // One cell that leads to itself.
+    (&[(0, 0)], &[0], 1),
+    (&[(0, 0)], &[], 0),
+    // Two that lead to each other, and one that leads to them.
+    (&[(1, NONE), (0, NONE), (0, 1)], &[1], 2),
+    // A diamond, rooted twice.
+    (
         &[(NONE, NONE), (0, NONE), (NONE, 0), (1, 2), (3, 3)],
         &[3, 1, 3],
         4,
-    )?;
-    // a ring of five with a tail, and a ring that nothing leads to
-    agrees(
-        &rt,
-        alloc,
+    ),
+    // A ring of five with a tail, and a ring that nothing leads to.
+    (
         &[
             (1, NONE),
             (2, NONE),
@@ -326,20 +381,20 @@ fn cycles_and_sharing(rt: HostRuntime) -> Result<(), Fail> {
         ],
         &[2],
         6,
-    )?;
-    // cells that are made before what they lead to, and after
-    agrees(
-        &rt,
-        alloc,
+    ),
+    // Cells that are made before what they lead to, and after.
+    (
         &[(3, 2), (NONE, 4), (1, 1), (NONE, NONE), (2, 0), (0, 4)],
         &[0],
         5,
-    )?;
-    agrees(
-        &rt,
-        alloc,
-        &[(NONE, NONE), (0, 0), (1, 1), (2, 2)],
-        &[3, NONE],
-        4,
-    )
+    ),
+    (&[(NONE, NONE), (0, 0), (1, 1), (2, 2)], &[3, NONE], 4),
+];
+
+#[test]
+fn cycles_and_sharing(rt: HostRuntime) -> Result<(), Fail> {
+    for (cells, roots, kept) in &SHAPES {
+        agrees(&rt, rt.alloc(), cells, roots, *kept)?;
+    }
+    Ok(())
 }

@@ -4,6 +4,7 @@ ghost use Rattle.m3_image_writer.specs.Image.{image_bytes};
 ghost use Rattle.m3_image_writer.specs.Views.{cell_type, variable_of};
 ghost use Rattle.m3_image_writer.specs.Parts.{AreNumbered, AreParts};
 
+use crate::reading::{SMALLEST, check_rich, expect, with_no_variables};
 use m3_base::{Bytes, NoMemory};
 use m3_image::{ImageView, ProcPart};
 use m3_image_writer::{GlobalPart, ImageParts, PlacePart, TypePart, VarPart, write_image};
@@ -11,24 +12,6 @@ use m3_isa::{Instr, Op};
 use m3_tables::Location;
 use std::alloc::Global;
 use std::test::*;
-
-/// POINT, ENDP, POINT, ENDP in two procedures.
-const SMALLEST: [u8; 234] = [
-    77, 51, 73, 77, 1, 0, 0, 0, // M3IM, version 1
-    32, 0, 0, 0, // the code
-    47, 0, 0, 0, 0, 0, 0, 0, 50, 0, 0, 0, 0, 0, 0, 0, 47, 0, 0, 0, 0, 0, 0, 0, 50, 0, 0, 0, 0, 0,
-    0, 0, 32, 0, 0, 0, // the procedures
-    0, 0, 0, 0, 2, 0, 0, 0, 3, 0, 0, 0, 3, 0, 0, 0, 2, 0, 0, 0, 2, 0, 0, 0, 3, 0, 0, 0, 7, 0, 0, 0,
-    52, 0, 0, 0, // the types: texts, and the cells of threads
-    2, 0, 0, 0, 255, 255, 255, 255, 0, 0, 0, 0, 0, 0, 0, 0, 0, 0, 0, 0, 0, 0, 0, 0, 0, 0, 0, 0,
-    255, 255, 255, 255, 4, 0, 0, 0, 0, 0, 0, 0, 0, 0, 0, 0, 1, 0, 0, 0, 3, 0, 0, 0, 8, 0, 0, 0, // the globals
-    4, 0, 0, 0, 0, 0, 0, 0, 4, 0, 0, 0, // the constants
-    0, 0, 0, 0, 8, 0, 0, 0, // the places
-    0, 0, 0, 0, 0, 0, 0, 0, 4, 0, 0, 0, // the exceptions
-    0, 0, 0, 0, 54, 0, 0, 0, // the tables
-    2, 0, 0, 0, 0, 0, 0, 0, 0, 0, 0, 0, 2, 0, 0, 0, 17, 0, 0, 0, 0, 0, 0, 0, 0, 0, 0, 0, 0, 0, 0,
-    0, 0, 0, 0, 0, 0, 0, 0, 0, 0, 0, 0, 0, 0, 0, 0, 0, 0, 0, 0, 0, 0, 0,
-];
 
 /// Two rows that say nothing, at instructions 0 and 2.
 const EMPTY_ROWS: [u8; 54] = [
@@ -166,24 +149,20 @@ fn the_smallest_image(rt: HostRuntime) {
     let Ok(bytes) = write_image(alloc, &first) else {
         panic!(rt; "memory");
     };
-    assert_eq!(rt; bytes.as_slice(), SMALLEST.as_slice());
-    assert!(rt; matches!(ImageView::read(&bytes), Ok(image) if image.version() == 1));
+    expect(&rt, bytes.as_slice(), SMALLEST.as_slice(), &"in version 1");
+}
+
+#[test]
+fn an_image_without_variables(rt: HostRuntime) {
+    let alloc = rt.alloc();
     let Ok(second) = smallest(alloc, Some(Vec::new(alloc))) else {
         panic!(rt; "memory");
     };
     let Ok(bytes) = write_image(alloc, &second) else {
         panic!(rt; "memory");
     };
-    assert_eq!(rt; bytes.len(), 242);
-    for (at, byte) in bytes.iter().enumerate() {
-        let want = match at {
-            4 => 2,
-            234 => 4,
-            _ => SMALLEST.get(at).copied().unwrap_or(0),
-        };
-        assert_eq!(rt; *byte, want, "byte {at}");
-    }
-    assert!(rt; matches!(ImageView::read(&bytes), Ok(image) if image.version() == 2));
+    let wanted = with_no_variables(2);
+    expect(&rt, bytes.as_slice(), wanted.as_slice(), &"in version 2");
 }
 
 fn types_of_all_kinds(alloc: Global) -> Result<Vec<TypePart>, NoMemory>
@@ -315,32 +294,17 @@ fn an_image_with_all_kinds_of_entries(rt: HostRuntime) {
     let Ok(bytes) = write_image(rt.alloc(), &parts) else {
         panic!(rt; "memory");
     };
-    assert_eq!(rt; bytes.as_slice(), RICH.as_slice());
+    expect(&rt, bytes.as_slice(), RICH.as_slice(), &"the bytes");
     let Ok(image) = ImageView::read(&bytes) else {
         panic!(rt; "read again");
     };
-    assert!(rt; image.code(9) == Some(instr(Op::Lds, 3, 4)) && image.code(12).is_none());
-    assert!(rt; image.proc(2) == Some(proc(6, 6, 4, 9)) && image.proc(3).is_none());
-    assert!(rt;
-        image.shape(3).is_some_and(|t| t.kind() == 1 && t.parent() == 2 && t.pointer(0) == Some(0))
-    );
-    assert!(rt; image.global_words() == 7 && image.global_pointer(1) == Some(6));
-    assert!(rt; image.constant(0) == Some(0x1122_3344_5566_7788) && image.constant(1) == Some(9));
-    assert!(rt; image.place(1) == Some((0, 8)) && image.place(2).is_none());
-    assert!(rt; image.file(0).is_some_and(|name| name == b"A.m3".as_slice()));
-    assert!(rt;
-        image
-            .exception(0)
-            .is_some_and(|name| name == b"A.E".as_slice())
-    );
-    let (Some(same), Some(n), Some(g)) = (
-        image.tables().row(4),
-        image.variable(0),
-        image.variable(1),
-    ) else {
-        panic!(rt; "a row and two variables");
+    check_rich(&rt, &image);
+    let Some(same) = image.tables().row(4) else {
+        panic!(rt; "a row");
     };
-    assert!(rt; same.tidy(Location::Slot(4)) && same.argument(Location::Slot(5)));
-    assert!(rt; n.proc == 2 && n.span(0) == Some((6, Location::Slot(8))) && n.span(1).is_none());
-    assert!(rt; g.word == 5 && g.form == 1 && g.name == b"A.g".as_slice());
+    let found = (
+        same.tidy(Location::Slot(4)),
+        same.argument(Location::Slot(5)),
+    );
+    expect(&rt, found, (true, true), &"slots 4 and 5");
 }

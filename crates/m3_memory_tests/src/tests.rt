@@ -3,8 +3,14 @@ ghost use Rattle.m3_isa.specs.Instructions.{IsInstruction};
 use super::{Parts, step_over};
 use m3_heap::{Closed, SemiSpace, Store};
 use m3_isa::{Instr, Op, Regs, Step, Words, decode, encode};
+use std::fmt::{Debug, Display};
 use std::process::Abort;
 use std::test::Fail;
+
+// What was found is what was wanted.
+fn expect<T: PartialEq + Debug + Drop>(rt: &impl Abort, found: T, wanted: T, what: &impl Display) {
+    assert_eq!(rt; found, wanted, "{what}");
+}
 
 // The instruction with these fields, by its bytes.
 fn instruction(rt: &impl Abort, op: Op, a: u8, b: u8, imm: i32) -> Instr
@@ -22,8 +28,17 @@ fn instruction(rt: &impl Abort, op: Op, a: u8, b: u8, imm: i32) -> Instr
     i
 }
 
-// A cell of four words in a heap of 64, its address in register 1 and that of the globals in
-// register 2: words are put and loaded in both, a header isn't put, and 60 words stay free.
+// A cell's address is in register 1, that of the globals in register 2: words are put and loaded in
+// both, a header isn't put, and nothing past the globals.
+static STEPS: [(Op, u8, u8, i32, Step); 5] = [
+    (Op::St, 3, 1, 3, Step::Went),
+    (Op::St, 3, 2, 15, Step::Went),
+    (Op::St, 3, 2, 16, Step::Trapped(2)),
+    (Op::St, 3, 1, 0, Step::Trapped(2)),
+    (Op::Ld, 4, 1, 3, Step::Went),
+];
+
+// A cell of four words in a heap of 64, of which 60 stay free.
 #[test]
 fn both_parts(rt: HostRuntime) -> Result<(), Fail> {
     let mut heap = SemiSpace::new(rt.alloc(), 64)?;
@@ -40,25 +55,12 @@ fn both_parts(rt: HostRuntime) -> Result<(), Fail> {
     regs.r[1] = cell;
     regs.r[2] = 1 << 32;
     regs.r[3] = 77;
-    let put_word = instruction(&rt, Op::St, 3, 1, 3);
-    let put_global = instruction(&rt, Op::St, 3, 2, 15);
-    let put_past = instruction(&rt, Op::St, 3, 2, 16);
-    let put_header = instruction(&rt, Op::St, 3, 1, 0);
-    let load_word = instruction(&rt, Op::Ld, 4, 1, 3);
-    assert_eq!(&rt; step_over(&put_word, &mut regs, &mut memory), Step::Went);
-    assert_eq!(&rt; step_over(&put_global, &mut regs, &mut memory), Step::Went);
-    assert_eq!(&rt;
-        step_over(&put_past, &mut regs, &mut memory),
-        Step::Trapped(2)
-    );
-    assert_eq!(&rt;
-        step_over(&put_header, &mut regs, &mut memory),
-        Step::Trapped(2)
-    );
-    assert_eq!(&rt; step_over(&load_word, &mut regs, &mut memory), Step::Went);
-    assert_eq!(&rt; regs.r[4], 77);
-    assert_eq!(&rt; memory.load((1 << 32) + 15), Some(77));
-    assert_eq!(&rt; memory.load(cell), Some(1 + (4 << 32)));
-    assert_eq!(&rt; memory.heap.free_words(), 60);
+    for (row, (op, a, b, imm, wanted)) in STEPS.iter().enumerate() {
+        let i = instruction(&rt, *op, *a, *b, *imm);
+        expect(&rt, step_over(&i, &mut regs, &mut memory), *wanted, &row);
+    }
+    let words = (regs.r[4], memory.load((1 << 32) + 15), memory.load(cell));
+    expect(&rt, words, (77, Some(77), Some(1 + (4 << 32))), &"words");
+    expect(&rt, memory.heap.free_words(), 60, &"free words");
     Ok(())
 }

@@ -1,33 +1,39 @@
 use m3_ports::{MemShelf, MemSink, Shelf, ShelfFault, Sink, SinkFailed};
+use std::fmt::Debug;
+use std::process::Abort;
 use std::test::Fail;
+
+/// The answer of a call, by the call's number, is what was wanted.
+fn expect<T: PartialEq + Debug + Drop>(rt: &impl Abort, call: u32, found: T, wanted: T) {
+    assert_eq!(rt; found, wanted, "call {call}");
+}
 
 #[test]
 fn keeps_files_in_memory(rt: HostRuntime) -> Result<(), Fail> {
     let alloc = rt.alloc();
     let mut shelf = MemShelf::new(alloc)?;
     let mut into = Vec::new(alloc);
-    assert_eq!(rt;
-        shelf.fetch(alloc, "a", 9, &mut into),
-        Err(ShelfFault::Absent)
-    );
-    assert_eq!(rt; shelf.store(alloc, "a", b"old"), Ok(()));
-    assert_eq!(rt; shelf.store(alloc, "a", b"abcde"), Ok(()));
-    assert_eq!(rt; shelf.fetch(alloc, "a", 5, &mut into), Ok(()));
-    assert_eq!(rt;
-        shelf.fetch(alloc, "a", 4, &mut into),
-        Err(ShelfFault::TooLong)
-    );
-    assert_eq!(rt; into.as_slice(), b"abcdeabcd".as_slice());
+    let absent = shelf.fetch(alloc, "a", 9, &mut into);
+    expect(&rt, 1, absent, Err(ShelfFault::Absent));
+    expect(&rt, 2, shelf.store(alloc, "a", b"old"), Ok(()));
+    expect(&rt, 3, shelf.store(alloc, "a", b"abcde"), Ok(()));
+    expect(&rt, 4, shelf.fetch(alloc, "a", 5, &mut into), Ok(()));
+    let too_long = shelf.fetch(alloc, "a", 4, &mut into);
+    expect(&rt, 5, too_long, Err(ShelfFault::TooLong));
+    expect(&rt, 5, into.as_slice(), b"abcdeabcd");
     shelf.fail_at(7)?;
     shelf.fail_at(8)?;
-    assert_eq!(rt; shelf.store(alloc, "b", b"x"), Ok(()));
-    assert_eq!(rt;
-        shelf.fetch(alloc, "b", 1, &mut into),
-        Err(ShelfFault::Failed)
+    expect(&rt, 6, shelf.store(alloc, "b", b"x"), Ok(()));
+    let failed = shelf.fetch(alloc, "b", 1, &mut into);
+    expect(&rt, 7, failed, Err(ShelfFault::Failed));
+    expect(
+        &rt,
+        8,
+        shelf.store(alloc, "b", b"y"),
+        Err(ShelfFault::Failed),
     );
-    assert_eq!(rt; shelf.store(alloc, "b", b"y"), Err(ShelfFault::Failed));
-    assert_eq!(rt; shelf.fetch(alloc, "b", 1, &mut into), Ok(()));
-    assert_eq!(rt; into.as_slice(), b"abcdeabcdx".as_slice());
+    expect(&rt, 9, shelf.fetch(alloc, "b", 1, &mut into), Ok(()));
+    expect(&rt, 9, into.as_slice(), b"abcdeabcdx");
     Ok(())
 }
 
@@ -35,10 +41,10 @@ fn keeps_files_in_memory(rt: HostRuntime) -> Result<(), Fail> {
 fn takes_output_in_memory(rt: HostRuntime) -> Result<(), Fail> {
     let mut sink = MemSink::with_room(rt.alloc(), 5)?;
     sink.fail_at(2)?;
-    assert_eq!(rt; sink.put(b"ab"), Ok(()));
-    assert_eq!(rt; sink.put(b"c"), Err(SinkFailed));
-    assert_eq!(rt; sink.put(b"cdef"), Err(SinkFailed));
-    assert_eq!(rt; sink.put(b"cde"), Ok(()));
-    assert_eq!(rt; sink.bytes(), b"abcde".as_slice());
+    expect(&rt, 1, sink.put(b"ab"), Ok(()));
+    expect(&rt, 2, sink.put(b"c"), Err(SinkFailed));
+    expect(&rt, 3, sink.put(b"cdef"), Err(SinkFailed));
+    expect(&rt, 4, sink.put(b"cde"), Ok(()));
+    expect(&rt, 4, sink.bytes(), b"abcde");
     Ok(())
 }

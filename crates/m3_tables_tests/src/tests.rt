@@ -9,7 +9,14 @@ use m3_base::NoMemory;
 use m3_table_writer::{RowPlain, write_rows};
 use m3_tables::{Location, TableView};
 use std::alloc::Global;
+use std::fmt::{Debug, Display};
+use std::process::Abort;
 use std::test::*;
+
+/// What was found is what was wanted.
+fn expect<T: PartialEq + Debug + Drop>(rt: &impl Abort, found: T, wanted: T, what: &impl Display) {
+    assert_eq!(rt; found, wanted, "{what}");
+}
 
 /// Two rows that say nothing, at instructions 0 and 2.
 const EMPTY: [u8; 54] = [
@@ -31,12 +38,30 @@ const RICH: [u8; 140] = [
     0, 0, 0, 0, 0, 0, 0, 0, 1, 0, 0, 0, 4, 0, 0, 0, 255, 255, 255, 255, 1, 0, 1, 0, 3, 0, 0, 0,
 ];
 
+/// A place, the byte that is put there, and the number of the row that is refused.
+type Change = (usize, u8, u32);
+
+static OF_EMPTY: [Change; 7] = [
+    (0, 1, 0),
+    (12, 0, 1),
+    (16, 18, 1),
+    (20, 1, 0),
+    (20, 2, 0),
+    (37, 1, 1),
+    (37, 3, 1),
+];
+
 #[test]
 fn rows_without_anything(rt: HostRuntime) {
     let Ok(table) = TableView::read(&EMPTY) else {
         panic!(rt; "two rows");
     };
-    assert!(rt; table.len() == 2 && !table.is_empty());
+    expect(
+        &rt,
+        (table.len(), table.is_empty()),
+        (2, false),
+        &"two rows",
+    );
     assert!(rt; table.at(1).is_some_and(|row| row.spares_registers()) && table.at(2).is_none());
     assert!(rt; table.row(0).is_some() && table.row(1).is_none() && table.row(2).is_some());
     for length in 0..54 {
@@ -46,33 +71,29 @@ fn rows_without_anything(rt: HostRuntime) {
             20..=36 => 0,
             _ => 1,
         };
-        assert_eq!(rt;
+        expect(
+            &rt,
             TableView::read(&EMPTY[..length]).err(),
             Some(want),
-            "of {length} bytes"
+            &length,
         );
     }
-    let changes = [
-        (0, 1, 0),
-        (12, 0, 1),
-        (16, 18, 1),
-        (20, 1, 0),
-        (20, 2, 0),
-        (37, 1, 1),
-        (37, 3, 1),
-    ];
-    for (at, value, want) in changes {
+    for (row, (at, value, want)) in OF_EMPTY.iter().enumerate() {
         let mut bytes = EMPTY;
-        if let Some(byte) = bytes.get_mut(at) {
-            *byte = value;
+        if let Some(byte) = bytes.get_mut(*at) {
+            *byte = *value;
         }
-        assert_eq!(rt;
-            TableView::read(&bytes).err(),
-            Some(want),
-            "with {value} at {at}"
-        );
+        expect(&rt, TableView::read(&bytes).err(), Some(*want), &row);
     }
 }
+/// Places, and whether they are tidy in the first row and in the second.
+static TIDY: [(Location, bool, bool); 5] = [
+    (Location::Register(1), true, false),
+    (Location::Slot(0), true, true),
+    (Location::Register(3), false, true),
+    (Location::Slot(3), false, false),
+    (Location::Register(16), false, false),
+];
 
 #[test]
 fn what_rows_say(rt: HostRuntime) {
@@ -84,76 +105,83 @@ fn what_rows_say(rt: HostRuntime) {
     };
     assert!(rt; first.is_within(4) && !first.is_within(3) && !first.spares_registers());
     assert!(rt; second.is_within(1) && !second.is_within(0) && second.instruction() == 9);
-    assert_eq!(rt; TableView::listed_instruction(&RICH, 1), Some(9));
-    assert_eq!(rt; TableView::listed_instruction(&RICH, 2), None);
+    let listed = (
+        TableView::listed_instruction(&RICH, 1),
+        TableView::listed_instruction(&RICH, 2),
+    );
+    expect(&rt, listed, (Some(9), None), &"listed instructions");
+    for (row, (place, at_first, at_second)) in TIDY.iter().enumerate() {
+        let found = (first.tidy(*place), second.tidy(*place));
+        expect(&rt, found, (*at_first, *at_second), &row);
+    }
     let r = Location::Register;
     let slot = Location::Slot;
-    let tidy = [
-        (r(1), true, false),
-        (slot(0), true, true),
-        (r(3), false, true),
-        (slot(3), false, false),
-        (r(16), false, false),
-    ];
-    for (place, at_first, at_second) in tidy {
-        assert_eq!(rt; first.tidy(place), at_first);
-        assert_eq!(rt; second.tidy(place), at_second);
-    }
     assert!(rt; first.argument(r(2)) && !first.argument(r(1)) && !second.argument(r(2)));
     assert!(rt; first.passed(slot(3)) && !first.passed(r(2)) && !second.passed(slot(3)));
+}
+
+/// Ways, whether a base is added, its number in the way, and the base.
+static BASES: [(u16, bool, u8, Option<Location>); 6] = [
+    (0, true, 0, Some(Location::Register(1))),
+    (0, true, 1, None),
+    (0, false, 0, Some(Location::Register(7))),
+    (1, true, 0, Some(Location::Slot(0))),
+    (1, false, 0, None),
+    (2, true, 0, None),
+];
+
+#[test]
+fn derived_words(rt: HostRuntime) {
+    let Ok(table) = TableView::read(&RICH) else {
+        panic!(rt; "two rows");
+    };
+    let (Some(first), Some(second)) = (table.row(4), table.row(9)) else {
+        panic!(rt; "rows at 4 and 9");
+    };
     let (Some(split), Some(plain)) = (first.derived(0), first.derived(1)) else {
         panic!(rt; "two derived words");
     };
     assert!(rt; first.derived(2).is_none() && second.derived(1).is_none());
-    assert_eq!(rt;
-        (split.location(), split.path(), split.ways()),
-        (r(5), Some(r(6)), 2)
-    );
-    assert_eq!(rt;
-        (plain.location(), plain.path(), plain.ways()),
-        (r(7), None, 1)
-    );
-    let bases = [
-        (0, true, 0, Some(r(1))),
-        (0, true, 1, None),
-        (0, false, 0, Some(r(7))),
-        (1, true, 0, Some(slot(0))),
-        (1, false, 0, None),
-        (2, true, 0, None),
-    ];
-    for (way, added, n, want) in bases {
-        assert_eq!(rt; split.base(way, added, n), want, "way {way}, base {n}");
+    let found = (split.location(), split.path(), split.ways());
+    let path = Some(Location::Register(6));
+    expect(&rt, found, (Location::Register(5), path, 2), &"r5");
+    let found = (plain.location(), plain.path(), plain.ways());
+    expect(&rt, found, (Location::Register(7), None, 1), &"r7");
+    for (row, (way, added, n, want)) in BASES.iter().enumerate() {
+        expect(&rt, split.base(*way, *added, *n), *want, &row);
     }
 }
 
+/// Changes of the rich table, with what they make of it.
+static OF_RICH: [(Change, &str); 15] = [
+    ((20, 1, 0), "a change without a row before"),
+    ((29, 1, 0), "tidy places that don't rise"),
+    ((37, 1, 0), "an argument that is tidy"),
+    ((45, 2, 0), "a formal that is an argument"),
+    ((53, 16, 0), "a derived word at a tidy place"),
+    ((57, 7, 0), "a path at a derived word"),
+    ((57, 2, 0), "a path at an argument"),
+    ((79, 5, 0), "two derived words at one place"),
+    ((87, 2, 0), "two ways without a path"),
+    ((69, 8, 0), "a base that isn't there"),
+    ((91, 7, 0), "a base that is the word itself"),
+    ((95, 0, 2), "bytes after the last row"),
+    ((100, 2, 1), "a change that removes what isn't there"),
+    ((108, 16, 1), "a change that adds what is there"),
+    ((136, 1, 1), "a base that is no longer there"),
+];
+
 #[test]
 fn bad_rows(rt: HostRuntime) {
-    let changes = [
-        (20, 1, 0, "a change without a row before"),
-        (29, 1, 0, "tidy places that don't rise"),
-        (37, 1, 0, "an argument that is tidy"),
-        (45, 2, 0, "a formal that is an argument"),
-        (53, 16, 0, "a derived word at a tidy place"),
-        (57, 7, 0, "a path at a derived word"),
-        (57, 2, 0, "a path at an argument"),
-        (79, 5, 0, "two derived words at one place"),
-        (87, 2, 0, "two ways without a path"),
-        (69, 8, 0, "a base that isn't there"),
-        (91, 7, 0, "a base that is the word itself"),
-        (95, 0, 2, "bytes after the last row"),
-        (100, 2, 1, "a change that removes what isn't there"),
-        (108, 16, 1, "a change that adds what is there"),
-        (136, 1, 1, "a base that is no longer there"),
-    ];
-    for (at, value, want, what) in changes {
+    for ((at, value, want), what) in &OF_RICH {
         let mut bytes = RICH;
-        if let Some(byte) = bytes.get_mut(at) {
-            *byte = value;
+        if let Some(byte) = bytes.get_mut(*at) {
+            *byte = *value;
         }
-        assert_eq!(rt; TableView::read(&bytes).err(), Some(want), "{what}");
+        expect(&rt, TableView::read(&bytes).err(), Some(*want), what);
         assert!(rt;
             matches!(TableView::front(&bytes), Ok(front)
-                if front.rows.len() == want && front.fault == Some(want)),
+                if front.rows.len() == *want && front.fault == Some(*want)),
             "{what}"
         );
     }
@@ -197,16 +225,21 @@ fn forty_equal_rows(rt: HostRuntime) {
         panic!(rt; "memory");
     };
     // A count, forty pairs of four bytes each, three rows of 25 bytes and 37 of one.
-    assert_eq!(rt; bytes.len(), 436);
+    expect(&rt, bytes.len(), 436, &"how many bytes");
     for n in 0..40 {
         let start = 324 + n + 24 * ((n + 15) / 16);
         let kind = if n % 16 == 0 { 0 } else { 2 };
-        assert_eq!(rt; bytes.get(start).copied(), Some(kind), "kind of row {n}");
+        expect(&rt, bytes.get(start).copied(), Some(kind), &n);
     }
-    let Ok(table) = TableView::read(&bytes) else {
+    check_forty(&rt, &bytes);
+}
+
+/// The rows say what they are made of.
+fn check_forty(rt: &impl Abort, bytes: &[u8]) {
+    let Ok(table) = TableView::read(bytes) else {
         panic!(rt; "read again");
     };
-    assert_eq!(rt; table.len(), 40);
+    expect(rt, table.len(), 40, &"how many rows");
     for n in 0..40 {
         let Some(row) = table.row(2 * n) else {
             panic!(rt; "a row");

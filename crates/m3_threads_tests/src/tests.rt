@@ -6,6 +6,7 @@ ghost use Rattle.m3_isa.specs.Instructions.{IsInstruction};
 use m3_isa::{Instr, Op, Words, decode, encode};
 use m3_threads::{Done, Status, Threads, ThreadsFull};
 use std::alloc::Global;
+use std::fmt::{Debug, Display};
 use std::process::Abort;
 use std::test::Fail;
 
@@ -52,7 +53,7 @@ impl Words for Cells {
 }
 
 // A step of a history, with what is to be seen.
-#[derive(Clone, Copy, Debug)]
+#[derive(Clone, Copy)]
 enum Event {
     /// Register r of thread n gets a word.
     Give(u64, u8, u64),
@@ -87,6 +88,11 @@ enum Event {
 use Event::{
     Act, Choose, Fork, Full, Give, Goes, Gone, Heap, Is, Listed, Put, Room, Seen, Stack, Stand,
 };
+
+// What was found is what was wanted.
+fn expect<T: PartialEq + Debug + Drop>(rt: &impl Abort, found: T, wanted: T, what: &impl Display) {
+    assert_eq!(rt; found, wanted, "{what}");
+}
 
 // The instruction with these fields, which jumps to 40 where it jumps.
 fn instruction(rt: &impl Abort, op: Op, a: u8, b: u8, c: u8) -> Instr
@@ -183,41 +189,37 @@ fn fork(all: &mut Threads) -> Result<u64, ThreadsFull>
     all.fork(7, 55, HEAP + 8)
 }
 
-fn play_one(rt: &impl Abort, all: &mut Threads, mem: &mut Cells, event: Event)
+fn play_one(rt: &impl Abort, all: &mut Threads, mem: &mut Cells, event: Event, row: usize)
     requires { all.old.forks + all.old.waits < 2 ^ 62 }
     ensures { all.new.forks + all.new.waits ≤ all.old.forks + all.old.waits + 1 }
 {
     match event {
         Give(n, register, word) => give(rt, all, n, register, word),
         Stand(n, op, a, b, c) => stand(rt, all, n, instruction(rt, op, a, b, c)),
-        Goes(n, may) => assert_eq!(rt; goes(rt, all, mem, n), may, "{event:?}"),
-        Choose(to, running, who) => {
-            assert_eq!(rt; all.choose(to, running, mem), who, "{event:?}");
-        }
+        Goes(n, may) => expect(rt, goes(rt, all, mem, n), may, &row),
+        Choose(to, running, who) => expect(rt, all.choose(to, running, mem), who, &row),
         Act(n, op, a, b, c, done) => {
             let i = instruction(rt, op, a, b, c);
-            assert_eq!(rt; act(rt, all, mem, n, i), done, "{event:?}");
+            expect(rt, act(rt, all, mem, n, i), done, &row);
         }
         Fork(n, at) => {
-            assert_eq!(rt; fork(all), Ok(n), "{event:?}");
-            assert_eq!(rt; all.stack_at(n), Some(at), "{event:?}");
+            expect(rt, fork(all), Ok(n), &row);
+            expect(rt, all.stack_at(n), Some(at), &row);
         }
         Full => {
-            assert!(rt; all.is_full());
-            assert_eq!(rt; fork(all), Err(ThreadsFull));
+            expect(rt, all.is_full(), true, &row);
+            expect(rt, fork(all), Err(ThreadsFull), &row);
         }
-        Room => assert!(rt; !all.is_full()),
-        Is(n, expected) => assert_eq!(rt; status(all, n), Some(expected), "{event:?}"),
-        Gone(n) => assert!(rt; is_gone(all, n), "{event:?}"),
+        Room => expect(rt, all.is_full(), false, &row),
+        Is(n, expected) => expect(rt, status(all, n), Some(expected), &row),
+        Gone(n) => expect(rt, is_gone(all, n), true, &row),
         Put(n, k, word) => put(rt, all, n, k, word),
         Seen(n, register, word, pc) => {
-            assert_eq!(rt; seen(all, n, register), Some((word, pc)), "{event:?}");
+            expect(rt, seen(all, n, register), Some((word, pc)), &row);
         }
-        Heap(k, word) => assert_eq!(rt; mem.words.get(k).copied(), Some(word), "{event:?}"),
-        Listed(place, n) => assert_eq!(rt; all.number(place), n, "{event:?}"),
-        Stack(n, k, word) => {
-            assert_eq!(rt; stack_word(all, n, k), Some(word), "{event:?}");
-        }
+        Heap(k, word) => expect(rt, mem.words.get(k).copied(), Some(word), &row),
+        Listed(place, n) => expect(rt, all.number(place), n, &row),
+        Stack(n, k, word) => expect(rt, stack_word(all, n, k), Some(word), &row),
     }
 }
 
@@ -231,8 +233,8 @@ fn play(rt: &impl Abort, all: &mut Threads, mem: &mut Cells, events: &[Event])
     requires counted { all.old.forks + all.old.waits < 2 ^ 61 }
     ensures { all.new.forks + all.new.waits ≤ all.old.forks + all.old.waits + length events.now }
 {
-    for event in events {
-        play_one(rt, all, mem, *event);
+    for (row, event) in events.iter().enumerate() {
+        play_one(rt, all, mem, *event, row);
     }
 }
 
@@ -644,8 +646,8 @@ fn written_words(rt: HostRuntime) -> Result<(), Fail> {
     let mut all = Threads::new(rt.alloc(), 1, 1024)?;
     assert!(&rt; all.regs_mut(1).is_none());
     put(&rt, &mut all, 0, 5, 50);
-    assert_eq!(&rt; stack_word(&all, 0, 5), Some(50));
-    assert_eq!(&rt; stack_word(&all, 0, 1023), Some(0));
-    assert_eq!(&rt; stack_word(&all, 0, 1024), None);
+    for (k, word) in [(5, Some(50)), (1023, Some(0)), (1024, None)] {
+        expect(&rt, stack_word(&all, 0, k), word, &k);
+    }
     Ok(())
 }

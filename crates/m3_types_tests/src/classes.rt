@@ -1,4 +1,4 @@
-use crate::tests::{families, field, fill, graph, put};
+use crate::tests::{expect, field, fill, put, put_families, put_graph};
 use bumpalo::Bump;
 use m3_classes::Classes;
 use m3_same::same;
@@ -16,7 +16,7 @@ fn check_pairs(rt: &impl Abort, alloc: Global, types: &TypeGraph) -> Result<(), 
         for b in 0..a {
             let is_same = same(alloc, types, TypeId(a), TypeId(b))?;
             let is_told = classes.number(TypeId(a)) == classes.number(TypeId(b));
-            assert!(rt; is_told == is_same, "types {a} and {b}");
+            expect(rt, (a, b, is_told), (a, b, is_same), &"two types");
         }
     }
     Ok(())
@@ -25,14 +25,11 @@ fn check_pairs(rt: &impl Abort, alloc: Global, types: &TypeGraph) -> Result<(), 
 #[test]
 fn classes_of_worked_examples(rt: HostRuntime) -> Result<(), Fail> {
     let alloc = rt.alloc();
-    let bump = Bump::new(alloc);
-    let types = graph(alloc, &bump)?;
+    let mut types = TypeGraph::new(alloc);
+    put_graph(&mut types)?;
     check_pairs(&rt, alloc, &types)?;
-    assert!(rt;
-        Classes::of(alloc, &types)?
-            .number(TypeId(1_000_000))
-            .is_none()
-    );
+    let classes = Classes::of(alloc, &types)?;
+    expect(&rt, classes.number(TypeId(1_000_000)), None, &"no type");
     Ok(())
 }
 
@@ -45,8 +42,7 @@ fn next(seed: &mut u64) -> u32 {
 }
 
 // Twelve types of few forms, each with parts among the others.
-fn some_types<'a>(alloc: Global, bump: &'a Bump, seed: &mut u64) -> Result<TypeGraph<'a>, Fail> {
-    let mut types = TypeGraph::new(alloc);
+fn put_some<'a>(types: &mut TypeGraph<'a>, bump: &'a Bump, seed: &mut u64) -> Result<(), Fail> {
     for _ in 0..12u32 {
         types.reserve()?;
     }
@@ -62,9 +58,9 @@ fn some_types<'a>(alloc: Global, bump: &'a Bump, seed: &mut u64) -> Result<TypeG
                 field(b"b", second),
             ])?),
         };
-        fill(&mut types, place, node);
+        fill(types, place, node);
     }
-    Ok(types)
+    Ok(())
 }
 
 #[test]
@@ -73,66 +69,80 @@ fn classes_of_random_graphs(rt: HostRuntime) -> Result<(), Fail> {
     let mut seed = 1u64;
     for _ in 0..400u32 {
         let bump = Bump::new(alloc);
-        let types = some_types(alloc, &bump, &mut seed)?;
+        let mut types = TypeGraph::new(alloc);
+        put_some(&mut types, &bump, &mut seed)?;
         check_pairs(&rt, alloc, &types)?;
     }
     Ok(())
 }
 
-// Each type of one family has the class of its mate exactly where the families don't differ.
-fn check_families(rt: &impl Abort, alloc: Global, count: u32, differ: bool) -> Result<(), Fail> {
-    let bump = Bump::new(alloc);
-    let types = families(alloc, &bump, count, differ)?;
-    let classes = Classes::of(alloc, &types)?;
-    let size = count.wrapping_mul(2);
-    for place in 0..size {
-        let mate = place.wrapping_add(size);
-        let is_told = classes.number(TypeId(place)) == classes.number(TypeId(mate));
-        assert!(rt; is_told != differ, "type {place}");
+// How many pairs of a type and the one so many places behind it have one class.
+fn pairs_alike(classes: &Classes, types: u32, behind: u32) -> u32 {
+    let mut alike: u32 = 0;
+    for place in 0..types {
+        let mate = place.wrapping_add(behind);
+        if classes.number(TypeId(place)) == classes.number(TypeId(mate)) {
+            alike = alike.saturating_add(1);
+        }
     }
+    alike
+}
+
+// Each type of one family has the class of its mate exactly where the families don't differ.
+fn check_families(rt: &impl Abort, alloc: Global, differ: bool, wanted: u32) -> Result<(), Fail> {
+    let bump = Bump::new(alloc);
+    let mut types = TypeGraph::new(alloc);
+    put_families(&mut types, &bump, 20000, differ)?;
+    let classes = Classes::of(alloc, &types)?;
+    expect(
+        rt,
+        pairs_alike(&classes, 40000, 40000),
+        wanted,
+        &"types with their mates' class",
+    );
     Ok(())
 }
 
 #[test]
 fn classes_of_large_families(rt: HostRuntime) -> Result<(), Fail> {
     let alloc = rt.alloc();
-    check_families(&rt, alloc, 20000, false)?;
-    check_families(&rt, alloc, 20000, true)
+    check_families(&rt, alloc, false, 40000)?;
+    check_families(&rt, alloc, true, 0)
 }
 
 // A chain of count references to records of one field, down to INTEGER, and a second one like it.
-fn chains<'a>(alloc: Global, bump: &'a Bump, count: u32) -> Result<TypeGraph<'a>, Fail> {
-    let mut types = TypeGraph::new(alloc);
-    put(&mut types, TypeNode::Integer)?;
+fn put_chains<'a>(types: &mut TypeGraph<'a>, bump: &'a Bump, count: u32) -> Result<(), Fail> {
+    put(types, TypeNode::Integer)?;
     for chain in 0..2u32 {
         let mut below = 0u32;
         for step in 0..count {
             let at = chain.wrapping_mul(count).wrapping_add(step).wrapping_mul(2);
             let fields = bump.try_alloc_slice_copy(&[field(b"a", below)])?;
-            put(&mut types, TypeNode::Fields(fields))?;
-            put(
-                &mut types,
-                TypeNode::RefTo(None, TypeId(at.wrapping_add(1))),
-            )?;
+            put(types, TypeNode::Fields(fields))?;
+            put(types, TypeNode::RefTo(None, TypeId(at.wrapping_add(1))))?;
             below = at.wrapping_add(2);
         }
     }
-    Ok(types)
+    Ok(())
 }
 
+// Behind INTEGER the types of the second chain have the classes of the first's, all apart.
 #[test]
 fn classes_of_long_chains(rt: HostRuntime) -> Result<(), Fail> {
     let alloc = rt.alloc();
     let bump = Bump::new(alloc);
-    let types = chains(alloc, &bump, 20000)?;
+    let mut types = TypeGraph::new(alloc);
+    put_chains(&mut types, &bump, 20000)?;
     let classes = Classes::of(alloc, &types)?;
-    for step in 0..20000u32 {
-        let place = step.wrapping_mul(2).wrapping_add(2);
-        let here = classes.number(TypeId(place));
-        let mate = classes.number(TypeId(place.wrapping_add(40_000)));
-        assert!(rt; here == mate, "step {step}");
-        let above = classes.number(TypeId(place.wrapping_add(2)));
-        assert!(rt; here != above, "step {step}");
-    }
+    let first = classes.number(TypeId(0));
+    let found = (
+        classes.number(TypeId(40_000)) == classes.number(TypeId(80_000)),
+        pairs_alike(&classes, 40_000, 40_000),
+        pairs_alike(&classes, 40_000, 1),
+        pairs_alike(&classes, 40_000, 2),
+    );
+    let wanted = (true, 39_999, 0, 0);
+    expect(&rt, found, wanted, &"pairs with one class");
+    expect(&rt, first.is_some(), true, &"a class of INTEGER");
     Ok(())
 }
