@@ -192,7 +192,7 @@ fn nothing_is_reached(rt: HostRuntime) -> Result<(), Fail> {
     Ok(())
 }
 
-/// Whether all is traced from these roots over a heap of two links, the second leading to the first,
+/// Whether all is traced from these roots over a heap of two links: the second leads to the first,
 /// which holds this word as its pointer.
 fn is_traced(alloc: Global, held: u64, roots: &mut [u64]) -> Result<bool, Fail> {
     let mut heap = SemiSpace::new(alloc, 64)?;

@@ -14,10 +14,18 @@ pub fn answer_to(alloc: Global, text: &[u8], has_places: bool) -> io::Result<Vec
     if text.len() >= 4_000_000_000 {
         return Ok(Vec::from_slice(alloc, b"too long")?);
     }
-    // Tokens and trees borrow the same arena, so the text stands in it too.
-    let owner = Bump::new(alloc);
-    let arena = &owner;
-    let text = &*arena.try_alloc_slice_copy(text)?;
+    let arena = Bump::new(alloc);
+    answer_in(alloc, &arena, text, has_places)
+}
+
+/// The same, with the trees in an arena. Tokens and trees borrow it, so the text stands in it too.
+fn answer_in<'a>(
+    alloc: Global,
+    arena: &'a Bump,
+    text: &[u8],
+    has_places: bool,
+) -> io::Result<Vec<u8>> {
+    let text: &'a [u8] = arena.try_alloc_slice_copy(text)?;
     let lexed = match lex(alloc, FILE, text) {
         Ok(lexed) => lexed,
         Err(refused) => return text_of_refused(alloc, refused, 1),

@@ -94,46 +94,48 @@ fn try_case(
     line: usize,
     case: Case<'_>,
 ) -> io::Result<bool> {
-    let alloc = rt.alloc();
-    let source = source_of(alloc, case)?;
-    let found = answer_to(alloc, source.as_bytes(), case.frame.has_places)?;
-    let wanted = wanted_of(alloc, case)?;
-    let is_right = if case.answer == "+" {
-        found.first().copied() == Some(b'=')
-    } else {
-        found.as_slice() == wanted.as_bytes()
-    };
-    if !is_right {
-        let text = case.text;
-        let wanted = wanted.as_str();
-        let found = str::from_utf8(found.as_slice()).unwrap_or("no text");
-        println!(rt; "{name}, line {line}: {text}\nwanted {wanted}\nfound  {found}\n")?;
+    let found = found_of(rt.alloc(), case)?;
+    let wanted = wanted_of(rt.alloc(), case)?;
+    if is_wanted(case, &found, wanted.as_bytes()) {
+        return Ok(true);
     }
-    Ok(is_right)
+    let text = case.text;
+    let found = str::from_utf8(&found).unwrap_or("no text");
+    println!(rt; "{name}, line {line}: {text}\nwanted {wanted}\nfound  {found}\n")?;
+    Ok(false)
 }
 
-/// The whole text of a case.
-fn source_of(alloc: Global, case: Case<'_>) -> Result<String, AllocError> {
-    let mut source = String::from_str(alloc, case.frame.before)?;
+fn is_wanted(case: Case<'_>, found: &[u8], wanted: &[u8]) -> bool {
+    if case.answer == "+" {
+        found.first().copied() == Some(b'=')
+    } else {
+        found == wanted
+    }
+}
+
+/// What the whole text of a case gives.
+fn found_of(alloc: Global, case: Case<'_>) -> io::Result<Vec<u8>> {
     let text = expanded(alloc, case.text)?;
-    source.push_str(text.as_str())?;
-    source.push_str(case.frame.after)?;
-    Ok(source)
+    let source = joined(alloc, &[case.frame.before, text.as_str(), case.frame.after])?;
+    answer_to(alloc, source.as_bytes(), case.frame.has_places)
 }
 
 /// The whole answer that a case is to give: a tree is put into that of the frame.
 fn wanted_of(alloc: Global, case: Case<'_>) -> Result<String, AllocError> {
     let answer = expanded(alloc, case.answer)?;
-    let Some(tree) = answer.as_str().strip_prefix("=") else {
-        return Ok(answer);
-    };
-    let mut wanted = String::from_str(alloc, "= ")?;
-    if case.frame.tree_before.is_empty() {
-        wanted.push_str(tree.trim_start())?;
-        return Ok(wanted);
+    match answer.as_str().strip_prefix("=") {
+        None => Ok(answer),
+        Some(tree) => joined(
+            alloc,
+            &["=", case.frame.tree_before, tree, case.frame.tree_after],
+        ),
     }
-    wanted.push_str(case.frame.tree_before)?;
-    wanted.push_str(tree)?;
-    wanted.push_str(case.frame.tree_after)?;
-    Ok(wanted)
+}
+
+fn joined(alloc: Global, parts: &[&str]) -> Result<String, AllocError> {
+    let mut whole = String::new(alloc);
+    for part in parts {
+        whole.push_str(part)?;
+    }
+    Ok(whole)
 }

@@ -4,7 +4,7 @@
 #![tactic(auto)]
 
 use bytes::try_bytes;
-use cases::try_cases;
+use cases::{Tally, try_cases};
 use std::rt::{Env, Files};
 use std::{env, fs, io};
 
@@ -20,17 +20,19 @@ mod statements;
 mod types;
 mod units;
 
+/// Tries what an argument names.
+fn try_one(rt: &(impl Print + Files + AllocGlobal), name: &str) -> io::Result<Tally> {
+    if name == "bytes" {
+        return try_bytes(rt);
+    }
+    let content = fs::read_to_string(rt, name)?;
+    try_cases(rt, name, content.as_str())
+}
+
 fn run(rt: &(impl Print + Env + Files + AllocGlobal)) -> io::Result<()> {
     for word in env::args(rt)?.skip(1) {
         let name = word.as_str();
-        let tally = if name == "bytes" {
-            try_bytes(rt)?
-        } else {
-            let content = fs::read_to_string(rt, name)?;
-            try_cases(rt, name, content.as_str())?
-        };
-        let cases = tally.cases;
-        let differing = tally.differing;
+        let Tally { cases, differing } = try_one(rt, name)?;
         println!(rt; "{name}: {cases} cases, {differing} come out otherwise")?;
     }
     Ok(())

@@ -149,21 +149,13 @@ fn show_methods(methods: &[Method], sheet: &mut Sheet) {
 /// The type and the value of a declaration.
 #[cycle(phrases)]
 pub fn show_init(init: &Init, sheet: &mut Sheet) {
-    match init {
-        Init::Typed(kind, None) => {
-            sheet.word(b":");
-            show_type(kind, sheet);
-        }
-        Init::Typed(kind, Some(value)) => {
-            sheet.word(b":");
-            show_type(kind, sheet);
-            sheet.word(b":=");
-            show_expr(value, sheet);
-        }
-        Init::Untyped(value) => {
-            sheet.word(b":=");
-            show_expr(value, sheet);
-        }
+    if let Init::Typed(kind, _) = init {
+        sheet.word(b":");
+        show_type(kind, sheet);
+    }
+    if let Init::Typed(_, Some(value)) | Init::Untyped(value) = init {
+        sheet.word(b":=");
+        show_expr(value, sheet);
     }
 }
 
