@@ -11,9 +11,6 @@ use std::io;
 /// What the lexer and the parser say of a text: `= ` and the tree, or `! ` and the rule with its
 /// place.
 pub fn answer_to(alloc: Global, text: &[u8], has_places: bool) -> io::Result<Vec<u8>> {
-    if text.len() >= 4_000_000_000 {
-        return Ok(Vec::from_slice(alloc, b"too long")?);
-    }
     let arena = Bump::new(alloc);
     answer_in(alloc, &arena, text, has_places)
 }
@@ -25,7 +22,10 @@ fn answer_in<'a>(
     text: &[u8],
     has_places: bool,
 ) -> io::Result<Vec<u8>> {
-    let text: &'a [u8] = arena.try_alloc_slice_copy(text)?;
+    if text.len() >= 4_000_000_000 {
+        return Ok(Vec::from_slice(alloc, b"too long")?);
+    }
+    let text = &*arena.try_alloc_slice_copy(text)?;
     let lexed = match lex(alloc, FILE, text) {
         Ok(lexed) => lexed,
         Err(refused) => return text_of_refused(alloc, refused, 1),
@@ -42,9 +42,7 @@ fn text_of_unit(
     tokens: usize,
     has_places: bool,
 ) -> io::Result<Vec<u8>> {
-    let mut text = Vec::from_slice(alloc, b"= ")?;
-    let tree = text_of_tree(alloc, unit, has_places)?;
-    text.extend_from_slice(tree.as_slice())?;
+    let mut text = text_of_tree(alloc, unit, has_places)?;
     if unit.tokens as usize != tokens {
         text.extend_from_slice(b" with another number of tokens")?;
     }
@@ -67,13 +65,12 @@ fn text_of_refusal(alloc: Global, refusal: Refusal, phase: u8) -> io::Result<Vec
     } = refusal;
     let line = pos.line;
     let col = pos.col;
-    let text = format!(in alloc; "! {rule} {line}:{col}")?;
-    let mut text = Vec::from_slice(alloc, text.as_bytes())?;
+    let mut text = format!(in alloc; "! {rule} {line}:{col}")?;
     if found != phase {
-        text.extend_from_slice(b" of another phase")?;
+        text.push_str(" of another phase")?;
     }
     if unit != FILE || pos.file != FILE {
-        text.extend_from_slice(b" of another file")?;
+        text.push_str(" of another file")?;
     }
-    Ok(text)
+    Ok(text.into_bytes())
 }

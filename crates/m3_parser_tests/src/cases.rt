@@ -11,29 +11,6 @@ pub struct Tally {
     pub differing: u32,
 }
 
-/// What a line of a file of cases is.
-#[derive(Clone, Copy)]
-enum Line<'s> {
-    Remark,
-    /// The frame of the cases from here on.
-    Frame(&'s str),
-    /// What the text before it is to give.
-    Answer(&'s str),
-    Text(&'s str),
-}
-
-fn line_of(line: &str) -> Line<'_> {
-    if line.starts_with("--") {
-        Line::Remark
-    } else if let Some(name) = line.strip_prefix("@") {
-        Line::Frame(name)
-    } else if line == "+" || line == "=" || line.starts_with("= ") || line.starts_with("! ") {
-        Line::Answer(line)
-    } else {
-        Line::Text(line)
-    }
-}
-
 /// Tries each case of a file, and shows those that come out otherwise.
 pub fn try_cases(rt: &(impl Print + AllocGlobal), name: &str, content: &str) -> io::Result<Tally> {
     let mut tally = Tally {
@@ -43,31 +20,39 @@ pub fn try_cases(rt: &(impl Print + AllocGlobal), name: &str, content: &str) -> 
     let mut frame = WHOLE;
     let mut text = String::new(rt.alloc());
     for (number, line) in content.split('\n').enumerate() {
-        match line_of(line) {
-            Line::Remark => {}
-            Line::Frame(name) => frame = frame_of(name).unwrap_or(WHOLE),
-            Line::Text(line) => add_line(&mut text, line)?,
-            Line::Answer(answer) => {
-                let case = Case {
-                    frame,
-                    text: text.as_str(),
-                    answer,
-                };
-                let is_right = try_case(rt, name, number.saturating_add(1), case)?;
-                tally.count(is_right);
-                text.clear();
-            }
-        }
+        let Some(answer) = take_line(line, &mut frame, &mut text)? else {
+            continue;
+        };
+        let case = Case {
+            frame,
+            text: text.as_str(),
+            answer,
+        };
+        tally.count(try_case(rt, name, number.saturating_add(1), case)?);
+        text.clear();
     }
     Ok(tally)
 }
 
-/// Adds a line to a text. Empty lines before a text are no part of it.
-fn add_line(text: &mut String, line: &str) -> Result<(), AllocError> {
-    if !text.is_empty() {
-        text.push_str("\n")?;
+/// Takes a line of a file: a remark, the frame of the cases from here on, or a line of a text. What
+/// the text before it is to give is handed back. Empty lines before a text are no part of it.
+fn take_line<'s>(
+    line: &'s str,
+    frame: &mut Frame,
+    text: &mut String,
+) -> Result<Option<&'s str>, AllocError> {
+    if line == "+" || line == "=" || line.starts_with("= ") || line.starts_with("! ") {
+        return Ok(Some(line));
     }
-    text.push_str(line)
+    if let Some(name) = line.strip_prefix("@") {
+        *frame = frame_of(name).unwrap_or(WHOLE);
+    } else if !line.starts_with("--") {
+        if !text.is_empty() {
+            text.push_str("\n")?;
+        }
+        text.push_str(line)?;
+    }
+    Ok(None)
 }
 
 impl Tally {

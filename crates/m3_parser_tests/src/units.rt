@@ -4,10 +4,11 @@ use crate::statements::show_block;
 use m3_syntax::{Import, ImportItem, Name, Unit, UnitKind};
 use std::alloc::{AllocError, Global};
 
-/// A unit as a text: each node is a list in parentheses, in the order of its fields. With places,
-/// each node and each token that the tree keeps the place of is followed by `@line:column`.
+/// A unit as a text: `=`, and each node as a list in parentheses, in the order of its fields. With
+/// places, each node and each token that the tree keeps the place of is followed by `@line:column`.
 pub fn text_of_tree(alloc: Global, unit: &Unit, has_places: bool) -> Result<Vec<u8>, AllocError> {
     let mut sheet = Sheet::new(alloc, has_places);
+    sheet.word(b"=");
     sheet.open(head_of_unit(unit), unit.pos);
     sheet.name(&unit.name);
     show_kind(&unit.kind, &mut sheet);
