@@ -12,7 +12,7 @@ ghost use Rattle.m3_types.specs.Kinds.{is_reference};
 use crate::walk::{Run, Task, Walk, Whole};
 use m3_base::NoMemory;
 use m3_sizes::SizedTypes;
-use m3_types::{Field, TypeId, TypeNode, node_at};
+use m3_types::{Field, TypeId, TypeNode, is_reference_at, node_at};
 use std::alloc::Global;
 use std::collections::BTreeMap;
 
@@ -78,20 +78,7 @@ pub(crate) fn array_parts(types: &SizedTypes, t: TypeId) -> Option<(TypeId, Type
 pub(crate) fn is_reference(types: &SizedTypes, t: TypeId) -> bool
     ensures { result ≡ is_reference (head_at types.now.graph.nodes.items t.0) }
 {
-    match types.graph.nodes.get(t.0 as usize) {
-        Some(node) => matches!(
-            node,
-            TypeNode::RefTo(_, _)
-                | TypeNode::Object(_, _, _, _, _)
-                | TypeNode::Opaque(_, _)
-                | TypeNode::Null
-                | TypeNode::RefAny
-                | TypeNode::Text
-                | TypeNode::Mutex
-                | TypeNode::Root
-        ),
-        None => false,
-    }
+    is_reference_at(&types.graph.nodes, t.0 as usize)
 }
 
 impl Walk {
