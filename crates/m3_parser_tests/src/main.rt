@@ -1,12 +1,12 @@
-//! Tries the lexer and the parser on files of cases, which the arguments name: texts with the trees
-//! or the broken rules that they are to give. The argument `bytes` stands for a case for each byte
-//! as a whole file. Cases that come out otherwise are shown.
+//! Tries the lexer and the parser on tables of cases, which it reads: texts with the trees or the
+//! broken rules that they are to give. Each table stands behind `@@` and its name, and `bytes` is
+//! the table of each byte as a whole file. Cases that come out otherwise are shown.
 #![tactic(auto)]
 
 use bytes::try_bytes;
 use cases::{Tally, try_cases};
-use std::rt::{Env, Files};
-use std::{env, fs, io};
+use std::io;
+use std::io::Read;
 
 mod answers;
 mod bytes;
@@ -20,24 +20,25 @@ mod statements;
 mod types;
 mod units;
 
-/// Tries what an argument names.
-fn try_one(rt: &(impl Print + Files + AllocGlobal), name: &str) -> io::Result<Tally> {
+/// Tries a table.
+fn try_one(rt: &(impl Print + AllocGlobal), name: &str, table: &str) -> io::Result<Tally> {
     if name == "bytes" {
-        return try_bytes(rt);
+        try_bytes(rt)
+    } else {
+        try_cases(rt, name, table)
     }
-    let content = fs::read_to_string(rt, name)?;
-    try_cases(rt, name, content.as_str())
 }
 
-fn run(rt: &(impl Print + Env + Files + AllocGlobal)) -> io::Result<()> {
-    for word in env::args(rt)?.skip(1) {
-        let name = word.as_str();
-        let Tally { cases, differing } = try_one(rt, name)?;
+fn run(rt: &(impl Print + AllocGlobal), tables: &str) -> io::Result<()> {
+    for table in tables.split("@@ ").skip(1) {
+        let (name, table) = table.split_once('\n').unwrap_or((table, ""));
+        let Tally { cases, differing } = try_one(rt, name, table)?;
         println!(rt; "{name}: {cases} cases, {differing} come out otherwise")?;
     }
     Ok(())
 }
 
 fn main(rt: HostRuntime) -> io::Result<()> {
-    run(&rt)
+    let tables = io::read_to_string(rt.alloc(), rt.reader())?;
+    run(&rt, tables.as_str())
 }

@@ -74,29 +74,20 @@ fn statement<'a>(reader: &mut Reader<'_, 'a>, room: u32) -> Stmt<'a>
             }
             Word::Try => try_statement(reader, room),
             Word::Typecase => typecase_statement(reader, room),
-            Word::Procedure => block_or_call(reader, room),
-            _ if begins_block(word) => Stmt::Block(block(reader, room)),
+            _ if begins_block(word) && !begins_procedure_type(reader) => {
+                Stmt::Block(block(reader, room))
+            }
             _ => assignment_or_call(reader, room),
         },
         _ => assignment_or_call(reader, room),
     }
 }
 
-/// The statement that begins here with PROCEDURE: a block that begins with a procedure, or an
-/// expression that begins with a procedure type. A parenthesis tells which.
-#[cycle(statements)]
-fn block_or_call<'a>(reader: &mut Reader<'_, 'a>, room: u32) -> Stmt<'a>
-    ensures { Follows reader.old reader.new }
-{
-    if reader.next_kind() != Some(TokenKind::Symbol(Sign::OpenParen)) {
-        return Stmt::Block(block(reader, room));
-    }
-    if room == 1 {
-        let pos = reader.take_word(Word::Procedure);
-        reader.too_deep();
-        return Stmt::Exit { pos };
-    }
-    assignment_or_call(reader, room)
+/// Whether a procedure type begins here: a parenthesis tells it from the procedure with which a
+/// block begins.
+fn begins_procedure_type(reader: &Reader<'_, '_>) -> bool {
+    reader.is_word(Word::Procedure)
+        && reader.next_kind() == Some(TokenKind::Symbol(Sign::OpenParen))
 }
 
 /// The assignment or the call that begins here.
@@ -104,6 +95,11 @@ fn assignment_or_call<'a>(reader: &mut Reader<'_, 'a>, room: u32) -> Stmt<'a>
     ensures { Follows reader.old reader.new }
 {
     let pos = reader.pos();
+    if room == 1 && begins_procedure_type(reader) {
+        reader.step();
+        reader.too_deep();
+        return Stmt::Exit { pos };
+    }
     let head = statement_head(reader, room);
     if reader.skip_sign(Sign::Assign) {
         let value = expression(reader, room);

@@ -29,7 +29,7 @@ const NESTING_TOO_DEEP: u16 = 13;
 const TOO_MANY_TOKENS: u16 = 14;
 
 /// Why the reading of a file stopped.
-#[derive(Clone, Copy, Debug, PartialEq, Eq)]
+#[derive(Clone, Copy)]
 pub enum Why {
     /// The token there may not stand there, or the file ends too early.
     Unexpected,
@@ -39,7 +39,7 @@ pub enum Why {
 }
 
 /// The first error in a file, and how many tokens were left there.
-#[derive(Clone, Copy, Debug)]
+#[derive(Clone, Copy)]
 pub struct Stop {
     pub why: Why,
     pub left: usize,

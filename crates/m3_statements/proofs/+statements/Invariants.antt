@@ -41,9 +41,6 @@ decreases-loops::for_statement l = 16 * l.room + 3
 abbrev pub decreases-loops::enclosing : goal.decreases-loops::enclosing
 decreases-loops::enclosing l = 16 * l.room + 3
 
-abbrev pub decreases-statements::block_or_call : goal.decreases-statements::block_or_call
-decreases-statements::block_or_call l = 16 * l.room + 1
-
 abbrev pub decreases-statements::statement : goal.decreases-statements::statement
 decreases-statements::statement l = 16 * l.room + 0
 
