@@ -309,12 +309,12 @@ fn agrees(
     }
     let mut heap = heap_of(alloc, cells)?;
     let is_traced = collected(&mut heap, &mut words);
-    let used = 64u64.saturating_sub(heap.free_words()) / 4;
+    let free = 64u64.saturating_sub(kept.saturating_mul(4));
     let right = right_cells(&heap, cells, &mut found, kept);
     expect(
         rt,
-        (is_traced, count, used, right),
-        (true, kept, kept, kept),
+        (is_traced, count, heap.free_words(), right),
+        (true, kept, free, kept),
         &"cells",
     );
     Ok(())

@@ -445,6 +445,7 @@ fn stores_and_blocks(rt: HostRuntime) {
             }
             None => expect(&rt, ended, Step::Trapped(2), &row),
         }
+        expect(&rt, regs.r, registers(*words).r, &row);
     }
 }
 

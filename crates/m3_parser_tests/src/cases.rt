@@ -11,7 +11,7 @@ pub struct Tally {
     pub differing: u32,
 }
 
-/// Tries each case of a file, and shows those that come out otherwise.
+/// Tries each case of a table, and shows those that come out otherwise.
 pub fn try_cases(rt: &(impl Print + AllocGlobal), name: &str, content: &str) -> io::Result<Tally> {
     let mut tally = Tally {
         cases: 0,
@@ -34,7 +34,7 @@ pub fn try_cases(rt: &(impl Print + AllocGlobal), name: &str, content: &str) -> 
     Ok(tally)
 }
 
-/// Takes a line of a file: a remark, the frame of the cases from here on, or a line of a text. What
+/// Takes a line of a table: a remark, the frame of the cases from here on, or a line of a text. What
 /// the text before it is to give is handed back. Empty lines before a text are no part of it.
 fn take_line<'s>(
     line: &'s str,

@@ -1,6 +1,5 @@
 /// What stands around the text of a case and around the tree that is expected of it, which begins
-/// with a space. The text has
-/// its own lines from line 2 on, unless it is the whole file.
+/// with a space. The text has its own lines from line 2 on, unless it is the whole file.
 #[derive(Clone, Copy)]
 pub struct Frame {
     pub before: &'static str,
