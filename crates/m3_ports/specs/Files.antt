@@ -67,3 +67,7 @@ pub record LeavesFront (old new : Files) (name bytes : List ℕ) : Type 0 where
 -- the files of a log of what was stored, the newest first
 abbrev pub files_of : List (List ℕ × List ℕ) → Files
 files_of log = from_entries log
+
+-- a store answers that it is done, that a write failed, or that memory ran out
+abbrev pub IsStoreAnswer : {T : Type 0} → Result T ShelfFault → Type 0
+IsStoreAnswer answer = (IsErrOf answer Absent → ⊥) × (IsErrOf answer TooLong → ⊥)

@@ -1,15 +1,17 @@
 ghost use Rattle.std.specs.Prelude.{◌≡◌, ◌≤◌, ℕ, ◌⊎◌, None, OnOk, IfSome, IsErrOf, is_some};
 ghost use Rattle.m3_ports.specs.Files.{Fetches, GrowsWithin, GrowsBy};
 
+use crate::replace::store_file;
 use crate::shelves::{Shelf, ShelfFault};
 use std::alloc::Global;
-use std::io::{ErrorKind, Read, Write};
+use std::fs;
+use std::io::{ErrorKind, Read};
 use std::marker::Model;
 use std::rt::Files;
-use std::{fs, io};
 
 /// The system's files, by their paths. It tells nothing of what they hold, and counts what goes
-/// wrong.
+/// wrong. A store that failed leaves an ordinary file as it was, and nothing where there was none,
+/// unless the folder lets nothing new in.
 #[derive(Drop)]
 pub struct FileShelf<'a, R> {
     rt: &'a R,
@@ -94,25 +96,6 @@ fn read_file<R: Files>(rt: &R, name: &str, cap: u64, into: &mut Vec<u8>) -> Resu
     }
 }
 
-/// Writes all of the bytes, or answers that a write failed.
-fn write_whole<F: Write>(file: &mut F, bytes: &[u8]) -> Result<(), ShelfFault>
-    ensures { IsErrOf result ShelfFault.Failed ⊎ (result ≡ Ok tt) }
-{
-    let mut rest = bytes;
-    for _turn in 0..u64::MAX {
-        if rest.is_empty() {
-            return Ok(());
-        }
-        match file.write(rest) {
-            Ok(0) => return Err(ShelfFault::Failed),
-            Ok(count) => rest = &rest[count..],
-            Err(e) if e.kind() == ErrorKind::Interrupted => {}
-            Err(_) => return Err(ShelfFault::Failed),
-        }
-    }
-    Err(ShelfFault::Failed)
-}
-
 impl<R: Files> Shelf for FileShelf<'_, R> {
     ghost held = { λ _. None };
 
@@ -141,12 +124,8 @@ impl<R: Files> Shelf for FileShelf<'_, R> {
         answer
     }
 
-    fn store(&mut self, _alloc: Global, name: &str, bytes: &[u8]) -> Result<(), ShelfFault> {
-        let answer = match fs::create(self.rt, name) {
-            Ok(mut file) => write_whole(&mut file, bytes),
-            Err(e) if e.kind() == ErrorKind::OutOfMemory => Err(ShelfFault::NoMemory),
-            Err(_) => Err(ShelfFault::Failed),
-        };
+    fn store(&mut self, alloc: Global, name: &str, bytes: &[u8]) -> Result<(), ShelfFault> {
+        let answer = store_file(self.rt, alloc, name, bytes);
         if answer == Err(ShelfFault::Failed) {
             self.store_faults = self.store_faults.saturating_add(1);
         }

@@ -5,6 +5,7 @@
 mod file_shelf;
 mod memory_shelf;
 mod memory_sink;
+mod replace;
 mod shelves;
 mod sinks;
 mod std_sink;

@@ -1,5 +1,8 @@
-use m3_ports::{MemShelf, MemSink, Shelf, ShelfFault, Sink, SinkFailed};
+use crate::small_disk::SmallDisk;
+use m3_ports::{FileShelf, MemShelf, MemSink, Shelf, ShelfFault, Sink, SinkFailed};
 use std::fmt::Debug;
+use std::fs;
+use std::os::unix::fs::symlink;
 use std::process::Abort;
 use std::test::Fail;
 
@@ -46,5 +49,36 @@ fn takes_output_in_memory(rt: HostRuntime) -> Result<(), Fail> {
     expect(&rt, 3, sink.put(b"cdef"), Err(SinkFailed));
     expect(&rt, 4, sink.put(b"cde"), Ok(()));
     expect(&rt, 4, sink.bytes(), b"abcde");
+    Ok(())
+}
+
+#[test]
+fn keeps_a_file_where_the_disk_is_full(rt: HostRuntime) -> Result<(), Fail> {
+    let alloc = rt.alloc();
+    let disk = SmallDisk {
+        files: &rt,
+        room: 4,
+    };
+    let mut shelf = FileShelf::new(&disk);
+    expect(&rt, 1, shelf.store(alloc, "a", b"old"), Ok(()));
+    symlink(&rt, "a", "link")?;
+    let failed = Err(ShelfFault::Failed);
+    expect(&rt, 2, shelf.store(alloc, "a", b"abcde"), failed);
+    expect(&rt, 3, shelf.store(alloc, "link", b"abcde"), failed);
+    expect(&rt, 4, shelf.store(alloc, "b", b"abcde"), failed);
+    let mut into = Vec::new(alloc);
+    expect(&rt, 5, shelf.fetch(alloc, "a", 9, &mut into), Ok(()));
+    expect(&rt, 6, shelf.store(alloc, "link", b"abcd"), Ok(()));
+    expect(&rt, 7, shelf.fetch(alloc, "a", 9, &mut into), Ok(()));
+    expect(&rt, 7, into.as_slice(), b"oldabcd");
+    for name in ["b", "a.new1", "b.new1", "link.new1"] {
+        expect(&rt, 8, fs::exists(&rt, name)?, false);
+    }
+    expect(
+        &rt,
+        9,
+        fs::symlink_metadata(&rt, "link")?.is_symlink(),
+        true,
+    );
     Ok(())
 }
