@@ -1,0 +1,12 @@
+pub mod Rows
+pub mod Choosing
+pub mod Serving
+pub mod Settling
+pub mod Lifting
+pub mod Once
+pub mod Courses
+pub mod Growing
+pub mod Composing
+pub mod Chosen
+pub mod Showing
+pub mod Longest
