@@ -1,0 +1,1 @@
+INTERFACE IntegerSort = ArraySort(IntegerItem) END IntegerSort.

@@ -1,0 +1,1 @@
+MODULE IntegerSort = ArraySort(IntegerItem) END IntegerSort.

@@ -1,0 +1,1 @@
+INTERFACE TextSort = ArraySort(TextItem) END TextSort.

@@ -1,0 +1,1 @@
+MODULE TextSort = ArraySort(TextItem) END TextSort.

@@ -1,0 +1,1 @@
+INTERFACE TextToInteger = HashTable(TextItem, IntegerItem) END TextToInteger.

@@ -1,0 +1,1 @@
+MODULE TextToInteger = HashTable(TextItem, IntegerItem) END TextToInteger.

@@ -1,0 +1,1 @@
+INTERFACE TallySort = ArraySort(Tally) END TallySort.

@@ -1,0 +1,1 @@
+MODULE TallySort = ArraySort(Tally) END TallySort.

@@ -1,0 +1,1 @@
+INTERFACE RunnerSort = ArraySort(Runner) END RunnerSort.

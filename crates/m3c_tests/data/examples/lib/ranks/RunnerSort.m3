@@ -1,0 +1,1 @@
+MODULE RunnerSort = ArraySort(Runner) END RunnerSort.
