@@ -18,7 +18,7 @@ pub(crate) struct Needs {
 }
 
 /// An operation of a block that needs no code.
-#[derive(Clone, Copy, Debug, PartialEq, Eq)]
+#[derive(Clone, Copy, PartialEq, Eq)]
 pub struct Idle {
     pub block: u32,
     pub op: u32,

@@ -1,7 +1,7 @@
 use crate::refusals::{Refusal, Refused};
 
 /// The least of the refusals that were noted so far.
-#[derive(Clone, Copy, Debug)]
+#[derive(Clone, Copy)]
 pub struct Least {
     noted: Option<Refusal>,
 }

@@ -7,7 +7,7 @@ mod memory;
 mod outcomes;
 mod places;
 mod refusals;
-mod rules;
+pub mod rules;
 mod schedules;
 
 pub use byte_list::Bytes;

@@ -3,7 +3,7 @@ ghost use Rattle.m3_base.specs.Faults.{number_of_fault, name_of_fault};
 
 /// What a run may do and use: the points that it may pass, the words of one half of the heap, the
 /// words of each thread's stack, and how many threads may not have ended.
-#[derive(Clone, Copy, Debug, PartialEq, Eq)]
+#[derive(Clone, Copy, PartialEq, Eq)]
 pub struct Options {
     pub points: u64,
     pub heap: u64,
@@ -21,7 +21,7 @@ pub struct Entry {
 
 /// The checked run-time errors of Modula-3 (the report's sections on expressions and statements),
 /// and those of the threads interface.
-#[derive(Clone, Copy, Debug, PartialEq, Eq)]
+#[derive(Clone, Copy, PartialEq, Eq)]
 pub enum FaultKind {
     Overflow,
     DivZero,
@@ -52,7 +52,7 @@ impl FaultKind {
 
 /// How a run ended. A fault carries the numbers of its file and its line, an exception that nobody
 /// handled its number, and a trap its own.
-#[derive(Clone, Copy, Debug, PartialEq, Eq)]
+#[derive(Clone, Copy, PartialEq, Eq)]
 pub enum Outcome {
     Done,
     Fault(FaultKind, u32, u32),

@@ -8,7 +8,7 @@ pub struct Pos {
 }
 
 /// A source file: its name and its bytes.
-#[derive(Clone, Copy, Debug)]
+#[derive(Clone, Copy)]
 pub struct Source<'a> {
     pub name: &'a [u8],
     pub text: &'a [u8],

@@ -8,10 +8,12 @@ use bumpalo::collections::into_bump_slice;
 use m3_base::{NoMemory, gap};
 use m3_core::Core;
 use m3_emit::Places;
-use m3_image_drafts::{judged_image, table_section};
-use m3_image_parts::{Constants, exception_names, global_part, place_part, type_parts, var_parts};
+use m3_gen_parts::{
+    Constants, exception_names, global_part, judged_image, place_part, table_section, type_parts,
+    var_parts,
+};
 use m3_image_writer::ImageParts;
-use m3_storage::Storage;
+use m3_lower_storage::Storage;
 use std::alloc::Global;
 
 /// The image of a checked program, of version 2 (docs/MACHINE.md). The program stands in the arena,

@@ -1,158 +1,173 @@
-// From what a module puts to instructions.
-
-ghost use Rattle.std.specs.Prelude.{◌≡◌, ◌≤◌, ◌<◌, ◌+◌, ◌*◌, ◌^◌, ◌++◌, [], ◌∷◌, pos, length};
-ghost use Rattle.std.specs.Prelude.{vec_len, IsTrue, IfOk, OnOk};
-ghost use Rattle.m3_base.specs.Integers.{is_integer};
-ghost use Rattle.m3_build.specs.Terms.{AreIntegers, term_of, terms_of, nodes, all_nodes};
-ghost use Rattle.m3_build.specs.Code.{on_first, term_code, term_lines, apply_code, number_code};
-ghost use Rattle.m3_build.specs.Code.{code_size, operators};
-ghost use Rattle.m3_build.specs.Machine.{Puts};
-
-use crate::plain::{Arith, Plain};
-use m3_base::{FaultKind, NoMemory};
+use bumpalo::Bump;
+use m3_alloc::allocate;
+use m3_base::{NoMemory, place_number};
+use m3_core::Core;
+use m3_derive::derive;
+use m3_emit::{Links, Part, Places, SpanPart, emit};
+use m3_gen_parts::Constants;
+use m3_image_sections::ProcPart;
 use m3_isa::{Instr, Op};
+use m3_lower_stmt::lower_proc;
+use m3_lower_storage::Storage;
+use m3_tables::Location;
+use m3_tables_writer::RowPlain;
 use std::alloc::Global;
 
-// The first word of the frame that keeps a left operand; those before it are the call's.
-const FIRST_OPERAND: u32 = 3;
-
-/// The code of a module of the plain form, and the line of each place that a FAULT names.
+/// The code of an image with its procedures, the rows of its points, and where variables are at
+/// them.
 #[derive(Drop)]
-pub struct PlainCode {
+pub struct Code {
     pub code: Vec<Instr>,
-    pub lines: Vec<u32>,
+    pub procs: Vec<ProcPart>,
+    pub rows: Vec<RowPlain>,
+    /// For each procedure of the program, in order, what is shown.
+    pub spans: Vec<Vec<SpanPart>>,
 }
 
-/// The code that puts these numbers in order. Its run ends, and never with a trap.
-pub fn build_plain(alloc: Global, puts: &[Plain]) -> Result<PlainCode, NoMemory>
-    requires { all_nodes (terms_of puts.now) ≤ 2000 }
-    ensures { IfOk result (λ built. Puts (terms_of puts.now) built.code.items built.lines.items) }
-{
-    let mut built = PlainCode {
-        code: Vec::new(alloc),
-        lines: Vec::new(alloc),
-    };
-    emit(&mut built.code, instruction(Op::Point, 0))?;
-    for put in puts {
-        emit_term(&mut built, put, 0)?;
-        emit(&mut built.code, instruction(Op::Putn, 0))?;
-    }
-    emit(&mut built.code, instruction(Op::Endp, 0))?;
-    Ok(built)
-}
-
-// Adds the code of a term, whose operands that wait stand from this depth on.
-fn emit_term(built: &mut PlainCode, term: &Plain, depth: u32) -> Result<(), NoMemory>
-    requires size { vec_len built.old.code + code_size (term_of term.now) ≤ 2 ^ 20 }
-    requires places { vec_len built.old.lines + operators (term_of term.now) ≤ 2 ^ 20 }
-    requires depth { depth + nodes (term_of term.now) ≤ 2 ^ 20 }
-    ensures code { OnOk result (built.new.code.items ≡ built.old.code.items
-        ++ term_code (vec_len built.old.code) (vec_len built.old.lines) depth (term_of term.now)) }
-    ensures lines { OnOk result (built.new.lines.items
-        ≡ built.old.lines.items ++ term_lines (term_of term.now)) }
-    ensures code_len { OnOk result (vec_len built.new.code
-        ≡ vec_len built.old.code + code_size (term_of term.now)) }
-    ensures lines_len { OnOk result (vec_len built.new.lines
-        ≡ vec_len built.old.lines + operators (term_of term.now)) }
-    ensures integers { OnOk result (AreIntegers (term_of term.now)) }
-{
-    match term {
-        Plain::Number(n) => emit_number(&mut built.code, *n),
-        Plain::Apply(op, line, a, b) => {
-            emit_term(built, a, depth)?;
-            emit(&mut built.code, instruction(Op::Sts, FIRST_OPERAND + depth))?;
-            emit_term(built, b, depth + 1)?;
-            emit_operation(built, *op, *line, depth)
-        }
-    }
-}
-
-// Adds what brings a number into register 0, half by half.
-fn emit_number(code: &mut Vec<Instr>, n: i64) -> Result<(), NoMemory>
-    ensures code { OnOk result (code.new.items ≡ code.old.items ++ number_code n) }
-    ensures code_len { OnOk result (vec_len code.new ≡ vec_len code.old + 2) }
-    ensures integer { IsTrue (is_integer n) }
-{
-    let word = n.cast_unsigned();
-    let low = (word % (1 << 32)) as u32;
-    let high = (word / (1 << 32)) as u32;
-    emit(
-        code,
-        Instr {
-            op: Op::Li,
-            a: 0,
-            b: 0,
-            c: 0,
-            imm: low.cast_signed(),
-        },
-    )?;
-    emit(
-        code,
-        Instr {
-            op: Op::Lih,
-            a: 0,
-            b: 0,
-            c: 0,
-            imm: high.cast_signed(),
-        },
-    )
-}
-
-// Adds an operation on the operand of this depth and the one in register 0, with its fault.
-fn emit_operation(built: &mut PlainCode, op: Arith, line: u32, depth: u32) -> Result<(), NoMemory>
-    requires size { vec_len built.old.code < 2 ^ 21 }
-    requires places { vec_len built.old.lines < 2 ^ 21 }
-    requires depth { depth < 2 ^ 21 }
-    ensures code { OnOk result (built.new.code.items ≡ built.old.code.items
-        ++ apply_code op depth (vec_len built.old.code) (vec_len built.old.lines)) }
-    ensures lines { OnOk result (built.new.lines.items ≡ built.old.lines.items ++ line ∷ []) }
-    ensures code_len { OnOk result (vec_len built.new.code ≡ vec_len built.old.code + 4) }
-    ensures lines_len { OnOk result (vec_len built.new.lines ≡ vec_len built.old.lines + 1) }
-{
-    let at = built.code.len() as u32;
-    let place = built.lines.len() as u32;
-    let op = match op {
-        Arith::Add => Op::Addo,
-        Arith::Sub => Op::Subo,
-        Arith::Mul => Op::Mulo,
-    };
-    built.lines.push(line)?;
-    emit(
-        &mut built.code,
-        Instr {
-            a: 1,
-            ..instruction(Op::Lds, FIRST_OPERAND + depth)
-        },
-    )?;
-    emit(
-        &mut built.code,
-        Instr {
-            b: 1,
-            ..instruction(op, at + 3)
-        },
-    )?;
-    emit(&mut built.code, instruction(Op::Jmp, at + 4))?;
-    emit(&mut built.code, instruction(Op::Fault, place))
-}
-
-// An instruction of register 0, where it has one, and a number.
-fn instruction(op: Op, number: u32) -> Instr
-    requires { number < 2 ^ 31 }
-    ensures { result ≡ on_first op (pos number) }
-{
+fn instr(op: Op, a: u8, b: u8, imm: i32) -> Instr {
     Instr {
         op,
-        a: 0,
-        b: 0,
+        a,
+        b,
         c: 0,
-        imm: number as i32,
+        imm,
     }
 }
 
-fn emit(code: &mut Vec<Instr>, instruction: Instr) -> Result<(), NoMemory>
-    ensures code { OnOk result (code.new.items ≡ code.old.items ++ instruction ∷ []) }
-    ensures code_len { OnOk result (vec_len code.new ≡ vec_len code.old + 1) }
-{
-    code.push(instruction)?;
-    Ok(())
+fn target(number: u32) -> i32 {
+    i32::try_from(number).unwrap_or(i32::MAX)
+}
+
+fn empty_row(alloc: Global, instr: u32) -> RowPlain {
+    RowPlain {
+        instr,
+        tidy: Vec::new(alloc),
+        arguments: Vec::new(alloc),
+        passed: Vec::new(alloc),
+        derived: Vec::new(alloc),
+    }
+}
+
+impl Code {
+    fn new(alloc: Global) -> Code {
+        Code {
+            code: Vec::new(alloc),
+            procs: Vec::new(alloc),
+            rows: Vec::new(alloc),
+            spans: Vec::new(alloc),
+        }
+    }
+
+    fn next(&self) -> Result<u32, NoMemory> {
+        place_number(self.code.len())
+    }
+
+    /// Ends a procedure that began at an instruction.
+    fn close(&mut self, first: u32, body: u32, frame: u32) -> Result<(), NoMemory> {
+        let count = self.next()?.saturating_sub(first);
+        self.procs.push(ProcPart {
+            first,
+            count,
+            body,
+            frame,
+        })?;
+        Ok(())
+    }
+
+    /// Procedure 0: calls the module bodies in order, and ends the program. A body that is left by
+    /// an exception ends it as uncaught.
+    fn add_start(&mut self, alloc: Global, order: &[u32]) -> Result<(), NoMemory> {
+        let uncaught = place_number(order.len().saturating_mul(2).saturating_add(1))?;
+        for number in order {
+            let at = self.next()?;
+            self.rows.push(empty_row(alloc, at))?;
+            let callee = target(number.saturating_add(2));
+            self.code.push(instr(Op::Call, 0, 0, callee))?;
+            self.code.push(instr(Op::Bnz, 1, 0, target(uncaught)))?;
+        }
+        self.code.push(instr(Op::Endp, 0, 0, 0))?;
+        self.code.push(instr(Op::Addi, 1, 1, -1))?;
+        self.code.push(instr(Op::Unc, 1, 0, 0))?;
+        self.close(0, 3, 3)
+    }
+
+    /// Procedure 1: a new thread calls `apply` of its closure, and ends with what that gives. Word
+    /// 2 of its frame is the thread's cell.
+    fn add_thread(&mut self, alloc: Global) -> Result<(), NoMemory> {
+        let first = self.next()?;
+        let mut row = empty_row(alloc, first);
+        row.tidy.push(Location::Slot(2))?;
+        row.arguments.push(Location::Slot(6))?;
+        self.rows.push(row)?;
+        self.code.push(instr(Op::Callm, 0, 0, 0))?;
+        self.code.push(instr(Op::Endt, 0, 0, 0))?;
+        self.close(first, 3, 7)
+    }
+
+    /// Adds a procedure behind those that are there.
+    fn add_proc(&mut self, proc: Compiled) -> Result<(), NoMemory> {
+        let Compiled {
+            mut part,
+            body,
+            frame,
+        } = proc;
+        let first = self.next()?;
+        part.move_by(first);
+        let Part { code, rows, spans } = part;
+        self.code.extend_from_slice(&code)?;
+        for row in rows {
+            self.rows.push(row)?;
+        }
+        self.spans.push(spans)?;
+        self.close(first, body, frame)
+    }
+}
+
+/// The code of a procedure, and the words of its frame up to the next one and in all.
+#[derive(Drop)]
+struct Compiled {
+    part: Part,
+    body: u32,
+    frame: u32,
+}
+
+fn compile<'s>(
+    alloc: Global,
+    core: &Core,
+    storage: &'s Storage<'s>,
+    constants: &Constants,
+    places: &mut Places,
+    number: u32,
+) -> Result<Compiled, NoMemory> {
+    let arena = Bump::new(alloc);
+    let proc = lower_proc(alloc, &arena, core, storage, number)?;
+    let derived = derive(alloc, &arena, &proc)?;
+    let placed = allocate(alloc, &derived)?;
+    let links = Links {
+        constants: constants.values.as_slice(),
+        texts: constants.texts.as_slice(),
+    };
+    Ok(Compiled {
+        part: emit(alloc, &placed, links, places)?,
+        body: placed.body,
+        frame: placed.frame,
+    })
+}
+
+/// The code of all procedures of a program.
+pub fn code_of<'s>(
+    alloc: Global,
+    core: &Core,
+    storage: &'s Storage<'s>,
+    constants: &Constants,
+    places: &mut Places,
+) -> Result<Code, NoMemory> {
+    let mut code = Code::new(alloc);
+    code.add_start(alloc, core.order)?;
+    code.add_thread(alloc)?;
+    for number in 0..core.procs.len() {
+        let number = place_number(number)?;
+        code.add_proc(compile(alloc, core, storage, constants, places, number)?)?;
+    }
+    Ok(code)
 }

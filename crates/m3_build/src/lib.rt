@@ -1,14 +1,8 @@
-//! From a text to code. For now the texts are those of the plain form: modules whose body prints
-//! whole numbers.
+//! The image of a checked program: its procedures lowered, with rows and places, and all its
+//! sections.
 #![tactic(auto)]
 
+mod building;
 mod code;
-mod lexing;
-mod parsing;
-mod plain;
-mod reading;
-mod tokens;
 
-pub use code::{PlainCode, build_plain};
-pub use plain::{Arith, Plain, PlainRefused};
-pub use reading::read_plain;
+pub use building::build;

@@ -1,10 +1,9 @@
 use crate::given::{built, integer_given, ordinal_given, type_given};
-use m3_assigning::{value_given, with_check};
-use m3_base::{NoMemory, Pos};
-use m3_chains::{finished, is_writable};
+use m3_base::{NoMemory, Pos, rules};
+use m3_check_assigning::{finished, is_writable, value_given, with_check};
+use m3_check_state::{Change, Checker, Given, Thing, Valued};
+use m3_check_types::{are_same, base_of, is_ordinal, share_base};
 use m3_core::{BuiltinCall, Chain, Conversion, CoreExpr, Prefix, PrefixOperator, Routine};
-use m3_operand_types::{are_same, base_of, is_ordinal, share_base};
-use m3_operands::{Change, Checker, Given, Thing, Valued};
 use m3_types::TypeId;
 
 /// ABS of an integer (rule 68).
@@ -72,10 +71,10 @@ pub fn extreme<'a>(
         return Ok(Thing::Bad);
     };
     if !is_ordinal(checker, left.kind) {
-        return Ok(checker.bad(first.pos, 68));
+        return Ok(checker.bad(first.pos, rules::BAD_BUILT_IN_ARGUMENT));
     }
     if !share_base(checker, left.kind, right.kind)? {
-        return Ok(checker.bad(second.pos, 68));
+        return Ok(checker.bad(second.pos, rules::BAD_BUILT_IN_ARGUMENT));
     }
     let kind = if are_same(checker, left.kind, right.kind)? {
         left.kind
@@ -115,7 +114,7 @@ pub fn val<'a>(
         return Ok(Thing::Bad);
     };
     if !is_ordinal(checker, kind) {
-        return Ok(checker.bad(second.pos, 68));
+        return Ok(checker.bad(second.pos, rules::BAD_BUILT_IN_ARGUMENT));
     }
     let base = base_of(checker, kind);
     let Thing::Value(value) = computed(checker, pos, Routine::Val, &[*value.core()], base)? else {
@@ -163,7 +162,7 @@ fn target_of<'a>(
         return Ok(None);
     };
     if !is_ordinal(checker, draft.kind) {
-        checker.note(first.pos, 68);
+        checker.note(first.pos, rules::BAD_BUILT_IN_ARGUMENT);
         return Ok(None);
     }
     Ok(Some(finished(checker, &draft, Some(draft.kind))?))

@@ -1,7 +1,7 @@
-use m3_base::NoMemory;
+use m3_base::{NoMemory, rules};
+use m3_check_state::{Checker, Given, Thing, Valued};
+use m3_check_types::{is_integer, is_ordinal};
 use m3_core::{BuiltinCall, CoreExpr};
-use m3_operand_types::{is_integer, is_ordinal};
-use m3_operands::{Checker, Given, Thing, Valued};
 use m3_types::TypeId;
 
 /// A call of a routine as an operand.
@@ -19,7 +19,7 @@ pub fn type_given<'a>(checker: &mut Checker<'_, 'a>, given: &Given<'a>) -> Optio
         Thing::Type(kind) => Some(kind),
         Thing::Bad => None,
         _ => {
-            checker.note(given.pos, 60);
+            checker.note(given.pos, rules::TYPE_EXPECTED);
             None
         }
     }
@@ -35,7 +35,7 @@ pub fn integer_given<'a>(
     if is_integer(checker, value.kind) {
         Some(value)
     } else {
-        checker.note(given.pos, 68);
+        checker.note(given.pos, rules::BAD_BUILT_IN_ARGUMENT);
         None
     }
 }
@@ -50,7 +50,7 @@ pub fn ordinal_given<'a>(
     if is_ordinal(checker, value.kind) {
         Some(value)
     } else {
-        checker.note(given.pos, 68);
+        checker.note(given.pos, rules::BAD_BUILT_IN_ARGUMENT);
         None
     }
 }

@@ -1,10 +1,10 @@
-use m3_base::{NoMemory, Pos};
-use m3_chains::value_of;
+use crate::chains::value_of;
+use m3_base::{NoMemory, Pos, rules};
+use m3_check_state::{Checker, Given, Thing, Valued};
+use m3_check_types::{assignability, fits, is_array, is_ordinal, is_procedure};
 use m3_core::{Conversion, CoreExpr};
-use m3_operand_types::{assignability, fits, is_array, is_ordinal, is_procedure};
-use m3_operands::{Checker, Given, Thing, Valued};
-use m3_subtype::Assign;
 use m3_types::TypeId;
+use m3_types_subtype::Assign;
 
 /// A value as one of a type that it is assignable to, with the check that this needs.
 pub fn converted<'a>(
@@ -76,13 +76,13 @@ pub fn assigned<'a>(
     to: TypeId,
 ) -> Result<Option<Valued<'a>>, NoMemory> {
     if let Some(pos) = given.inner {
-        checker.note(pos, 67);
+        checker.note(pos, rules::NESTED_PROCEDURE_ASSIGNED);
     }
     let Some(value) = value_of(checker, given.pos, &given.thing)? else {
         return Ok(None);
     };
     if !fits(checker, value.kind, to)? {
-        checker.note(given.pos, 51);
+        checker.note(given.pos, rules::NOT_ASSIGNABLE);
         return Ok(None);
     }
     if value.may_be_inner && is_procedure(checker, value.kind) {

@@ -1,7 +1,7 @@
 use bumpalo::collections::into_bump_slice;
-use m3_base::{NoMemory, Pos};
+use m3_base::{NoMemory, Pos, rules};
+use m3_check_state::{Checker, Draft, State, Thing, Valued};
 use m3_core::{Base, Chain, CoreExpr, Step};
-use m3_operands::{Checker, Draft, State, Thing, Valued};
 use m3_types::TypeId;
 
 /// A chain that begins here.
@@ -194,19 +194,19 @@ pub fn value_of<'a>(
         Thing::Value(value) => Ok(Some(*value)),
         Thing::Chain(draft) => Ok(Some(value_of_chain(checker, draft)?)),
         Thing::Call(draft) => {
-            checker.note(draft.pos, 61);
+            checker.note(draft.pos, rules::VALUE_EXPECTED);
             Ok(None)
         }
         Thing::Builtin(call) => {
-            checker.note(call.pos, 61);
+            checker.note(call.pos, rules::VALUE_EXPECTED);
             Ok(None)
         }
         Thing::Change(change) => {
-            checker.note(change.pos, 61);
+            checker.note(change.pos, rules::VALUE_EXPECTED);
             Ok(None)
         }
         _ => {
-            checker.note(pos, 61);
+            checker.note(pos, rules::VALUE_EXPECTED);
             Ok(None)
         }
     }
@@ -258,9 +258,9 @@ pub fn is_writable<'a>(checker: &mut Checker<'_, 'a>, pos: Pos, thing: &Thing<'a
         _ => (false, false),
     };
     if !is_designator {
-        checker.note(pos, 52);
+        checker.note(pos, rules::NOT_A_DESIGNATOR);
     } else if !is_writable {
-        checker.note(pos, 53);
+        checker.note(pos, rules::NOT_WRITABLE);
     }
     is_designator && is_writable
 }

@@ -1,14 +1,13 @@
 use bumpalo::Bump;
 use bumpalo::collections::into_bump_slice;
-use m3_assigning::{assigned, value_given};
-use m3_base::{NoMemory, Pos};
-use m3_calls::call;
-use m3_chains::{finished, is_writable, value_of};
+use m3_base::{NoMemory, Pos, rules};
+use m3_check_assigning::{assigned, finished, is_writable, value_given, value_of};
+use m3_check_calls::call;
+use m3_check_names::thing_named;
+use m3_check_state::{Change, Checker, Thing, Valued};
+use m3_check_types::is_open;
 use m3_core::{Chain, Conversion, CoreExpr, CoreStmt};
 use m3_exprs::{call_actuals, expression, given, operand};
-use m3_operand_names::thing_named;
-use m3_operand_types::is_open;
-use m3_operands::{Change, Checker, Thing, Valued};
 use m3_syntax::{Actual, Decl, Expr, Init, VarDecl};
 use m3_types::TypeId;
 
@@ -24,7 +23,7 @@ pub fn assign<'a>(
     let value = given(checker, value)?;
     let Some((target, kind)) = place else {
         if let Some(inner) = value.inner {
-            checker.note(inner, 67);
+            checker.note(inner, rules::NESTED_PROCEDURE_ASSIGNED);
         }
         value_given(checker, &value)?;
         return Ok(None);
@@ -186,7 +185,7 @@ pub fn call_statement<'a>(
         Thing::Builtin(call) => Ok(Some(CoreStmt::Builtin { pos, call: &**call })),
         Thing::Change(change) => Ok(Some(change_statement(&change))),
         _ => {
-            checker.note(pos, 70);
+            checker.note(pos, rules::RESULT_UNUSED);
             Ok(None)
         }
     }
@@ -209,7 +208,7 @@ pub fn eval<'a>(
 ) -> Result<Option<CoreStmt<'a>>, NoMemory> {
     let thing = operand(checker, value)?;
     if let Thing::Call(_) | Thing::Builtin(_) | Thing::Change(_) = thing {
-        checker.note(pos, 82);
+        checker.note(pos, rules::EVAL_WITHOUT_VALUE);
         return Ok(None);
     }
     match value_of(checker, value.pos(), &thing)? {
@@ -230,13 +229,13 @@ pub fn give_back<'a>(
 ) -> Result<Option<CoreStmt<'a>>, NoMemory> {
     let Some(value) = value else {
         if due.is_some() {
-            checker.note(pos, 72);
+            checker.note(pos, rules::BAD_RETURN);
             return Ok(None);
         }
         return Ok(Some(CoreStmt::Return { pos, value: None }));
     };
     let Some(due) = due else {
-        checker.note(pos, 72);
+        checker.note(pos, rules::BAD_RETURN);
         expression(checker, value)?;
         return Ok(None);
     };

@@ -1,10 +1,10 @@
 use bumpalo::collections::into_bump_slice;
 use m3_base::NoMemory;
-use m3_bodies::{Body, NewVariable};
-use m3_chains::{finished, value_of};
+use m3_check_assigning::{finished, value_of};
+use m3_check_bodies::{Body, NewVariable};
+use m3_check_state::{Checker, State, Thing};
 use m3_core::{Bound, Role, VarKind, WithBinding};
 use m3_exprs::operand;
-use m3_operands::{Checker, State, Thing};
 use m3_syntax::{Binding, Expr, Name};
 
 /// What a name is bound to, and how it stands for it.

@@ -1,11 +1,11 @@
 use crate::bindings::{Target, bind, target_of};
-use m3_base::{NoMemory, Pos};
-use m3_bodies::Body;
+use m3_base::{NoMemory, Pos, rules};
+use m3_check_bodies::Body;
+use m3_check_state::Checker;
+use m3_check_types::is_subtype;
 use m3_core::{
     Base, BuiltinCall, Chain, CoreExpr, CoreStmt, Role, Routine, Step, VarKind, WithBinding,
 };
-use m3_operand_types::is_subtype;
-use m3_operands::Checker;
 use m3_syntax::{Expr, Name};
 use m3_types::TypeId;
 
@@ -29,7 +29,7 @@ pub fn hide<'a>(
     };
     let kind = kind_of(&target);
     if !is_subtype(checker, kind, checker.declared.basic.mutex)? {
-        checker.note(at, 77);
+        checker.note(at, rules::NOT_A_MUTEX);
     }
     let name = Name { text: b"", pos };
     let binding = bind(checker, body, name, Role::Lock, &target)?;

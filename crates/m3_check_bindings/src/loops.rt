@@ -1,9 +1,9 @@
-use m3_base::{NoMemory, Pos};
-use m3_bodies::{Body, bound_variable};
+use m3_base::{NoMemory, Pos, rules};
+use m3_check_bodies::{Body, bound_variable};
+use m3_check_state::{Checker, Valued};
+use m3_check_types::{base_of, is_integer, share_base};
 use m3_core::{CoreExpr, Role};
 use m3_exprs::expression;
-use m3_operand_types::{base_of, is_integer, share_base};
-use m3_operands::{Checker, Valued};
 use m3_syntax::{Expr, Name, Stmt};
 use m3_types::TypeId;
 
@@ -69,7 +69,7 @@ fn variable_kind<'a>(
     if share_base(checker, first.kind, last.kind)? {
         Ok(Some(base_of(checker, first.kind)))
     } else {
-        checker.note(pos, 75);
+        checker.note(pos, rules::BAD_FOR_BOUNDS);
         Ok(None)
     }
 }
@@ -90,7 +90,7 @@ fn step_of<'a>(
     if is_integer(checker, found.kind) {
         Ok(Some(Some(found.core())))
     } else {
-        checker.note(pos, 75);
+        checker.note(pos, rules::BAD_FOR_BOUNDS);
         Ok(None)
     }
 }

@@ -1,7 +1,7 @@
 use bumpalo::Bump;
 use m3_base::{NoMemory, place_number};
+use m3_check_state::{Checker, Held, Variable};
 use m3_core::{Role, VarDef, VarKind};
-use m3_operands::{Checker, Held, Variable};
 use m3_syntax::Name;
 use m3_types::TypeId;
 

@@ -1,8 +1,8 @@
 use crate::bodies::Body;
 use bumpalo::collections::into_bump_slice;
 use m3_base::{NoMemory, Pos};
+use m3_check_state::Checker;
 use m3_core::{CoreStmt, ProcDef};
-use m3_operands::Checker;
 use m3_syntax::Name;
 use m3_types::{Raises, TypeId, TypeNode};
 

@@ -2,9 +2,9 @@ use crate::bodies::{Body, NewVariable};
 use bumpalo::Bump;
 use bumpalo::collections::into_bump_slice;
 use m3_base::NoMemory;
+use m3_check_state::Checker;
+use m3_check_types::formals_of;
 use m3_core::{Role, VarKind};
-use m3_members::formals_of;
-use m3_operands::Checker;
 use m3_syntax::{Decl, Formal, Mode, Name, Signature, VarDecl};
 use m3_types::TypeId;
 

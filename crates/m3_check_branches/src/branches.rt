@@ -1,11 +1,11 @@
 use bumpalo::collections::into_bump_slice;
-use m3_base::{NoMemory, Pos};
-use m3_bodies::{Body, bound_variable};
+use m3_base::{NoMemory, Pos, rules};
+use m3_check_bodies::{Body, bound_variable};
+use m3_check_names::type_of;
+use m3_check_state::{Checker, Valued};
+use m3_check_types::{is_reference, is_subtype};
 use m3_core::Role;
-use m3_operand_types::{is_reference, is_subtype};
-use m3_operands::{Checker, Valued};
 use m3_syntax::{Name, TypeExp};
-use m3_type_names::type_of;
 use m3_types::TypeId;
 
 /// The types of a branch that were not refused.
@@ -34,7 +34,7 @@ fn judge_type<'a>(
         return Ok(());
     };
     if !is_reference(checker, value.kind) || !is_subtype(checker, kind, value.kind)? {
-        checker.note(pos, 81);
+        checker.note(pos, rules::BAD_TYPECASE_TYPE);
     }
     Ok(())
 }

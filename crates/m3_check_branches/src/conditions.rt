@@ -1,8 +1,8 @@
-use m3_base::NoMemory;
+use m3_base::{NoMemory, rules};
+use m3_check_state::Checker;
+use m3_check_types::is_boolean;
 use m3_core::CoreExpr;
 use m3_exprs::expression;
-use m3_operand_types::is_boolean;
-use m3_operands::Checker;
 use m3_syntax::Expr;
 
 /// A condition, which is BOOLEAN (rule 76).
@@ -15,7 +15,7 @@ pub fn condition<'a>(
         return Ok(None);
     };
     if !is_boolean(checker, found.kind) {
-        checker.note(value.pos(), 76);
+        checker.note(value.pos(), rules::CONDITION_NOT_BOOLEAN);
         return Ok(None);
     }
     Ok(Some(found.core()))

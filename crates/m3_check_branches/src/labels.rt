@@ -1,9 +1,9 @@
 use bumpalo::collections::into_bump_slice;
-use m3_base::NoMemory;
+use m3_base::{NoMemory, rules};
+use m3_check_state::{Checker, Valued};
+use m3_check_types::share_base;
 use m3_core::{LabelRange, Value};
 use m3_exprs::expression;
-use m3_operand_types::share_base;
-use m3_operands::{Checker, Valued};
 use m3_syntax::{CaseBranch, Expr, Label};
 use std::collections::BTreeMap;
 
@@ -11,7 +11,7 @@ use std::collections::BTreeMap;
 type Labels = BTreeMap<i64, i64>;
 
 /// What a bound of a label is.
-#[derive(Clone, Copy, Debug)]
+#[derive(Clone, Copy)]
 enum Found {
     /// Something in it, or the value of the CASE, was refused.
     Refused,
@@ -84,12 +84,12 @@ fn label_range<'a>(
     match (first, last) {
         (Found::Number(first), Found::Number(last)) => {
             if !take(labels, first, last)? {
-                checker.note(label.first.pos(), 74);
+                checker.note(label.first.pos(), rules::LABELS_OVERLAP);
             }
             Ok(Some(LabelRange { first, last }))
         }
         (Found::Wrong, _) | (Found::Number(_), Found::Wrong) => {
-            checker.note(label.first.pos(), 73);
+            checker.note(label.first.pos(), rules::BAD_CASE_LABEL);
             Ok(None)
         }
         _ => Ok(None),

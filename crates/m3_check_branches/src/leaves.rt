@@ -1,9 +1,9 @@
 use crate::raises::raise;
-use m3_assignments::{assign, call_statement, eval, give_back};
-use m3_base::NoMemory;
-use m3_bodies::Body;
+use m3_base::{NoMemory, rules};
+use m3_check_assignments::{assign, call_statement, eval, give_back};
+use m3_check_bodies::Body;
+use m3_check_state::Checker;
 use m3_core::CoreStmt;
-use m3_operands::Checker;
 use m3_syntax::Stmt;
 
 /// A statement without statements in it.
@@ -29,7 +29,7 @@ pub fn simple<'a>(
         } => raise(checker, *pos, exception, *argument),
         Stmt::Exit { pos } => {
             if body.loops == 0 {
-                checker.note(*pos, 71);
+                checker.note(*pos, rules::EXIT_OUTSIDE_LOOP);
             }
             Ok(Some(CoreStmt::Exit { pos: *pos }))
         }

@@ -1,14 +1,14 @@
 use bumpalo::collections::into_bump_slice;
-use m3_assigning::converted;
-use m3_base::{NoMemory, Pos};
-use m3_bodies::{Body, bound_variable};
+use m3_base::{NoMemory, Pos, rules};
+use m3_check_assigning::converted;
+use m3_check_bodies::{Body, bound_variable};
+use m3_check_names::entity_named;
+use m3_check_state::Checker;
+use m3_check_types::{are_same, fits};
 use m3_core::{CoreExpr, CoreStmt, Role};
 use m3_exprs::expression;
-use m3_operand_types::{are_same, fits};
-use m3_operands::Checker;
-use m3_scopes::{EntityId, EntityKind};
+use m3_link_scopes::{EntityId, EntityKind};
 use m3_syntax::{Expr, Name, Qualid};
-use m3_type_names::entity_named;
 use m3_types::TypeId;
 
 /// The exception that a name stands for (rule 78).
@@ -25,7 +25,7 @@ fn exception<'a>(checker: &mut Checker<'_, 'a>, name: &Qualid<'a>) -> Option<Ent
         Some(EntityKind::Exception) => id,
         Some(EntityKind::Unknown) => None,
         _ => {
-            checker.note(name.first.pos, 78);
+            checker.note(name.first.pos, rules::NOT_AN_EXCEPTION);
             None
         }
     }
@@ -67,14 +67,14 @@ fn argument_of<'a>(
     let kind = checker.declared.kind_of(id);
     let Some(argument) = argument else {
         if kind.is_some() {
-            checker.note(pos, 79);
+            checker.note(pos, rules::BAD_EXCEPTION_ARGUMENT);
             return Ok(None);
         }
         return Ok(Some(None));
     };
     let Some(value) = expression(checker, argument)? else {
         if kind.is_none() {
-            checker.note(argument.pos(), 79);
+            checker.note(argument.pos(), rules::BAD_EXCEPTION_ARGUMENT);
         }
         return Ok(None);
     };
@@ -83,7 +83,7 @@ fn argument_of<'a>(
             Ok(Some(Some(converted(checker, &value, kind)?.core())))
         }
         _ => {
-            checker.note(argument.pos(), 79);
+            checker.note(argument.pos(), rules::BAD_EXCEPTION_ARGUMENT);
             Ok(None)
         }
     }
@@ -110,7 +110,7 @@ fn argument_kind<'a>(
         }
     }
     if !is_good {
-        checker.note(pos, 80);
+        checker.note(pos, rules::BAD_HANDLER);
         return Ok(None);
     }
     Ok(kind)

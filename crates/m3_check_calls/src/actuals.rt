@@ -1,12 +1,10 @@
 use bumpalo::Bump;
 use bumpalo::collections::into_bump_slice;
-use m3_assigning::{converted, value_given};
-use m3_base::{NoMemory, Pos};
-use m3_chains::{finished, is_writable};
+use m3_base::{NoMemory, Pos, rules};
+use m3_check_assigning::{converted, finished, is_writable, value_given};
+use m3_check_state::{Checker, Draft, Given, Thing};
+use m3_check_types::{are_same, fits, formals_of, is_array, is_subtype};
 use m3_core::Actual;
-use m3_members::formals_of;
-use m3_operand_types::{are_same, fits, is_array, is_subtype};
-use m3_operands::{Checker, Draft, Given, Thing};
 use m3_types::{Formal, Mode, TypeId};
 
 /// The checked actuals of a call in the order in which they are written, and behind them the
@@ -141,7 +139,7 @@ fn by_var<'a>(
     if fits_place(checker, draft.kind, formal.kind)? {
         return by_place(checker, &draft, place, formal);
     }
-    checker.note(given.pos, 54);
+    checker.note(given.pos, rules::WRONG_TYPE_FOR_VAR);
     Ok(None)
 }
 
@@ -155,7 +153,7 @@ fn by_value<'a>(
         return Ok(None);
     };
     if !fits(checker, value.kind, formal.kind)? {
-        checker.note(given.pos, 51);
+        checker.note(given.pos, rules::NOT_ASSIGNABLE);
         return Ok(None);
     }
     Ok(Some(Actual::Value {

@@ -1,12 +1,13 @@
+use crate::actuals::checked_actuals;
+use crate::matching::matched;
 use bumpalo::collections::into_bump_slice;
-use m3_actuals::{checked_actuals, matched};
-use m3_arithmetic_calls::built;
-use m3_assigning::judge_all;
-use m3_base::{NoMemory, Pos};
+use m3_base::{NoMemory, Pos, rules};
+use m3_check_arithmetic_calls::built;
+use m3_check_assigning::judge_all;
+use m3_check_state::{Checker, Given, Thing};
+use m3_check_types::result_type;
 use m3_core::{Actual, BuiltinCall, CoreExpr, Routine};
-use m3_operand_types::result_type;
-use m3_operands::{Checker, Given, Thing};
-use m3_scopes::EntityId;
+use m3_link_scopes::EntityId;
 use m3_types::TypeId;
 
 const ROUTINES: [(&[u8], &[u8], Routine); 39] = [
@@ -76,7 +77,7 @@ pub fn built_in_call<'a>(
     };
     let Some(order) = matched(checker, signature, actuals)? else {
         judge_all(checker, actuals)?;
-        return Ok(checker.bad(parenthesis, 55));
+        return Ok(checker.bad(parenthesis, rules::BAD_ACTUAL_LIST));
     };
     match checked_actuals(checker, parenthesis, signature, actuals, order)? {
         Some(row) => {

@@ -1,12 +1,12 @@
+use crate::actuals::checked_actuals;
 use crate::built_in::built_in_call;
-use m3_actuals::{checked_actuals, matched};
-use m3_assigning::judge_all;
-use m3_base::{NoMemory, Pos};
-use m3_chains::{chain_from, chain_thing, read_chain, with_step};
+use crate::matching::matched;
+use m3_base::{NoMemory, Pos, rules};
+use m3_check_assigning::{chain_from, chain_thing, judge_all, read_chain, with_step};
+use m3_check_predeclared_calls::predeclared_call;
+use m3_check_state::{Checker, Draft, Given, Method, State, Thing};
+use m3_check_types::{is_procedure, result_type};
 use m3_core::{Actual, Step};
-use m3_operand_types::{is_procedure, result_type};
-use m3_operands::{Checker, Draft, Given, Method, State, Thing};
-use m3_predeclared_calls::predeclared_call;
 use m3_types::TypeId;
 
 /// A call of what a chain gives so far: `pos` is the chain's first token, where what can't be
@@ -45,7 +45,7 @@ fn no_call<'a>(
     judge_all(checker, actuals)?;
     match thing {
         Thing::Bad => Ok(Thing::Bad),
-        _ => Ok(checker.bad(pos, 56)),
+        _ => Ok(checker.bad(pos, rules::NOT_CALLABLE)),
     }
 }
 
@@ -109,7 +109,7 @@ fn actuals_of<'a>(
     match matched(checker, signature, actuals)? {
         Some(order) => checked_actuals(checker, parenthesis, signature, actuals, order),
         None => {
-            checker.note(parenthesis, 55);
+            checker.note(parenthesis, rules::BAD_ACTUAL_LIST);
             judge_all(checker, actuals)?;
             Ok(None)
         }

@@ -1,8 +1,8 @@
 use bumpalo::Bump;
 use bumpalo::collections::into_bump_slice;
 use m3_base::{NoMemory, place_number};
-use m3_members::{formals_of, own_member};
-use m3_operands::{Checker, Given, Member};
+use m3_check_state::{Checker, Given, Member};
+use m3_check_types::{formals_of, own_member};
 use m3_syntax::Name;
 use m3_types::{Formal, Mode, TypeId};
 
@@ -45,7 +45,7 @@ pub fn matched<'a>(
         order: Vec::new(checker.arena),
     };
     let is_good = match_all(checker, &mut matching, signature, actuals)?
-        && add_defaults(checker, &mut matching, formals)?;
+        && add_defaults(checker, &mut matching, signature, formals)?;
     let Matching { given, order } = matching;
     drop(given);
     if is_good {
@@ -99,19 +99,20 @@ fn named<'a>(
 fn add_defaults<'a>(
     checker: &Checker<'_, 'a>,
     matching: &mut Matching<'a>,
+    signature: TypeId,
     formals: &[Formal<'a>],
 ) -> Result<bool, NoMemory> {
+    let is_flawed = checker.is_flawed(signature);
     for (place, formal) in formals.iter().enumerate() {
-        if matching.take(place_number(place)?)? && !may_be_left_out(checker, formal) {
+        if matching.take(place_number(place)?)? && !may_be_left_out(checker, formal, is_flawed) {
             return Ok(false);
         }
     }
     Ok(true)
 }
 
-/// Whether a call may leave a formal out. Where the formal's type was refused nothing more is
-/// judged.
-fn may_be_left_out(checker: &Checker<'_, '_>, formal: &Formal<'_>) -> bool {
-    let has_default = formal.default.is_some() || checker.is_refused(formal.kind);
+/// Whether a call may leave a formal out. Where the signature is flawed no default is missed.
+fn may_be_left_out(checker: &Checker<'_, '_>, formal: &Formal<'_>, is_flawed: bool) -> bool {
+    let has_default = is_flawed || formal.default.is_some() || checker.is_refused(formal.kind);
     has_default && formal.mode != Mode::Var
 }

@@ -1,9 +1,10 @@
 use crate::parts::{Judged, Made, Part, Written};
 use bumpalo::collections::into_bump_slice;
-use m3_assigning::{assigned, value_given};
 use m3_base::NoMemory;
+use m3_check_assigning::{assigned, value_given};
+use m3_check_state::{Checker, Valued};
 use m3_core::CoreExpr;
-use m3_operands::{Checker, Valued};
+use m3_source::KnownShape;
 use m3_types::{TypeId, TypeNode};
 
 /// An array: each part is an element.
@@ -28,6 +29,9 @@ pub fn array_of<'a>(
             None => judged.is_bad = true,
         }
     }
+    if !judged.is_bad && !has_known_rows(checker, element, &row) {
+        judged.is_wrong = true;
+    }
     Ok(judged.make(CoreExpr::ArrayOf {
         pos: written.pos,
         kind,
@@ -45,6 +49,28 @@ fn element_of<'a>(
     match &part.last {
         Some(last) => value_given(checker, last),
         None => Ok(first),
+    }
+}
+
+/// Whether constants fix the shape of each row, where rows are open arrays.
+fn has_known_rows(checker: &Checker<'_, '_>, element: TypeId, rows: &[CoreExpr<'_>]) -> bool {
+    if !matches!(checker.node(element), TypeNode::OpenArray(_)) {
+        return true;
+    }
+    for row in rows {
+        if !has_known_shape(checker, row) {
+            return false;
+        }
+    }
+    true
+}
+
+/// Whether a row is of a fixed array type, a constant or an array that is written out.
+fn has_known_shape(checker: &Checker<'_, '_>, row: &CoreExpr<'_>) -> bool {
+    match KnownShape::of(row) {
+        KnownShape::Written { .. } | KnownShape::Constant { .. } => true,
+        KnownShape::Typed(Some(kind)) => matches!(checker.node(kind), TypeNode::FixedArray(_, _)),
+        KnownShape::Typed(None) => false,
     }
 }
 

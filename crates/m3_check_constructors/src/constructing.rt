@@ -1,7 +1,9 @@
+use crate::arrays::array_of;
+use crate::parts::{Made, Part, Written, judge_part};
 use crate::records::record_of;
-use m3_base::NoMemory;
-use m3_constructor_parts::{Made, Part, Written, array_of, judge_part, set_of};
-use m3_operands::{Checker, Thing};
+use crate::sets::set_of;
+use m3_base::{NoMemory, rules};
+use m3_check_state::{Checker, Thing};
 use m3_types::{TypeId, TypeNode};
 
 /// `T {..}`, by its type, which is none where it was refused (rule 63).
@@ -27,7 +29,7 @@ pub fn constructor<'a>(
         }
     };
     match made {
-        Made::Wrong => Ok(checker.bad(written.brace, 63)),
+        Made::Wrong => Ok(checker.bad(written.brace, rules::BAD_CONSTRUCTOR)),
         Made::Bad => Ok(Thing::Bad),
         Made::Value(expr) => checker.value(expr, kind),
     }

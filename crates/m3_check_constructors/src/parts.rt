@@ -1,7 +1,7 @@
-use m3_assigning::value_given;
 use m3_base::{NoMemory, Pos};
+use m3_check_assigning::value_given;
+use m3_check_state::{Checker, Given};
 use m3_core::CoreExpr;
-use m3_operands::{Checker, Given};
 
 /// An element of a constructor: one, or all from the first to the last.
 #[derive(Clone, Copy)]
@@ -12,7 +12,7 @@ pub struct Part<'a> {
 
 /// A constructor as it is written: the place of its first token and of its brace, and whether `..`
 /// ends it.
-#[derive(Clone, Copy, Debug)]
+#[derive(Clone, Copy)]
 pub struct Written {
     pub pos: Pos,
     pub brace: Pos,
@@ -29,7 +29,7 @@ pub fn judge_part<'a>(checker: &mut Checker<'_, 'a>, part: &Part<'a>) -> Result<
 }
 
 /// What becomes of the parts of a constructor.
-#[derive(Clone, Copy, Debug)]
+#[derive(Clone, Copy)]
 pub struct Judged {
     /// They don't fit the type.
     pub is_wrong: bool,

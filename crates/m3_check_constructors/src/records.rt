@@ -1,11 +1,11 @@
+use crate::parts::{Judged, Made, Part, Written, judge_part};
 use bumpalo::Bump;
 use bumpalo::collections::into_bump_slice;
-use m3_assigning::assigned;
 use m3_base::{NoMemory, Pos, place_number};
-use m3_constructor_parts::{Judged, Made, Part, Written, judge_part};
+use m3_check_assigning::assigned;
+use m3_check_state::{Checker, Given, Member};
+use m3_check_types::own_member;
 use m3_core::{CoreExpr, FieldValue};
-use m3_members::own_member;
-use m3_operands::{Checker, Given, Member};
 use m3_syntax::Name;
 use m3_types::{Field, TypeId, TypeNode};
 
@@ -47,7 +47,7 @@ pub fn record_of<'a>(
         },
     };
     add_parts(checker, &mut making, kind, fields, parts)?;
-    add_defaults(checker, &mut making, written.pos, fields)?;
+    add_defaults(checker, &mut making, written.pos, kind, fields)?;
     let Making { given, row, judged } = making;
     drop(given);
     Ok(judged.make(CoreExpr::RecordOf {
@@ -124,12 +124,13 @@ fn add_field<'a>(
     Ok(())
 }
 
-/// Gives each field that is left out its default. Where its type was refused nothing more is
-/// judged.
+/// Gives each field that is left out its default. Where the record type is flawed no default is
+/// missed.
 fn add_defaults<'a>(
     checker: &Checker<'_, 'a>,
     making: &mut Making<'a>,
     pos: Pos,
+    kind: TypeId,
     fields: &[Field<'a>],
 ) -> Result<(), NoMemory> {
     for (place, field) in fields.iter().enumerate() {
@@ -141,7 +142,9 @@ fn add_defaults<'a>(
                 field: number,
                 value: checker.default_of(pos, field.kind, default.source)?,
             })?,
-            None if checker.is_refused(field.kind) => making.judged.is_bad = true,
+            None if checker.is_flawed(kind) || checker.is_refused(field.kind) => {
+                making.judged.is_bad = true;
+            }
             None => making.judged.is_wrong = true,
         }
     }

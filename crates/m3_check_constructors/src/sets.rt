@@ -1,9 +1,9 @@
 use crate::parts::{Judged, Made, Part, Written};
 use bumpalo::collections::into_bump_slice;
-use m3_assigning::assigned;
 use m3_base::NoMemory;
+use m3_check_assigning::assigned;
+use m3_check_state::Checker;
 use m3_core::{CoreExpr, SetElement};
-use m3_operands::Checker;
 use m3_types::TypeId;
 
 /// A set: each part is an element of its base type, or a range of such.

@@ -1,7 +1,7 @@
 use crate::limits::MOST_WORDS;
 use m3_base::NoMemory;
-use m3_sizes::SizedTypes;
 use m3_types::{Field, Secret, TypeId, TypeNode};
+use m3_types_sizes::SizedTypes;
 use std::alloc::Global;
 use std::collections::HashMap;
 

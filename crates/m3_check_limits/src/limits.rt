@@ -1,11 +1,11 @@
 use crate::cells::Cells;
 use crate::lists::{Lists, WrittenType};
-use m3_base::{Least, NoMemory, Pos, Refusal, Refused};
+use m3_base::{Least, NoMemory, Pos, Refusal, Refused, rules};
 use m3_core::{Core, ProcDef, VarDef, VarKind};
-use m3_scopes::Program;
-use m3_sizes::SizedTypes;
+use m3_link_scopes::Program;
 use m3_source::{frame_words, image_size};
 use m3_types::TypeNode;
+use m3_types_sizes::SizedTypes;
 use std::alloc::Global;
 
 const PHASE: u8 = 7;
@@ -65,7 +65,7 @@ fn judge_count(least: &mut Least, alloc: Global, written: &[WrittenType]) -> Res
     }
     places.sort()?;
     if let Some((unit, pos)) = places.get(MOST_TYPES) {
-        least.note(refusal(*unit, *pos, 90));
+        least.note(refusal(*unit, *pos, rules::TOO_MANY_TYPES));
     }
     Ok(())
 }
@@ -82,11 +82,19 @@ fn unit_of(program: &Program<'_>, procedure: &ProcDef<'_>) -> u32 {
 fn judge_procedures(least: &mut Least, program: &Program<'_>, core: &Core<'_>) {
     for (place, procedure) in core.procs.iter().enumerate() {
         if place == MOST_PROCEDURES {
-            least.note(refusal(unit_of(program, procedure), procedure.pos, 91));
+            least.note(refusal(
+                unit_of(program, procedure),
+                procedure.pos,
+                rules::TOO_MANY_PROCEDURES,
+            ));
         }
         if let Ok(number) = u32::try_from(place) {
             if frame_words(core, number) > MOST_FRAME {
-                least.note(refusal(unit_of(program, procedure), procedure.name_pos, 92));
+                least.note(refusal(
+                    unit_of(program, procedure),
+                    procedure.name_pos,
+                    rules::FRAME_TOO_LARGE,
+                ));
             }
         }
     }
@@ -102,7 +110,7 @@ fn judge_types(
     let mut cells = Cells::new(alloc);
     for kind in written {
         if is_too_large(&mut cells, types, kind)? {
-            least.note(refusal(kind.unit, kind.pos, 93));
+            least.note(refusal(kind.unit, kind.pos, rules::TYPE_TOO_LARGE));
         }
     }
     Ok(())
@@ -131,7 +139,7 @@ fn judge_globals(least: &mut Least, units: &[u32], core: &Core<'_>) {
         let before = words;
         words = before.saturating_add(words_of_global(&core.types, variable));
         if before <= MOST_GLOBALS && words > MOST_GLOBALS {
-            least.note(refusal(*unit, variable.pos, 94));
+            least.note(refusal(*unit, variable.pos, rules::TOO_MANY_GLOBALS));
         }
     }
 }
@@ -151,7 +159,7 @@ fn judge_size(least: &mut Least, alloc: Global, core: &Core<'_>) -> Result<(), N
             line: 1,
             col: 1,
         };
-        least.note(refusal(0, pos, 95));
+        least.note(refusal(0, pos, rules::PROGRAM_TOO_LARGE));
     }
     Ok(())
 }

@@ -1,5 +1,5 @@
 use m3_base::Pos;
-use m3_core::{ExcDef, ProcDef, Value, VarDef};
+use m3_core::{ExcDef, ProcDef, Text, Value, VarDef};
 use m3_types::TypeId;
 
 /// The lists of a checked program.
@@ -8,7 +8,7 @@ pub struct Lists<'a> {
     pub procs: &'a [ProcDef<'a>],
     pub globals: &'a [VarDef<'a>],
     pub exceptions: &'a [ExcDef<'a>],
-    pub texts: &'a [&'a [u8]],
+    pub texts: &'a [Text<'a>],
     pub order: &'a [u32],
     pub values: &'a [Value<'a>],
     pub files: &'a [&'a [u8]],
@@ -19,7 +19,7 @@ pub struct Lists<'a> {
 }
 
 /// A type expression that is more than a name: the number of its unit, its place, and its type.
-#[derive(Clone, Copy, Debug)]
+#[derive(Clone, Copy)]
 pub struct WrittenType {
     pub unit: u32,
     pub pos: Pos,

@@ -1,5 +1,5 @@
 use crate::naming::type_named;
-use m3_operands::Checker;
+use m3_check_state::Checker;
 use m3_syntax::{Decl, Field, Init, ObjectPart, Signature, TypeExp, TypeName, VarDecl};
 
 /// Judges the names in a type: each stands for a type (rule 60).

@@ -1,8 +1,8 @@
 use m3_base::{NoMemory, Pos};
-use m3_chains::{chain_thing, new_chain};
+use m3_check_assigning::{chain_thing, new_chain};
+use m3_check_state::{Checker, Draft, Held, State, Thing};
 use m3_core::{Base, CoreExpr};
-use m3_operands::{Checker, Draft, Held, State, Thing};
-use m3_scopes::{Entity, EntityId, EntityKind, Predeclared};
+use m3_link_scopes::{Entity, EntityId, EntityKind, Predeclared};
 use m3_syntax::{Expr, Name};
 
 /// What a name stands for where it is used.

@@ -1,6 +1,7 @@
 use crate::judging::judge_type;
-use m3_operands::Checker;
-use m3_scopes::{EntityId, EntityKind, Predeclared};
+use m3_base::rules;
+use m3_check_state::Checker;
+use m3_link_scopes::{EntityId, EntityKind, Predeclared};
 use m3_syntax::{Qualid, TypeExp, TypeName};
 use m3_types::TypeId;
 
@@ -39,7 +40,7 @@ pub fn type_named<'a>(checker: &mut Checker<'_, 'a>, name: &Qualid<'a>) -> Optio
     match found {
         Named::Type(kind) => kind,
         Named::Nothing => {
-            checker.note(name.first.pos, 60);
+            checker.note(name.first.pos, rules::TYPE_EXPECTED);
             None
         }
     }
@@ -63,7 +64,7 @@ fn entity_type(checker: &Checker<'_, '_>, id: EntityId) -> Named {
 }
 
 /// What a name in a type stands for.
-#[derive(Clone, Copy, Debug)]
+#[derive(Clone, Copy)]
 enum Named {
     /// A type, which is none where it was refused.
     Type(Option<TypeId>),

@@ -1,8 +1,8 @@
 use bumpalo::Bump;
 use bumpalo::collections::into_bump_slice;
 use m3_base::{NoMemory, place_number};
+use m3_check_state::Checker;
 use m3_core::{CoreExpr, Role, VarDef, VarKind};
-use m3_operands::Checker;
 use m3_syntax::{Decl, Init, Name, Unit, VarDecl};
 
 /// Whether the unit at a place is given, and not built in.

@@ -2,12 +2,11 @@ use crate::globals::list_globals;
 use bumpalo::Bump;
 use bumpalo::collections::into_bump_slice;
 use m3_base::{NoMemory, Source, place_number};
+use m3_check_limits::{Lists, WrittenType};
+use m3_check_state::Checker;
 use m3_core::{ExcDef, ProcDef};
-use m3_gather::gather;
-use m3_gathered::TypeAt;
-use m3_limits::{Lists, WrittenType};
-use m3_operands::Checker;
-use m3_scopes::Linked;
+use m3_link_gather::{TypeAt, gather};
+use m3_link_scopes::Linked;
 use m3_syntax::{Decl, Name, Unit};
 
 /// Lists what the checked program has, whose procedures are given with their numbers.

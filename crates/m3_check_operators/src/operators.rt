@@ -1,12 +1,12 @@
 use bumpalo::Bump;
 use bumpalo::collections::into_bump_slice;
-use m3_assigning::nil_as;
-use m3_base::{NoMemory, Pos};
-use m3_core::{Compared, CoreExpr, Operation, Operator, Relation};
-use m3_operand_types::{
+use m3_base::{NoMemory, Pos, rules};
+use m3_check_assigning::nil_as;
+use m3_check_state::{Checker, Thing, Valued};
+use m3_check_types::{
     are_same, fits, is_boolean, is_integer, is_ordinal, is_procedure, is_subtype, share_base,
 };
-use m3_operands::{Checker, Thing, Valued};
+use m3_core::{Compared, CoreExpr, Operation, Operator, Relation};
 use m3_types::{TypeId, TypeNode};
 
 /// The operands of a row joined by its operators, which group to the left (rule 50). A value is
@@ -78,7 +78,7 @@ impl<'a> Row<'a> {
             }
             None => {
                 self.kind = None;
-                checker.note(pos, 50);
+                checker.note(pos, rules::OPERANDS_DO_NOT_FIT);
             }
         }
         Ok(())

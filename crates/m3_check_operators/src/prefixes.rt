@@ -1,9 +1,9 @@
 use bumpalo::collections::into_bump_slice;
-use m3_base::{NoMemory, Pos};
-use m3_chains::value_of;
+use m3_base::{NoMemory, Pos, rules};
+use m3_check_assigning::value_of;
+use m3_check_state::{Checker, Thing, Valued};
+use m3_check_types::{is_boolean, is_integer};
 use m3_core::{CoreExpr, Prefix, PrefixOperator};
-use m3_operand_types::{is_boolean, is_integer};
-use m3_operands::{Checker, Thing, Valued};
 use m3_syntax::PrefixSign;
 use m3_types::TypeId;
 
@@ -19,7 +19,10 @@ pub fn nots<'a>(
         return Ok(Thing::Bad);
     };
     if !is_boolean(checker, value.kind) {
-        return Ok(checker.bad(words.last().copied().unwrap_or(pos), 50));
+        return Ok(checker.bad(
+            words.last().copied().unwrap_or(pos),
+            rules::OPERANDS_DO_NOT_FIT,
+        ));
     }
     let mut operators = Vec::new(checker.arena);
     for word in words {
@@ -48,7 +51,7 @@ pub fn signed<'a>(
             Some(sign) => sign.pos,
             None => pos,
         };
-        return Ok(checker.bad(innermost, 50));
+        return Ok(checker.bad(innermost, rules::OPERANDS_DO_NOT_FIT));
     }
     let mut operators = Vec::new(checker.arena);
     for sign in signs {

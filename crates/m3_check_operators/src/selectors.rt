@@ -1,11 +1,12 @@
-use m3_base::{NoMemory, Pos};
-use m3_chains::{chain_of, chain_thing, placed_chain, read_chain, with_step};
+use m3_base::{NoMemory, Pos, rules};
+use m3_check_assigning::{chain_of, chain_thing, placed_chain, read_chain, with_step};
+use m3_check_names::entity_thing;
+use m3_check_state::{Checker, Draft, Found, Member, Method, State, Thing, Valued};
+use m3_check_types::{
+    fits, is_array, is_reference, newest_member, own_member, type_member, visible_type,
+};
 use m3_core::Step;
-use m3_declared::{field_kind, method_kind};
-use m3_members::{newest_member, own_member, type_member};
-use m3_operand_names::entity_thing;
-use m3_operand_types::{fits, is_array, is_reference, visible_type};
-use m3_operands::{Checker, Draft, Found, Member, Method, State, Thing, Valued};
+use m3_decl_lookup::{field_kind, method_kind};
 use m3_syntax::Name;
 use m3_types::{TypeId, TypeNode};
 
@@ -48,7 +49,7 @@ pub fn dereference<'a>(
     };
     let visible = visible_type(checker, draft.kind)?;
     let TypeNode::RefTo(_, target) = checker.node(visible) else {
-        return Ok(checker.bad(pos, 58));
+        return Ok(checker.bad(pos, rules::NOT_A_REFERENCE));
     };
     let place = referent(checker, &draft, target)?;
     Ok(chain_thing(checker, place))
@@ -114,7 +115,7 @@ fn field<'a>(
             return Ok(chain_thing(checker, part));
         }
     }
-    Ok(checker.bad(name.pos, 57))
+    Ok(checker.bad(name.pos, rules::NO_SUCH_FIELD_OR_METHOD))
 }
 
 /// A field or a method of the object that a value refers to (rule 57).
@@ -137,7 +138,7 @@ fn object_member<'a>(
     };
     match made {
         Some(thing) => Ok(thing),
-        None => Ok(checker.bad(name.pos, 57)),
+        None => Ok(checker.bad(name.pos, rules::NO_SUCH_FIELD_OR_METHOD)),
     }
 }
 
@@ -206,7 +207,7 @@ fn array_place<'a>(
             return Ok(Some(referent(checker, &draft, target)?));
         }
     }
-    checker.note(pos, 59);
+    checker.note(pos, rules::NOT_AN_ARRAY);
     Ok(None)
 }
 
@@ -225,7 +226,7 @@ fn element<'a>(
         return Ok(Thing::Bad);
     };
     if !fits(checker, value.kind, wanted)? {
-        checker.note(index.pos, 51);
+        checker.note(index.pos, rules::NOT_ASSIGNABLE);
     }
     let step = Step::Element {
         index: value.core(),

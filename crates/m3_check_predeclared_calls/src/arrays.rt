@@ -1,11 +1,10 @@
-use m3_arithmetic_calls::integer_given;
-use m3_assigning::value_given;
-use m3_base::{NoMemory, Pos};
-use m3_chains::{chain_of, finished_place, new_chain};
+use m3_base::{NoMemory, Pos, rules};
+use m3_check_arithmetic_calls::integer_given;
+use m3_check_assigning::{chain_of, finished_place, new_chain, value_given};
+use m3_check_state::{Checker, Draft, Given, State, Thing};
+use m3_check_types::{base_of, element_type, is_array, is_ordinal, ordinal_bounds};
 use m3_core::{ArrayLimit, Base, Chain, CoreExpr};
-use m3_operand_types::{base_of, element_type, is_array, is_ordinal, ordinal_bounds};
-use m3_operands::{Checker, Draft, Given, State, Thing};
-use m3_scopes::Predeclared;
+use m3_link_scopes::Predeclared;
 use m3_types::{TypeId, TypeNode};
 
 /// FIRST, LAST and NUMBER of an ordinal type, a fixed array type or an array (rule 68).
@@ -22,7 +21,7 @@ pub fn limit<'a>(
         return Ok(Thing::Bad);
     };
     if !is_array(checker, draft.kind) {
-        return Ok(checker.bad(only.pos, 68));
+        return Ok(checker.bad(only.pos, rules::BAD_BUILT_IN_ARGUMENT));
     }
     let array = finished_place(checker, &draft)?;
     array_limit(checker, pos, routine, draft.kind, array)
@@ -40,14 +39,14 @@ fn type_limit<'a>(
         _ => kind,
     };
     if !is_ordinal(checker, kind) {
-        return Ok(checker.bad(at, 68));
+        return Ok(checker.bad(at, rules::BAD_BUILT_IN_ARGUMENT));
     }
     if routine == Predeclared::Number {
         return type_number(checker, pos, at, kind);
     }
     if let TypeNode::Enumeration(names) = checker.node(kind) {
         if names.is_empty() {
-            return Ok(checker.bad(at, 68));
+            return Ok(checker.bad(at, rules::BAD_BUILT_IN_ARGUMENT));
         }
     }
     let (first, last) = ordinal_bounds(checker, kind);
@@ -68,7 +67,7 @@ fn type_number<'a>(
 ) -> Result<Thing<'a>, NoMemory> {
     match i64::try_from(checker.declared.types.member_count(kind)) {
         Ok(members) => checker.number(pos, checker.declared.basic.cardinal, members),
-        Err(_) => Ok(checker.bad(at, 68)),
+        Err(_) => Ok(checker.bad(at, rules::BAD_BUILT_IN_ARGUMENT)),
     }
 }
 
@@ -112,7 +111,7 @@ pub fn subarray<'a>(
         return Ok(Thing::Bad);
     };
     let Some(element) = element_type(checker, draft.kind) else {
-        return Ok(checker.bad(array.pos, 68));
+        return Ok(checker.bad(array.pos, rules::BAD_BUILT_IN_ARGUMENT));
     };
     let (Some(_), Some(_)) = (from, elements) else {
         return Ok(Thing::Bad);

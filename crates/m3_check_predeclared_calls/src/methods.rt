@@ -1,8 +1,8 @@
 use bumpalo::collections::into_bump_slice;
-use m3_base::NoMemory;
+use m3_base::{NoMemory, rules};
+use m3_check_state::{Checker, Valued};
+use m3_check_types::is_subtype;
 use m3_core::CoreExpr;
-use m3_operand_types::is_subtype;
-use m3_operands::{Checker, Valued};
 use m3_syntax::Name;
 use m3_types::{ConstId, ConstValue, Field, Method, Mode, Override, TypeId, TypeNode};
 
@@ -29,7 +29,7 @@ pub fn bind_methods<'a>(
     let mut is_good = true;
     for method in methods {
         if !is_fit(checker, made, method)? {
-            checker.note(method.name.pos, 66);
+            checker.note(method.name.pos, rules::BAD_NEW_ARGUMENT);
             is_good = false;
         }
     }

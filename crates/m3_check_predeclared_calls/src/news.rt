@@ -1,14 +1,15 @@
 use crate::methods::{Bound, bind_methods};
 use bumpalo::Bump;
 use bumpalo::collections::into_bump_slice;
-use m3_arithmetic_calls::type_given;
-use m3_assigning::{assigned, judge_all, judge_given, value_given};
-use m3_base::{NoMemory, Pos};
+use m3_base::{NoMemory, Pos, rules};
+use m3_check_arithmetic_calls::type_given;
+use m3_check_assigning::{assigned, judge_all, judge_given, value_given};
+use m3_check_state::{Checker, Found, Given, Member, Thing};
+use m3_check_types::{
+    is_integer, is_subtype, is_unveiled, newest_member, own_member, visible_type,
+};
 use m3_core::{Binding, CoreExpr};
-use m3_declared::{field_kind, method_kind};
-use m3_members::{newest_member, own_member};
-use m3_operand_types::{is_integer, is_subtype, is_unveiled, visible_type};
-use m3_operands::{Checker, Found, Given, Member, Thing};
+use m3_decl_lookup::{field_kind, method_kind};
 use m3_syntax::Name;
 use m3_types::{Secret, TypeId, TypeNode};
 
@@ -32,7 +33,7 @@ pub fn new_call<'a>(
         Some((first, others)) if first.name.is_none() => (first, others),
         _ => {
             judge_all(checker, actuals)?;
-            return Ok(checker.bad(parenthesis, 55));
+            return Ok(checker.bad(parenthesis, rules::BAD_ACTUAL_LIST));
         }
     };
     let Some(kind) = type_given(checker, first) else {
@@ -43,7 +44,7 @@ pub fn new_call<'a>(
         Some(made) => new_of(checker, pos, (kind, made), others),
         None => {
             judge_all(checker, others)?;
-            Ok(checker.bad(first.pos, 65))
+            Ok(checker.bad(first.pos, rules::BAD_TYPE_FOR_NEW))
         }
     }
 }
@@ -135,8 +136,8 @@ fn read_parts<'a>(
             }
         }
     }
-    if sizes != open_dimensions(checker, kinds.1) {
-        checker.note(pos, 66);
+    if sizes != open_dimensions(checker, kinds.1) && !is_reference_to_refused(checker, kinds.1) {
+        checker.note(pos, rules::BAD_NEW_ARGUMENT);
         parts.is_bad = true;
     }
     Ok(())
@@ -170,7 +171,7 @@ fn size<'a>(
     match value_given(checker, given)? {
         Some(size) => {
             if !is_integer(checker, size.kind) {
-                checker.note(given.pos, 51);
+                checker.note(given.pos, rules::NOT_ASSIGNABLE);
             }
             parts.sizes.push(*size.core())?;
         }
@@ -188,7 +189,9 @@ fn binding<'a>(
     given: &Given<'a>,
 ) -> Result<(), NoMemory> {
     let Some(found) = bindable(checker, kinds, name.text)? else {
-        checker.note(name.pos, 66);
+        if !is_reference_to_refused(checker, kinds.1) {
+            checker.note(name.pos, rules::BAD_NEW_ARGUMENT);
+        }
         judge_given(checker, given)?;
         parts.is_bad = true;
         return Ok(());
@@ -198,7 +201,7 @@ fn binding<'a>(
         Member::Method(method) => {
             let value = value_given(checker, given)?;
             if let Some(pos) = given.inner {
-                checker.note(pos, 67);
+                checker.note(pos, rules::NESTED_PROCEDURE_ASSIGNED);
             }
             match (value, method_kind(checker.node(found.owner), method)) {
                 (Some(value), Some(signature)) => parts.methods.push(Bound {
@@ -238,6 +241,14 @@ fn bind_field<'a>(
         None => parts.is_bad = true,
     }
     Ok(())
+}
+
+/// Whether a type is a REF type whose referent was refused.
+fn is_reference_to_refused(checker: &Checker<'_, '_>, kind: TypeId) -> bool {
+    match checker.node(kind) {
+        TypeNode::RefTo(_, target) => checker.is_refused(target),
+        _ => false,
+    }
 }
 
 /// The field or method of this name that NEW of a type may bind.

@@ -1,12 +1,12 @@
 use crate::arrays::{limit, subarray};
+use crate::news::new_call;
 use crate::references::{istype, narrow};
-use m3_arithmetic_calls::{abs, change, extreme, ord, val};
-use m3_assigning::judge_all;
-use m3_base::{NoMemory, Pos};
+use m3_base::{NoMemory, Pos, rules};
+use m3_check_arithmetic_calls::{abs, change, extreme, ord, val};
+use m3_check_assigning::judge_all;
+use m3_check_state::{Checker, Given, Thing};
 use m3_core::Routine;
-use m3_new_calls::new_call;
-use m3_operands::{Checker, Given, Thing};
-use m3_scopes::Predeclared;
+use m3_link_scopes::Predeclared;
 
 /// A call of a predeclared routine. Its actuals have no names, and their number is right (rule
 /// 55).
@@ -30,7 +30,7 @@ pub fn predeclared_call<'a>(
         }
         _ => {
             judge_all(checker, actuals)?;
-            Ok(checker.bad(parenthesis, 55))
+            Ok(checker.bad(parenthesis, rules::BAD_ACTUAL_LIST))
         }
     }
 }

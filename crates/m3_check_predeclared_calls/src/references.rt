@@ -1,9 +1,9 @@
-use m3_arithmetic_calls::type_given;
-use m3_assigning::{value_given, with_check};
-use m3_base::{NoMemory, Pos};
+use m3_base::{NoMemory, Pos, rules};
+use m3_check_arithmetic_calls::type_given;
+use m3_check_assigning::{value_given, with_check};
+use m3_check_state::{Checker, Given, Thing, Valued};
+use m3_check_types::{fits, is_reference};
 use m3_core::{Conversion, CoreExpr};
-use m3_operand_types::{fits, is_reference};
-use m3_operands::{Checker, Given, Thing, Valued};
 use m3_types::TypeId;
 
 /// The value and the type of ISTYPE and NARROW: references that are related (rule 64).
@@ -19,7 +19,7 @@ fn related<'a>(
     };
     let are_references = is_reference(checker, value.kind) && is_reference(checker, kind);
     if !are_references || !fits(checker, value.kind, kind)? {
-        checker.note(second.pos, 64);
+        checker.note(second.pos, rules::TYPES_NOT_RELATED);
         return Ok(None);
     }
     Ok(Some((value, kind)))

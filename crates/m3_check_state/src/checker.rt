@@ -3,8 +3,8 @@ use crate::things::Thing;
 use bumpalo::Bump;
 use m3_base::{Least, NoMemory, Pos, Refusal};
 use m3_core::{CoreExpr, Step};
-use m3_declared::Declared;
-use m3_scopes::{EntityId, Program};
+use m3_decl_lookup::Declared;
+use m3_link_scopes::{EntityId, Program};
 use m3_syntax::Kept;
 use m3_types::TypeId;
 use std::alloc::Global;
@@ -13,7 +13,7 @@ use std::collections::{HashMap, HashSet};
 const PHASE: u8 = 6;
 
 /// Where a variable stands.
-#[derive(Clone, Copy, Debug, PartialEq, Eq)]
+#[derive(Clone, Copy, PartialEq, Eq)]
 pub enum Held {
     Global(u32),
     /// In the procedure of this level, by its place in the formals and locals there.
@@ -23,7 +23,7 @@ pub enum Held {
 }
 
 /// What is known of a variable.
-#[derive(Clone, Copy, Debug)]
+#[derive(Clone, Copy)]
 pub struct Variable {
     pub held: Held,
     pub kind: TypeId,

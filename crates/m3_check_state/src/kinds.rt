@@ -1,5 +1,5 @@
 use crate::checker::Checker;
-use m3_scopes::EntityKind;
+use m3_link_scopes::EntityKind;
 use m3_syntax::Name;
 use m3_types::{TypeId, TypeNode};
 
@@ -12,9 +12,23 @@ impl<'a> Checker<'_, 'a> {
         }
     }
 
-    /// Whether it stands for a type that was refused.
+    /// Whether it stands for a type that was refused, or for an array type with such an index.
     pub fn is_refused(&self, kind: TypeId) -> bool {
-        matches!(self.node(kind), TypeNode::Reserved)
+        match self.node(kind) {
+            TypeNode::Reserved => true,
+            TypeNode::FixedArray(index, _) => matches!(self.node(index), TypeNode::Reserved),
+            _ => false,
+        }
+    }
+
+    /// Whether the relations between two types hang on what was refused.
+    pub fn is_unsure(&self, a: TypeId, b: TypeId) -> bool {
+        self.is_refused(a) || self.is_refused(b) || self.declared.is_unsure(a, b)
+    }
+
+    /// Whether the text of a type breaks a rule or hangs on what was refused.
+    pub fn is_flawed(&self, kind: TypeId) -> bool {
+        self.declared.flawed.contains(&kind)
     }
 
     /// The type of a variable by the name that declares it, where it is known.

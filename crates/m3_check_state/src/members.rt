@@ -1,7 +1,7 @@
 use m3_types::{Field, Formal, Method, TypeId};
 
 /// A member of a type by its place: a field or a method of its own part, or a formal.
-#[derive(Clone, Copy, Debug, PartialEq, Eq)]
+#[derive(Clone, Copy, PartialEq, Eq)]
 pub enum Member {
     Field(u32),
     Method(u32),
@@ -11,7 +11,7 @@ pub enum Member {
 }
 
 /// A member with the type that declares it.
-#[derive(Clone, Copy, Debug)]
+#[derive(Clone, Copy)]
 pub struct Found {
     pub owner: TypeId,
     pub member: Member,

@@ -1,6 +1,6 @@
 use m3_base::Pos;
 use m3_core::{Base, BuiltinCall, Chain, CoreExpr};
-use m3_scopes::{EntityId, Predeclared};
+use m3_link_scopes::{EntityId, Predeclared};
 use m3_syntax::{Kept, Name};
 use m3_types::TypeId;
 
@@ -52,7 +52,7 @@ pub struct Draft<'a> {
 }
 
 /// What a chain gives so far.
-#[derive(Clone, Copy, Debug, PartialEq, Eq)]
+#[derive(Clone, Copy, PartialEq, Eq)]
 pub enum State {
     /// A place; whether it may be written, and whether it is a designator or a part of a new
     /// variable that holds a value.

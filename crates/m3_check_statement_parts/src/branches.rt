@@ -1,15 +1,14 @@
-use m3_branches::{all_ranges, branch_types, branch_variable};
+use m3_check_branches::{HandlerHead, all_ranges, branch_types, branch_variable, handler_head};
+use m3_check_state::Valued;
+use m3_check_statement_state::Walk;
 use m3_core::{CoreExpr, LabelRange};
-use m3_exceptions::{HandlerHead, handler_head};
 use m3_exprs::expression;
-use m3_operands::Valued;
 use m3_syntax::{CaseBranch, Expr, Name, Qualid, TypeExp};
 use m3_types::TypeId;
-use m3_walk::Walk;
 
 /// The condition of an arm or of a loop (rule 76). None where it was refused.
 pub fn condition<'a>(walk: &mut Walk<'_, 'a>, value: &Expr<'a>) -> Option<&'a CoreExpr<'a>> {
-    let value = m3_branches::condition(&mut walk.checker, value);
+    let value = m3_check_branches::condition(&mut walk.checker, value);
     walk.memory.found(value)
 }
 

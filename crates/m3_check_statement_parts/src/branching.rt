@@ -1,10 +1,9 @@
+use crate::branches::TypeHead;
 use m3_base::Pos;
-use m3_branches::ranges_at;
+use m3_check_branches::{HandlerHead, ranges_at};
+use m3_check_state::Valued;
+use m3_check_statement_state::{Marks, Walk};
 use m3_core::{Arm, CaseBranch, CoreExpr, CoreStmt, Else, Handler, LabelRange, TypeBranch};
-use m3_exceptions::HandlerHead;
-use m3_heads::TypeHead;
-use m3_operands::Valued;
-use m3_walk::{Marks, Walk};
 
 /// Adds an arm of an IF, unless its condition was refused.
 pub fn add_arm<'a>(

@@ -1,9 +1,9 @@
 use m3_base::Pos;
-use m3_bound_names::{Hidden, add_lock};
+use m3_check_bindings::{Hidden, add_lock};
+use m3_check_branches::simple;
+use m3_check_statement_state::Walk;
 use m3_core::{CoreStmt, WithBinding};
-use m3_exceptions::simple;
 use m3_syntax::Stmt;
-use m3_walk::Walk;
 
 /// Checks and puts a statement that holds no statements.
 pub fn put_leaf<'a>(walk: &mut Walk<'_, 'a>, statement: &Stmt<'a>) {

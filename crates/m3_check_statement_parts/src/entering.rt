@@ -1,10 +1,10 @@
-use m3_assignments::initial_values;
-use m3_bodies::{declare_formals, declare_locals, known};
+use m3_check_assignments::initial_values;
+use m3_check_bodies::{declare_formals, declare_locals, known};
+use m3_check_statement_state::Walk;
+use m3_check_types::result_type;
 use m3_core::CoreStmt;
-use m3_operand_types::result_type;
 use m3_syntax::{Decl, Name, Signature};
 use m3_types::TypeId;
-use m3_walk::Walk;
 
 /// Goes into the body of a procedure, makes its formals, and gives its type. None where nothing is
 /// known of it, and then the walk stays where it is.

@@ -1,7 +1,7 @@
 use m3_base::Pos;
-use m3_bodies::{Heading, define};
+use m3_check_bodies::{Heading, define};
+use m3_check_statement_state::Walk;
 use m3_core::CoreStmt;
-use m3_walk::Walk;
 
 /// Puts a block.
 pub fn put_block<'a>(

@@ -1,7 +1,7 @@
 use m3_base::Pos;
-use m3_bound_names::ForHead;
+use m3_check_bindings::ForHead;
+use m3_check_statement_state::Walk;
 use m3_core::{CoreExpr, CoreStmt};
-use m3_walk::Walk;
 
 /// Puts a LOOP.
 pub fn put_loop<'a>(walk: &mut Walk<'_, 'a>, pos: Pos, body: &'a [CoreStmt<'a>]) {

@@ -1,8 +1,8 @@
 use m3_base::Pos;
-use m3_bound_names::{ForHead, Hidden, bind_all, for_head, hide};
+use m3_check_bindings::{ForHead, Hidden, bind_all, for_head, hide};
+use m3_check_statement_state::Walk;
 use m3_core::WithBinding;
 use m3_syntax::{Binding, Expr, Stmt};
-use m3_walk::Walk;
 
 /// The head of a FOR (rule 75). None where it was refused.
 pub fn counted<'a>(walk: &mut Walk<'_, 'a>, statement: &Stmt<'a>) -> Option<ForHead<'a>> {

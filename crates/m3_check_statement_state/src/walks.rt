@@ -1,8 +1,8 @@
 use crate::memory::Memory;
 use crate::rows::{Marks, Rows};
-use m3_bodies::{Body, Procedures};
+use m3_check_bodies::{Body, Procedures};
+use m3_check_state::Checker;
 use m3_core::CoreStmt;
-use m3_operands::Checker;
 use m3_types::TypeId;
 
 /// What walks over the statements of a program: what checks the expressions in them, the body in

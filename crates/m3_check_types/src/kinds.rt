@@ -1,7 +1,7 @@
 use m3_base::NoMemory;
-use m3_operands::Checker;
-use m3_subtype::{Assign, assignable, subtype};
+use m3_check_state::Checker;
 use m3_types::{TypeId, TypeNode};
+use m3_types_subtype::{Assign, assignable, subtype};
 
 /// The base type of an ordinal type; every other type is its own.
 pub fn base_of(checker: &Checker<'_, '_>, kind: TypeId) -> TypeId {
@@ -86,26 +86,26 @@ pub fn result_type(checker: &Checker<'_, '_>, signature: TypeId) -> Option<TypeI
     }
 }
 
-/// Whether two types are the same.
+/// Whether two types are the same, or that hangs on what was refused.
 pub fn are_same(checker: &Checker<'_, '_>, a: TypeId, b: TypeId) -> Result<bool, NoMemory> {
-    if a == b {
+    if a == b || checker.is_unsure(a, b) {
         return Ok(true);
     }
-    m3_same::same(checker.alloc, &checker.declared.types, a, b)
+    m3_types_subtype::same(checker.alloc, &checker.declared.types, a, b)
 }
 
-/// Whether a type is a subtype of another in the unit's view. What was refused is one of all.
+/// Whether a type is a subtype of another in the unit's view, or that hangs on what was refused.
 pub fn is_subtype(checker: &Checker<'_, '_>, a: TypeId, b: TypeId) -> Result<bool, NoMemory> {
-    if a == b || checker.is_refused(a) || checker.is_refused(b) {
+    if a == b || checker.is_unsure(a, b) {
         return Ok(true);
     }
     subtype(checker.alloc, &checker.declared.types, checker.unit, a, b)
 }
 
-/// Whether values of a type can be assigned to another in the unit's view. What was refused fits
-/// all.
+/// Whether values of a type can be assigned to another in the unit's view, or that hangs on what
+/// was refused.
 pub fn assignability(checker: &Checker<'_, '_>, a: TypeId, b: TypeId) -> Result<Assign, NoMemory> {
-    if a == b || checker.is_refused(a) || checker.is_refused(b) {
+    if a == b || checker.is_unsure(a, b) {
         return Ok(Assign::Yes);
     }
     assignable(checker.alloc, &checker.declared.types, checker.unit, a, b)

@@ -1,6 +1,6 @@
+use crate::views::visible_type;
 use m3_base::{NoMemory, place_number};
-use m3_operand_types::visible_type;
-use m3_operands::{Checker, Found, Member};
+use m3_check_state::{Checker, Found, Member};
 use m3_types::{Field, Formal, Method, TypeId, TypeNode};
 
 /// The member of this name that a type declares itself.

@@ -1,10 +1,10 @@
+use crate::kinds::is_reference;
 use crate::listing::{newest_member, own_member};
 use bumpalo::collections::into_bump_slice;
-use m3_base::{NoMemory, Pos};
+use m3_base::{NoMemory, Pos, rules};
+use m3_check_state::{Checker, Member, Thing};
 use m3_core::CoreExpr;
-use m3_declared::method_kind;
-use m3_operand_types::is_reference;
-use m3_operands::{Checker, Member, Thing};
+use m3_decl_lookup::method_kind;
 use m3_syntax::Name;
 use m3_types::{ConstId, ConstValue, Formal, Mode, TypeId, TypeNode};
 
@@ -27,7 +27,7 @@ pub fn type_member<'a>(
             }
         }
     }
-    Ok(checker.bad(name.pos, 62))
+    Ok(checker.bad(name.pos, rules::NO_SUCH_MEMBER))
 }
 
 /// `T.m`: the procedure that a method of a type is, with the object as its first formal.

@@ -1,7 +1,7 @@
 use m3_base::NoMemory;
-use m3_operands::Checker;
-use m3_subtype::structure;
+use m3_check_state::Checker;
 use m3_types::{Reveal, TypeId, TypeNode};
+use m3_types_subtype::structure;
 
 /// The structure that the unit sees of a type: of an opaque one its full reveal where one applies,
 /// else the least of its partial reveals, else its bound, and so on.

@@ -1,6 +1,6 @@
 use m3_base::{NoMemory, place_number};
-use m3_listing::is_given;
-use m3_operands::{Checker, Held, Variable};
+use m3_check_numbering::is_given;
+use m3_check_state::{Checker, Held, Variable};
 use m3_syntax::{Decl, Name, Unit, VarDecl};
 
 /// Gives each module and interface variable its number, by unit and place.

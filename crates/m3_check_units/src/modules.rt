@@ -1,14 +1,13 @@
 use bumpalo::collections::into_bump_slice;
 use m3_base::{NoMemory, Pos};
-use m3_bodies::Body;
+use m3_check_bodies::Body;
+use m3_check_state::Checker;
+use m3_check_statement_parts::{initial, put_block};
+use m3_check_statement_state::Walk;
 use m3_core::{CoreStmt, ProcDef};
-use m3_heads::initial;
-use m3_operands::Checker;
 use m3_stmts::statements;
 use m3_syntax::{Block, Name};
 use m3_types::{Formal, Raises, TypeNode};
-use m3_walk::Walk;
-use m3_wholes::put_block;
 
 /// What is known of a module beside its block.
 #[derive(Clone, Copy)]

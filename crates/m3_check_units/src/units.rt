@@ -1,14 +1,14 @@
 use crate::modules::{ModuleHeading, check_module};
-use m3_assignments::initial_value;
 use m3_base::{NoMemory, Refused, place_number};
-use m3_declarer::Doubtful;
+use m3_check_assignments::initial_value;
+use m3_check_names::judge_declaration;
+use m3_check_numbering::is_given;
+use m3_check_state::Checker;
+use m3_check_statement_state::Walk;
+use m3_decl_state::Doubtful;
 use m3_exprs::expression;
-use m3_listing::is_given;
-use m3_operands::Checker;
 use m3_stmts::procedure;
 use m3_syntax::{Decl, Unit, UnitKind, VarDecl};
-use m3_type_names::judge_declaration;
-use m3_walk::Walk;
 
 /// Checks the doubtful expressions of declarations, and the expressions and statements of all
 /// units, and lists the procedures.

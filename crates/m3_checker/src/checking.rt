@@ -2,19 +2,19 @@ ghost use Rattle.std.specs.Prelude.{◌<◌, All, length};
 
 use bumpalo::Bump;
 use m3_base::{Refused, Source};
+use m3_check_limits::{Lists, judge_limits};
+use m3_check_numbering::list_all;
+use m3_check_state::Checker;
+use m3_check_statement_state::Walk;
+use m3_check_units::{check_units, declare_globals};
 use m3_consts::{Declarations, declare};
 use m3_core::Core;
-use m3_declarer::Doubtful;
-use m3_limits::{Lists, judge_limits};
-use m3_listing::list_all;
-use m3_operands::Checker;
-use m3_program::read_program;
-use m3_scopes::Linked;
-use m3_sizes::SizedTypes;
+use m3_decl_state::Doubtful;
+use m3_link_program::read_program;
+use m3_link_scopes::Linked;
 use m3_syntax::Unit;
 use m3_types::{TypeGraph, TypeId, TypeNode};
-use m3_unit_walk::{check_units, declare_globals};
-use m3_walk::Walk;
+use m3_types_sizes::SizedTypes;
 use std::alloc::Global;
 
 /// The checked program of some sources, whose trees stand in the arena, or the least of all rules

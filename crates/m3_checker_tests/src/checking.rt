@@ -1,7 +1,7 @@
 use bumpalo::Bump;
 use m3_base::Source;
 use m3_checker::check;
-use m3_trial::{Trial, copies, refused_text};
+use m3_test_tables::{Trial, copies, refused_text};
 use std::alloc::{AllocError, Global};
 
 /// Tries the checker.

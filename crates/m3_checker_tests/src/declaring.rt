@@ -1,9 +1,9 @@
 use bumpalo::Bump;
 use m3_base::{Pos, Refused, Source};
 use m3_consts::declare;
-use m3_program::read_program;
-use m3_scopes::Linked;
-use m3_trial::{Trial, copies, place_text, refused_text};
+use m3_link_program::read_program;
+use m3_link_scopes::Linked;
+use m3_test_tables::{Trial, copies, place_text, refused_text};
 use std::alloc::{AllocError, Global};
 
 /// Tries what declares the types and constants of a program.

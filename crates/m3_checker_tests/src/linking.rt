@@ -1,8 +1,8 @@
 use crate::questions::answer_of_program;
 use bumpalo::Bump;
 use m3_base::Source;
-use m3_program::read_program;
-use m3_trial::{Trial, copies, refused_text};
+use m3_link_program::read_program;
+use m3_test_tables::{Trial, copies, refused_text};
 use std::alloc::{AllocError, Global};
 
 /// Tries what reads and links the files of a program.

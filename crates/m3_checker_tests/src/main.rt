@@ -20,7 +20,7 @@ mod questions;
 use checking::Checking;
 use declaring::Declaring;
 use linking::Linking;
-use m3_trial::{try_file, try_pieces};
+use m3_test_tables::{try_file, try_pieces};
 use std::rt::{Env, Files};
 use std::{env, fs, io};
 

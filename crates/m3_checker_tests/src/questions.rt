@@ -1,6 +1,6 @@
 use m3_base::{Pos, Source};
-use m3_scopes::Program;
-use m3_trial::place_text;
+use m3_link_scopes::Program;
+use m3_test_tables::place_text;
 use std::alloc::{AllocError, Global};
 
 /// What a case wants to know of a program that is accepted.

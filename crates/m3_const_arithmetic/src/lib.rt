@@ -8,5 +8,5 @@ mod words;
 
 pub use integers::{absolute, difference, negative, product, quotient, rest, sum};
 pub use sets::{add_range, common, has, is_within, joined, unshared, without};
-pub use texts::{concatenated, spelled};
+pub use texts::spelled;
 pub use words::{WordRoutine, routine_named, word_routine};

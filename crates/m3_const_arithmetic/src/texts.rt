@@ -50,15 +50,3 @@ pub fn spelled<'a>(arena: &'a Bump, text: &[u8]) -> Result<&'a [u8], NoMemory> {
     }
     Ok(into_bump_slice(row))
 }
-
-/// One text behind another.
-pub fn concatenated<'a>(arena: &'a Bump, a: &[u8], b: &[u8]) -> Result<&'a [u8], NoMemory> {
-    let mut row = Vec::new(arena);
-    for byte in a {
-        row.push(*byte)?;
-    }
-    for byte in b {
-        row.push(*byte)?;
-    }
-    Ok(into_bump_slice(row))
-}

@@ -2,7 +2,7 @@
 const LEAST: u64 = 0x8000_0000_0000_0000;
 
 /// The routines of the interface Word.
-#[derive(Clone, Copy, Debug, PartialEq, Eq)]
+#[derive(Clone, Copy, PartialEq, Eq)]
 pub enum WordRoutine {
     Plus,
     Times,

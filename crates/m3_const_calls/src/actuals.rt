@@ -1,8 +1,8 @@
 use m3_base::Pos;
-use m3_scopes::Predeclared;
+use m3_const_values::{Evaluator, Thing};
+use m3_link_scopes::Predeclared;
 use m3_syntax::Actual;
 use m3_types::TypeId;
-use m3_worth::{Evaluator, Thing};
 
 /// What the first three actuals of a predeclared routine are, with the places where they begin.
 #[derive(Clone, Copy)]

@@ -1,14 +1,14 @@
+use crate::actuals::{Given, has_name, limits, take};
 use crate::news::made;
+use crate::routines::routine_result;
 use crate::words::{
     Arguments, actual_pos, formal_named, give, result_of_call, word_result, word_routine_of,
 };
-use m3_base::{NoMemory, Pos};
-use m3_const_routines::{Given, has_name, limits, routine_result, take};
-use m3_early_types::is_integer;
-use m3_fold::WordRoutine;
-use m3_scopes::Predeclared;
+use m3_base::{NoMemory, Pos, rules};
+use m3_const_arithmetic::WordRoutine;
+use m3_const_values::{Evaluator, Thing, is_integer};
+use m3_link_scopes::Predeclared;
 use m3_syntax::Actual;
-use m3_worth::{Evaluator, Thing};
 
 /// A call whose actuals are taken one by one.
 #[derive(Clone, Copy)]
@@ -179,9 +179,10 @@ pub fn given_by<'a>(
         Called::Procedure(result, _) => Ok(result),
         Called::Word(word) => Ok(word_result(eval, pos, word.routine, &word.given)),
         Called::Routine(routine, given) => routine_result(eval, pos, routine, &given),
+        Called::New(Thing::Type(kind)) if eval.was_refused(kind) => Ok(Thing::Bad),
         Called::New(Thing::Type(kind)) => {
             let kind = made(eval, kind, actuals)?;
-            Ok(eval.varies(kind, pos, 40))
+            Ok(eval.varies(kind, pos, rules::NOT_CONSTANT))
         }
         Called::New(_) => Ok(Thing::Bad),
     }

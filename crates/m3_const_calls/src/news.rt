@@ -1,10 +1,9 @@
 use bumpalo::Bump;
 use bumpalo::collections::into_bump_slice;
 use m3_base::{NoMemory, Pos};
-use m3_early_names::newest_member;
+use m3_const_values::{Evaluator, Member, newest_member};
 use m3_syntax::{Actual, Expr, Selector};
 use m3_types::{ConstId, ConstValue, Field, Method, Override, TypeId, TypeNode};
-use m3_worth::{Evaluator, Member};
 
 /// The type of NEW of a type: with bound methods an object type that overrides them.
 pub fn made<'a>(

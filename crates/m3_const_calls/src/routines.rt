@@ -1,13 +1,13 @@
 use crate::actuals::{Given, type_argument};
-use m3_base::{NoMemory, Pos};
-use m3_core::Value;
-use m3_early_types::{
-    are_same, base_of, bounds_of, fits, is_integer, is_ordinal, is_reference, share_base,
+use m3_base::{NoMemory, Pos, rules};
+use m3_const_arithmetic::absolute;
+use m3_const_values::{
+    Evaluator, Known, Reason, Thing, Worth, are_same, base_of, both, bounds_of, fits, is_integer,
+    is_ordinal, is_reference, share_base,
 };
-use m3_fold::absolute;
-use m3_scopes::Predeclared;
+use m3_core::Value;
+use m3_link_scopes::Predeclared;
 use m3_types::{TypeId, TypeNode};
-use m3_worth::{Evaluator, Known, Reason, Thing, Worth, both};
 
 /// What a predeclared routine gives of its actuals.
 pub fn routine_result<'a>(
@@ -27,7 +27,7 @@ pub fn routine_result<'a>(
         Predeclared::Istype => istype(eval, pos, given),
         Predeclared::Narrow => narrow(eval, pos, given),
         Predeclared::Subarray => subarray(eval, pos, given),
-        _ => Ok(Thing::Other),
+        _ => Ok(Thing::Nothing(pos)),
     }
 }
 
@@ -46,7 +46,7 @@ fn abs<'a>(
     match worth.value {
         Known::Value(Value::Number(number)) => match absolute(number) {
             Some(number) => Ok(eval.number(kind, number)),
-            None => Ok(eval.varies(kind, pos, 41)),
+            None => Ok(eval.varies(kind, pos, rules::CONSTANT_OVERFLOW)),
         },
         Known::Value(_) => Ok(Thing::Bad),
         Known::Varies(reason) => Ok(eval.varies(kind, reason.pos, reason.rule)),
@@ -88,7 +88,7 @@ fn limit_of_array<'a>(
 ) -> Thing<'a> {
     let is_known = array.is_fixed || matches!(array.value, Known::Value(_));
     match limit {
-        Thing::Value(worth) if !is_known => eval.varies(worth.kind, pos, 40),
+        Thing::Value(worth) if !is_known => eval.varies(worth.kind, pos, rules::NOT_CONSTANT),
         other => other,
     }
 }
@@ -104,10 +104,10 @@ fn open_limit<'a>(
         _ => eval.declared.basic.integer,
     };
     let Known::Value(Value::Array(_, count)) = array.value else {
-        return eval.varies(kind, pos, 40);
+        return eval.varies(kind, pos, rules::NOT_CONSTANT);
     };
     let Ok(count) = i64::try_from(count) else {
-        return eval.varies(kind, pos, 40);
+        return eval.varies(kind, pos, rules::NOT_CONSTANT);
     };
     match routine {
         Predeclared::First => eval.number(kind, 0),
@@ -204,7 +204,7 @@ fn val<'a>(
         Known::Value(Value::Number(number)) if first <= number && number <= last => {
             Ok(eval.number(kind, number))
         }
-        Known::Value(_) => Ok(eval.varies(kind, pos, 43)),
+        Known::Value(_) => Ok(eval.varies(kind, pos, rules::CONSTANT_OUT_OF_RANGE)),
         Known::Varies(reason) => Ok(eval.varies(kind, reason.pos, reason.rule)),
     }
 }
@@ -235,7 +235,7 @@ fn istype<'a>(
     given: &Given<'a>,
 ) -> Result<Thing<'a>, NoMemory> {
     match related(eval, given)? {
-        Some(_) => Ok(eval.varies(eval.declared.basic.boolean, pos, 40)),
+        Some(_) => Ok(eval.varies(eval.declared.basic.boolean, pos, rules::NOT_CONSTANT)),
         None => Ok(Thing::Bad),
     }
 }
@@ -249,7 +249,7 @@ fn narrow<'a>(
         Some((worth, kind)) => match worth.value {
             Known::Value(Value::Nil) => Ok(eval.known(kind, Value::Nil)),
             other => {
-                let Reason { pos, rule } = other.reason_or(pos, 40);
+                let Reason { pos, rule } = other.reason_or(pos, rules::NOT_CONSTANT);
                 Ok(eval.varies(kind, pos, rule))
             }
         },
@@ -276,5 +276,5 @@ fn subarray<'a>(
         return Ok(Thing::Bad);
     }
     let kind = eval.declared.types.push(TypeNode::OpenArray(element))?;
-    Ok(eval.varies(kind, pos, 40))
+    Ok(eval.varies(kind, pos, rules::NOT_CONSTANT))
 }

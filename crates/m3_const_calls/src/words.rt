@@ -1,10 +1,10 @@
-use m3_base::{NoMemory, Pos};
+use m3_base::{NoMemory, Pos, rules};
+use m3_const_arithmetic::{WordRoutine, routine_named, word_routine};
+use m3_const_values::{Evaluator, Thing, Worth, both};
 use m3_core::Value;
-use m3_fold::{WordRoutine, routine_named, word_routine};
-use m3_scopes::EntityId;
+use m3_link_scopes::EntityId;
 use m3_syntax::Actual;
 use m3_types::TypeNode;
-use m3_worth::{Evaluator, Thing, Worth, both};
 
 /// The two arguments of a routine of Word.
 #[derive(Clone, Copy)]
@@ -35,8 +35,8 @@ pub fn result_of_call<'a>(
     };
     match result {
         Some(result) if result == eval.declared.basic.refused => Ok(Thing::Bad),
-        Some(result) => Ok(eval.varies(result, pos, 40)),
-        None => Ok(Thing::Other),
+        Some(result) => Ok(eval.varies(result, pos, rules::NOT_CONSTANT)),
+        None => Ok(Thing::Nothing(pos)),
     }
 }
 
@@ -79,7 +79,7 @@ pub fn word_result<'a>(
     match both(first.value, second.value) {
         Ok((Value::Number(x), Value::Number(y))) => match word_routine(routine, x, y) {
             Some(number) => eval.number(kind, number),
-            None => eval.varies(kind, pos, 42),
+            None => eval.varies(kind, pos, rules::CONSTANT_ZERO_DIVISOR),
         },
         Ok(_) => Thing::Bad,
         Err(reason) => eval.varies(kind, reason.pos, reason.rule),

@@ -1,6 +1,6 @@
 use m3_base::NoMemory;
+use m3_const_values::Evaluator;
 use m3_core::{Value, ValueId};
-use m3_worth::Evaluator;
 use std::collections::HashSet;
 
 /// Whether the values of two constants without parts are equal, texts by their cells; none where
@@ -48,14 +48,6 @@ impl Compared {
             self.add(*x, *y)?;
         }
         Ok(())
-    }
-}
-
-/// The bytes of a text, by its cell.
-pub fn text_of<'a>(eval: &Evaluator<'_, 'a>, cell: u32) -> &'a [u8] {
-    match eval.declared.texts.get(cell as usize) {
-        Some(text) => *text,
-        None => &[],
     }
 }
 

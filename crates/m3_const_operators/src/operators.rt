@@ -1,16 +1,16 @@
-use crate::equal::{are_equal, text_of};
-use m3_base::{NoMemory, Pos, place_number};
-use m3_core::Value;
-use m3_early_types::{
-    are_comparable, are_sets, is_boolean, is_integer, is_subtype, plain_node, share_base,
+use crate::equal::are_equal;
+use m3_base::{NoMemory, Pos, place_number, rules};
+use m3_const_arithmetic::{
+    common, difference, has, is_within, joined, negative, product, quotient, rest, sum, unshared,
+    without,
 };
-use m3_fold::{
-    common, concatenated, difference, has, is_within, joined, negative, product, quotient, rest,
-    sum, unshared, without,
+use m3_const_values::{
+    Evaluator, Known, Reason, Worth, are_comparable, are_sets, both, is_boolean, is_integer,
+    is_subtype, plain_node, share_base,
 };
+use m3_core::{Value, joined_text};
 use m3_syntax::Operator;
 use m3_types::{TypeId, TypeNode};
-use m3_worth::{Evaluator, Known, Reason, Worth, both};
 
 /// A truth value as the place of its member of BOOLEAN.
 pub fn truth<'a>(test: bool) -> Value<'a> {
@@ -23,13 +23,13 @@ fn arithmetic(operator: Operator, x: i64, y: i64) -> Result<i64, u16> {
         Operator::Plus => sum(x, y),
         Operator::Minus => difference(x, y),
         Operator::Times => product(x, y),
-        Operator::Div | Operator::Mod if y == 0 => return Err(42),
+        Operator::Div | Operator::Mod if y == 0 => return Err(rules::CONSTANT_ZERO_DIVISOR),
         Operator::Div => quotient(x, y),
         _ => rest(x, y),
     };
     match result {
         Some(number) => Ok(number),
-        None => Err(41),
+        None => Err(rules::CONSTANT_OVERFLOW),
     }
 }
 
@@ -179,11 +179,11 @@ fn concatenation<'a>(
         Ok((Value::Text(x), Value::Text(y))) => new_text(eval, x, y)?,
         Ok((Value::Nil, _)) => Known::Varies(Reason {
             pos: operands.pos,
-            rule: 43,
+            rule: rules::CONSTANT_OUT_OF_RANGE,
         }),
         Ok(_) => Known::Varies(Reason {
             pos: operands.right_pos,
-            rule: 43,
+            rule: rules::CONSTANT_OUT_OF_RANGE,
         }),
         Err(reason) => Known::Varies(reason),
     };
@@ -192,11 +192,9 @@ fn concatenation<'a>(
 
 /// A new cell with the bytes of two texts.
 fn new_text<'a>(eval: &mut Evaluator<'_, 'a>, x: u32, y: u32) -> Result<Known<'a>, NoMemory> {
-    let left = text_of(eval, x);
-    let right = text_of(eval, y);
-    let bytes = concatenated(eval.arena, left, right)?;
     let cell = place_number(eval.declared.texts.len())?;
-    eval.declared.texts.push(bytes)?;
+    let text = joined_text(eval.declared.texts.as_slice(), x, y);
+    eval.declared.texts.push(text)?;
     Ok(Known::Value(Value::Text(cell)))
 }
 
@@ -267,7 +265,10 @@ pub fn negated<'a>(value: Known<'a>, pos: Pos) -> Known<'a> {
     match value {
         Known::Value(Value::Number(number)) => match negative(number) {
             Some(number) => Known::Value(Value::Number(number)),
-            None => Known::Varies(Reason { pos, rule: 41 }),
+            None => Known::Varies(Reason {
+                pos,
+                rule: rules::CONSTANT_OVERFLOW,
+            }),
         },
         other => other,
     }

@@ -1,9 +1,8 @@
 use crate::operators::{Operands, negated, operate, truth};
 use m3_base::{NoMemory, Pos};
+use m3_const_values::{Evaluator, Known, Thing, Worth, is_boolean, is_integer};
 use m3_core::Value;
-use m3_early_types::{is_boolean, is_integer};
 use m3_syntax::{Operator, PrefixSign};
-use m3_worth::{Evaluator, Known, Thing, Worth};
 
 /// A worth as a thing.
 pub fn thing_of<'a>(worth: Option<Worth<'a>>) -> Thing<'a> {

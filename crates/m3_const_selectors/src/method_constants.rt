@@ -1,8 +1,8 @@
 use bumpalo::collections::into_bump_slice;
 use m3_base::NoMemory;
+use m3_const_values::{Evaluator, Need, Thing};
 use m3_core::Value;
 use m3_types::{ConstValue, Formal, Mode, TypeId, TypeNode};
-use m3_worth::{Evaluator, Need, Thing};
 
 /// `T.m`: the procedure that a method of a type is, with the object as its first formal.
 pub fn method_constant<'a>(

@@ -1,14 +1,13 @@
 use crate::method_constants::method_constant;
-use m3_base::{NoMemory, Pos};
-use m3_core::{Value, ValueId};
-use m3_declared::{field_kind, method_kind};
-use m3_early_names::{entity_thing, newest_member, own_member};
-use m3_early_types::{
-    bounds_of, fits, is_array, is_known_reference, is_reference, plain_node, seen_structure,
+use m3_base::{NoMemory, Pos, rules};
+use m3_const_values::{
+    Evaluator, Known, Member, Reason, Thing, Worth, both, bounds_of, entity_thing, fits, is_array,
+    is_known_reference, is_reference, newest_member, own_member, plain_node, seen_structure,
 };
+use m3_core::{Value, ValueId};
+use m3_decl_lookup::{field_kind, method_kind};
 use m3_syntax::Name;
 use m3_types::{TypeId, TypeNode};
-use m3_worth::{Evaluator, Known, Member, Reason, Thing, Worth, both};
 
 /// An index, with its place.
 #[derive(Clone, Copy)]
@@ -21,7 +20,10 @@ pub struct Index<'a> {
 fn behind<'a>(eval: &Evaluator<'_, 'a>, pos: Pos, worth: &Worth<'a>, kind: TypeId) -> Worth<'a> {
     let reason = match worth.value {
         Known::Varies(reason) => reason,
-        Known::Value(_) => Reason { pos, rule: 40 },
+        Known::Value(_) => Reason {
+            pos,
+            rule: rules::NOT_CONSTANT,
+        },
     };
     Worth {
         kind,
@@ -216,7 +218,7 @@ pub fn element<'a>(
                 },
                 None => Known::Varies(Reason {
                     pos: index.pos,
-                    rule: 43,
+                    rule: rules::CONSTANT_OUT_OF_RANGE,
                 }),
             }
         }

@@ -1,8 +1,9 @@
+use crate::evaluator::Evaluator;
 use crate::kinds::bounds_of;
-use m3_base::{NoMemory, Pos};
+use crate::worth::{Known, Reason, Worth};
+use m3_base::{NoMemory, Pos, rules};
 use m3_core::{Value, ValueId};
 use m3_types::{TypeId, TypeNode};
-use m3_worth::{Evaluator, Known, Reason, Worth};
 
 /// A value as one of a type that it can be assigned to, with the check that this needs (rules
 /// 43 and 40).
@@ -16,10 +17,13 @@ pub fn converted<'a>(
         Known::Varies(reason) => Known::Varies(reason),
         Known::Value(value) if worth.kind == to => Known::Value(value),
         Known::Value(value) => {
-            if is_in(eval, value, to)? {
+            if is_in(eval, value, worth.kind, to)? {
                 Known::Value(value)
             } else {
-                Known::Varies(Reason { pos, rule: 43 })
+                Known::Varies(Reason {
+                    pos,
+                    rule: rules::CONSTANT_OUT_OF_RANGE,
+                })
             }
         }
     };
@@ -30,35 +34,45 @@ pub fn converted<'a>(
     })
 }
 
-/// Whether a value that can be assigned to a type is in its range, or has its shape.
-fn is_in<'a>(eval: &mut Evaluator<'_, 'a>, value: Value<'a>, to: TypeId) -> Result<bool, NoMemory> {
+/// Whether a value of one type that can be assigned to another is in its range, or has its shape.
+fn is_in<'a>(
+    eval: &mut Evaluator<'_, 'a>,
+    value: Value<'a>,
+    from: TypeId,
+    to: TypeId,
+) -> Result<bool, NoMemory> {
     match value {
         Value::Number(number) => {
             eval.node(to)?;
             let (first, last) = bounds_of(eval, to);
             Ok(first <= number && number <= last)
         }
-        Value::Array(_, _) => has_shape(eval, value, to),
+        Value::Array(_, _) => has_shape(eval, value, from, to),
         _ => Ok(true),
     }
 }
 
-/// Whether an array has as many elements as its type says, in each dimension.
+/// Whether an array has as many elements as a type says, in each dimension that is open in its own
+/// type. Where it is fixed there, the types alone say whether it can be assigned.
 fn has_shape<'a>(
     eval: &mut Evaluator<'_, 'a>,
     value: Value<'a>,
+    from: TypeId,
     to: TypeId,
 ) -> Result<bool, NoMemory> {
     let mut stack = Vec::new(eval.alloc);
-    stack.push((value, to))?;
+    stack.push((value, from, to))?;
     for _step in 0..u64::MAX {
-        let Some((value, kind)) = stack.pop() else {
+        let Some((value, from, to)) = stack.pop() else {
             return Ok(true);
         };
         let Value::Array(parts, count) = value else {
             continue;
         };
-        let element = match eval.node(kind)? {
+        let (TypeNode::OpenArray(own), wanted) = (eval.node(from)?, eval.node(to)?) else {
+            continue;
+        };
+        let element = match wanted {
             TypeNode::FixedArray(index, element) => {
                 eval.node(index)?;
                 if eval.declared.types.member_count(index) != u128::from(count) {
@@ -69,7 +83,7 @@ fn has_shape<'a>(
             TypeNode::OpenArray(element) => element,
             _ => continue,
         };
-        push_arrays(eval, &mut stack, parts, element)?;
+        push_arrays(eval, &mut stack, parts, own, element)?;
     }
     Ok(true)
 }
@@ -77,14 +91,15 @@ fn has_shape<'a>(
 /// Puts the arrays among the elements of an array onto the stack.
 fn push_arrays<'a>(
     eval: &Evaluator<'_, 'a>,
-    stack: &mut Vec<(Value<'a>, TypeId)>,
+    stack: &mut Vec<(Value<'a>, TypeId, TypeId)>,
     parts: &[ValueId],
+    own: TypeId,
     element: TypeId,
 ) -> Result<(), NoMemory> {
     for part in parts {
         if let Some(value) = eval.stored(*part) {
             if let Value::Array(_, _) = value {
-                stack.push((value, element))?;
+                stack.push((value, own, element))?;
             }
         }
     }

@@ -1,17 +1,17 @@
 use crate::members::{Found, Member};
 use crate::worth::{Known, Reason, Thing, Worth};
 use bumpalo::Bump;
-use m3_base::{NoMemory, Pos, place_number};
+use m3_base::{NoMemory, Pos, place_number, rules};
 use m3_core::{Value, ValueId};
-use m3_declared::Declared;
-use m3_scopes::{EntityId, Program};
+use m3_decl_lookup::Declared;
+use m3_link_scopes::{EntityId, Program};
 use m3_types::{Reveal, TypeId, TypeNode};
 use std::alloc::Global;
 use std::collections::{HashMap, HashSet};
 
 /// What has to be worked out: a constant, the type of a variable that names none, the definition
 /// of a type, or what is bound to its methods.
-#[derive(Clone, Copy, Debug, PartialEq, Eq, Hash)]
+#[derive(Clone, Copy, PartialEq, Eq, Hash)]
 pub enum Need {
     Constant(EntityId),
     Kind(EntityId),
@@ -21,7 +21,7 @@ pub enum Need {
 }
 
 /// That a value of one type can be assigned to another, which is judged when all types are there.
-#[derive(Clone, Copy, Debug)]
+#[derive(Clone, Copy)]
 pub struct Assumed {
     pub unit: u32,
     pub pos: Pos,
@@ -126,6 +126,19 @@ impl<'p, 'a> Evaluator<'p, 'a> {
         }
     }
 
+    /// Whether a type was worked out and refused, or is an array type with such an index.
+    pub fn was_refused(&self, kind: TypeId) -> bool {
+        match self.definition(kind) {
+            TypeNode::FixedArray(index, _) => self.has_no_definition(index),
+            _ => self.has_no_definition(kind),
+        }
+    }
+
+    fn has_no_definition(&self, kind: TypeId) -> bool {
+        matches!(self.definition(kind), TypeNode::Reserved)
+            && self.settled.contains(&Need::Node(kind))
+    }
+
     /// The definition of a type as it stands.
     pub fn definition(&self, kind: TypeId) -> TypeNode<'a> {
         match self.declared.types.nodes.get(kind.0 as usize) {
@@ -174,18 +187,22 @@ impl<'p, 'a> Evaluator<'p, 'a> {
         })
     }
 
+    fn no_value(&mut self, pos: Pos) -> Option<Worth<'a>> {
+        if self.is_constant {
+            self.note(pos, rules::NOT_CONSTANT);
+        }
+        None
+    }
+
     /// What an operand is worth as a value. What is no value has no worth, and is no constant
     /// either.
     pub fn value_of(&mut self, pos: Pos, thing: Thing<'a>) -> Option<Worth<'a>> {
         match thing {
             Thing::Value(worth) => Some(worth),
             Thing::Bad => None,
-            _ => {
-                if self.is_constant {
-                    self.note(pos, 40);
-                }
-                None
-            }
+            Thing::Type(kind) if self.was_refused(kind) => None,
+            Thing::Nothing(call) => self.no_value(call),
+            _ => self.no_value(pos),
         }
     }
 }

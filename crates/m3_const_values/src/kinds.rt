@@ -1,7 +1,8 @@
+use crate::evaluator::{Assumed, Evaluator};
 use m3_base::{NoMemory, Pos};
-use m3_subtype::{Assign, assignable, structure, subtype};
+use m3_decl_lookup::{Family, family_of};
 use m3_types::{TypeId, TypeNode};
-use m3_worth::{Assumed, Evaluator};
+use m3_types_subtype::{Assign, assignable, structure, subtype};
 
 /// The base type of an ordinal type; every other type is its own.
 pub fn base_of(eval: &Evaluator<'_, '_>, kind: TypeId) -> TypeId {
@@ -70,7 +71,7 @@ pub fn are_same(eval: &Evaluator<'_, '_>, a: TypeId, b: TypeId) -> Result<bool, 
     if a == b {
         return Ok(true);
     }
-    m3_same::same(eval.alloc, &eval.declared.types, a, b)
+    m3_types_subtype::same(eval.alloc, &eval.declared.types, a, b)
 }
 
 /// Whether both are ordinal types of one base.
@@ -93,17 +94,19 @@ pub fn are_sets(eval: &mut Evaluator<'_, '_>, a: TypeId, b: TypeId) -> Result<bo
     Ok(false)
 }
 
-/// Whether a type is a subtype of another in the view of the unit.
+/// Whether a type is a subtype of another in the view of the unit, or that hangs on what was
+/// refused.
 pub fn is_subtype(eval: &Evaluator<'_, '_>, a: TypeId, b: TypeId) -> Result<bool, NoMemory> {
-    if a == b {
+    if a == b || eval.declared.is_unsure(a, b) {
         return Ok(true);
     }
     subtype(eval.alloc, &eval.declared.types, eval.unit, a, b)
 }
 
-/// Whether values of a type can be assigned to another in the view of the unit.
+/// Whether values of a type can be assigned to another in the view of the unit, or that hangs on
+/// what was refused.
 pub fn assignability(eval: &Evaluator<'_, '_>, a: TypeId, b: TypeId) -> Result<Assign, NoMemory> {
-    if a == b {
+    if a == b || eval.declared.is_unsure(a, b) {
         return Ok(Assign::Yes);
     }
     assignable(eval.alloc, &eval.declared.types, eval.unit, a, b)
@@ -159,11 +162,20 @@ fn fits_surely(
     if is_simple {
         return Ok(Some(assignability(eval, from, to)? != Assign::No));
     }
-    Ok(None)
+    match (family_of_type(eval, from)?, family_of_type(eval, to)?) {
+        (Some(one), Some(other)) if one != other => Ok(Some(false)),
+        _ => Ok(None),
+    }
+}
+
+/// The family of a type, where its definition is there.
+fn family_of_type(eval: &mut Evaluator<'_, '_>, kind: TypeId) -> Result<Option<Family>, NoMemory> {
+    Ok(family_of(plain_node(eval, kind)?))
 }
 
 /// Whether a value of one type can be assigned to another. Where it takes types that aren't
-/// worked out yet, it is assumed.
+/// worked out yet, it is assumed. Where it hangs on what was refused, a value inside an expression
+/// has no worth.
 pub fn fits(
     eval: &mut Evaluator<'_, '_>,
     pos: Pos,
@@ -171,6 +183,9 @@ pub fn fits(
     to: TypeId,
     is_wanted: bool,
 ) -> Result<bool, NoMemory> {
+    if !is_wanted && eval.declared.is_unsure(from, to) {
+        return Ok(false);
+    }
     if let Some(fits) = fits_surely(eval, from, to)? {
         return Ok(fits);
     }
@@ -193,6 +208,9 @@ pub fn are_comparable(
     a: TypeId,
     b: TypeId,
 ) -> Result<bool, NoMemory> {
+    if eval.declared.is_unsure(a, b) {
+        return Ok(false);
+    }
     let one = fits_surely(eval, a, b)?;
     if one == Some(true) {
         return Ok(true);

@@ -1,7 +1,8 @@
+use crate::evaluator::Evaluator;
+use crate::kinds::seen_structure;
+use crate::members::{Found, Member};
 use m3_base::{NoMemory, place_number};
-use m3_early_types::seen_structure;
 use m3_types::{Field, Method, TypeId, TypeNode};
-use m3_worth::{Evaluator, Found, Member};
 
 /// How many ancestors are passed between two for which a member that was found is noted.
 const NOTED_EVERY: usize = 64;

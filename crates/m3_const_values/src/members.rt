@@ -2,7 +2,7 @@ use m3_types::{Field, Method, TypeId};
 
 /// A member of a type by its place: a field or a method of its own part, or a member of an
 /// enumeration.
-#[derive(Clone, Copy, Debug, PartialEq, Eq)]
+#[derive(Clone, Copy, PartialEq, Eq)]
 pub enum Member {
     Field(u32),
     Method(u32),
@@ -10,7 +10,7 @@ pub enum Member {
 }
 
 /// A member with the type that declares it.
-#[derive(Clone, Copy, Debug)]
+#[derive(Clone, Copy)]
 pub struct Found {
     pub owner: TypeId,
     pub member: Member,

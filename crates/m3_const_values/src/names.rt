@@ -1,9 +1,10 @@
-use m3_base::{NoMemory, Pos};
+use crate::evaluator::{Evaluator, Need};
+use crate::worth::{Known, Reason, Thing, Worth};
+use m3_base::{NoMemory, Pos, rules};
 use m3_core::Value;
-use m3_scopes::{Entity, EntityId, EntityKind, Predeclared};
+use m3_link_scopes::{Entity, EntityId, EntityKind, Predeclared};
 use m3_syntax::{Name, Qualid, TypeExp, TypeName};
 use m3_types::TypeId;
-use m3_worth::{Evaluator, Known, Need, Reason, Thing, Worth};
 
 /// What a name stands for where it is used.
 pub fn thing_named<'a>(
@@ -65,12 +66,15 @@ fn variable_thing<'a>(
         eval.lack(Need::Kind(id))?;
         return Ok(Thing::Bad);
     };
-    if kind == eval.declared.basic.refused {
+    if eval.was_refused(kind) {
         return Ok(Thing::Bad);
     }
     Ok(Thing::Value(Worth {
         kind,
-        value: Known::Varies(Reason { pos, rule: 40 }),
+        value: Known::Varies(Reason {
+            pos,
+            rule: rules::NOT_CONSTANT,
+        }),
         is_fixed: true,
     }))
 }
@@ -97,7 +101,7 @@ fn procedure_thing<'a>(
     };
     match eval.declared.procedure_number(id) {
         Some(number) if entity.is_outermost => eval.known(kind, Value::Procedure(number)),
-        _ => eval.varies(kind, pos, 40),
+        _ => eval.varies(kind, pos, rules::NOT_CONSTANT),
     }
 }
 

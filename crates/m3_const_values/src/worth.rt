@@ -1,10 +1,10 @@
 use m3_base::Pos;
 use m3_core::Value;
-use m3_scopes::{EntityId, Predeclared};
+use m3_link_scopes::{EntityId, Predeclared};
 use m3_types::TypeId;
 
 /// A broken rule, with its place.
-#[derive(Clone, Copy, Debug, PartialEq, Eq, PartialOrd, Ord)]
+#[derive(Clone, Copy, PartialEq, Eq, PartialOrd, Ord)]
 pub struct Reason {
     pub pos: Pos,
     pub rule: u16,
@@ -47,7 +47,9 @@ pub enum Thing<'a> {
     Method(TypeId),
     /// An imported interface.
     Interface(u32),
-    /// An exception, or a call without result.
+    /// A call without result, by its place.
+    Nothing(Pos),
+    /// An exception.
     Other,
 }
 

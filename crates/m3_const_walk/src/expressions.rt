@@ -1,12 +1,11 @@
+use crate::parts::{Origin, Part, Parts, add_part, parts_for, whole};
 use m3_base::{NoMemory, Pos};
 use m3_const_calls::{Called, begun, given_by, with_actual};
-use m3_const_constructors::{Part, Parts, add_part, parts_for, whole};
 use m3_const_operators::{denied, operated, signs_applied, thing_of};
 use m3_const_selectors::{Index, dereference, dot, element};
+use m3_const_values::{Evaluator, Thing, Worth, thing_named, type_of};
 use m3_core::Value;
-use m3_early_names::{thing_named, type_of};
 use m3_syntax::{Actual, Element, Expr, Selector, TypeExp};
-use m3_worth::{Evaluator, Thing, Worth};
 
 /// What an expression is worth as a value.
 #[cycle(expressions)]
@@ -205,7 +204,7 @@ fn part_worth<'a>(
     match element {
         Element::Value(value) => {
             let worth = expression(eval, value)?;
-            Ok(Part::One(value.pos(), worth))
+            Ok(Part::One(value.pos(), worth, origin_of(value)))
         }
         Element::Range(first, last) => {
             let from = expression(eval, first)?;
@@ -216,5 +215,19 @@ fn part_worth<'a>(
             let worth = expression(eval, value)?;
             Ok(Part::Named(*name, value.pos(), worth))
         }
+    }
+}
+
+/// Whether an element is a name, also of another unit, a constructor, or anything else.
+fn origin_of(value: &Expr<'_>) -> Origin {
+    match value {
+        Expr::Parenthesis { inner, .. } => origin_of(inner),
+        Expr::Constructor { .. } => Origin::Written,
+        Expr::Name(_) => Origin::Named,
+        Expr::Selected { selectors, .. } => match selectors {
+            [Selector::Member(_)] => Origin::Named,
+            _ => Origin::Computed,
+        },
+        _ => Origin::Computed,
     }
 }

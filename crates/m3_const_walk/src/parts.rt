@@ -1,13 +1,13 @@
 use bumpalo::Bump;
 use bumpalo::collections::into_bump_slice;
-use m3_base::{NoMemory, Pos};
+use m3_base::{NoMemory, Pos, rules};
+use m3_const_arithmetic::add_range;
+use m3_const_values::{
+    Evaluator, Known, Member, Reason, Thing, Worth, converted, fits, own_member,
+};
 use m3_core::{Value, ValueId};
-use m3_early_names::own_member;
-use m3_early_types::{converted, fits};
-use m3_fold::add_range;
 use m3_syntax::Name;
 use m3_types::{Field, TypeId, TypeNode};
-use m3_worth::{Evaluator, Known, Member, Reason, Thing, Worth};
 
 /// The most members that the base of a set may have.
 pub const MOST_MEMBERS: u128 = 256;
@@ -40,10 +40,18 @@ impl Parts<'_> {
     }
 }
 
+/// Whether an element is a name, a constructor, or anything else.
+#[derive(Clone, Copy)]
+pub enum Origin {
+    Named,
+    Written,
+    Computed,
+}
+
 /// What an element of a constructor is worth, with its places.
 #[derive(Clone, Copy)]
 pub enum Part<'a> {
-    One(Pos, Option<Worth<'a>>),
+    One(Pos, Option<Worth<'a>>, Origin),
     Range(Pos, Option<Worth<'a>>, Pos, Option<Worth<'a>>),
     Named(Name<'a>, Pos, Option<Worth<'a>>),
 }
@@ -135,7 +143,7 @@ fn add_to_set<'a>(
     part: Part<'a>,
 ) -> Result<(), NoMemory> {
     let (first, last) = match part {
-        Part::One(pos, worth) => {
+        Part::One(pos, worth, _) => {
             let value = assigned(eval, parts, pos, worth, base)?;
             (value, value)
         }
@@ -163,18 +171,42 @@ fn add_to_array<'a>(
     element: TypeId,
     part: Part<'a>,
 ) -> Result<(), NoMemory> {
-    let Part::One(pos, worth) = part else {
+    let Part::One(pos, worth, origin) = part else {
         parts.is_wrong = true;
         return Ok(());
     };
+    if !has_known_shape(eval, element, worth, origin)? {
+        parts.is_wrong = true;
+        return Ok(());
+    }
     if let Some(value) = assigned(eval, parts, pos, worth, element)? {
         if !has_shape_of_first(eval, parts, value) {
-            parts.varies(Reason { pos, rule: 43 });
+            parts.varies(Reason {
+                pos,
+                rule: rules::CONSTANT_OUT_OF_RANGE,
+            });
         }
         let stored = eval.store(value)?;
         parts.values.push(stored)?;
     }
     Ok(())
+}
+
+/// Whether constants fix the shape of an element that is an open array: it is of a fixed array type,
+/// a constant by its name, or a constructor.
+fn has_known_shape<'a>(
+    eval: &mut Evaluator<'_, 'a>,
+    element: TypeId,
+    worth: Option<Worth<'a>>,
+    origin: Origin,
+) -> Result<bool, NoMemory> {
+    let (Some(worth), TypeNode::OpenArray(_)) = (worth, eval.node(element)?) else {
+        return Ok(true);
+    };
+    match (origin, worth.value) {
+        (Origin::Written, _) | (Origin::Named, Known::Value(_)) => Ok(true),
+        _ => Ok(matches!(eval.node(worth.kind)?, TypeNode::FixedArray(_, _))),
+    }
 }
 
 /// Whether a row of an array has the shape of the first row, in each dimension.
@@ -211,7 +243,7 @@ fn add_to_record<'a>(
     part: Part<'a>,
 ) -> Result<(), NoMemory> {
     let (place, pos, worth) = match part {
-        Part::One(pos, worth) if !parts.is_named => {
+        Part::One(pos, worth, _) if !parts.is_named => {
             let place = parts.next;
             parts.next = place.saturating_add(1);
             (Some(place), pos, worth)
@@ -223,7 +255,7 @@ fn add_to_record<'a>(
                 _ => (None, pos, worth),
             }
         }
-        Part::One(pos, worth) | Part::Range(pos, worth, _, _) => (None, pos, worth),
+        Part::One(pos, worth, _) | Part::Range(pos, worth, _, _) => (None, pos, worth),
     };
     add_field(eval, parts, fields, place, pos, worth)
 }

@@ -1,15 +1,14 @@
 use crate::judging::judge_all;
 use bumpalo::Bump;
 use m3_base::{NoMemory, Refused};
-use m3_declared::{Basic, Declared};
-use m3_declarer::{Declarer, Doubtful, Trees};
-use m3_defining::{define_all, name_all};
-use m3_gather::gather;
-use m3_reserving::reserve_all;
-use m3_scopes::Linked;
-use m3_settle::settle_all;
+use m3_const_values::Evaluator;
+use m3_decl_lookup::{Basic, Declared};
+use m3_decl_solver::settle_all;
+use m3_decl_state::{Declarer, Doubtful, Trees};
+use m3_decl_types::{define_all, name_all, reserve_all};
+use m3_link_gather::gather;
+use m3_link_scopes::Linked;
 use m3_types::{TypeGraph, TypeNode};
-use m3_worth::Evaluator;
 use std::alloc::Global;
 
 /// The types that every program has.

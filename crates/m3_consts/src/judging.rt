@@ -1,19 +1,18 @@
-use m3_base::{NoMemory, Pos};
-use m3_constant_values::worth_of;
-use m3_declaration_rules::{judge_arguments, judge_bodies, judge_brands};
-use m3_declared::Constant;
-use m3_declarer::{Declarer, Doubtful, Doubts, Promise, Trees};
-use m3_early_types::{assignability, converted};
-use m3_gathered::LabelAt;
-use m3_method_rules::judge_methods;
-use m3_recursive_types::judge_recursion;
-use m3_reveals::judge_reveals;
-use m3_scopes::{Entity, EntityKind};
-use m3_subtype::Assign;
+use m3_base::{NoMemory, Pos, rules};
+use m3_const_values::{Known, Worth, assignability, converted};
+use m3_decl_constants::worth_of;
+use m3_decl_lookup::Constant;
+use m3_decl_reveals::judge_reveals;
+use m3_decl_rules::{
+    judge_arguments, judge_bodies, judge_brands, judge_methods, judge_parts, judge_recursion,
+};
+use m3_decl_solver::{is_kept, tell_unsound};
+use m3_decl_state::{Declarer, Doubtful, Doubts, Promise, Trees};
+use m3_link_gather::LabelAt;
+use m3_link_scopes::{Entity, EntityKind};
 use m3_syntax::{Expr, Init};
-use m3_type_rules::judge_parts;
 use m3_types::TypeId;
-use m3_worth::{Assumed, Known, Worth};
+use m3_types_subtype::Assign;
 
 /// Judges what takes all types and constants.
 pub fn judge_all<'a>(
@@ -22,6 +21,7 @@ pub fn judge_all<'a>(
 ) -> Result<(), NoMemory> {
     judge_recursion(declarer)?;
     judge_parts(declarer, trees)?;
+    tell_unsound(declarer)?;
     judge_methods(declarer, trees.gathered.types.as_slice())?;
     judge_reveals(declarer, trees.declarations)?;
     judge_promises(declarer, &mut trees.doubts)?;
@@ -49,19 +49,6 @@ fn judge_promises<'a>(
     Ok(())
 }
 
-/// Whether what was assumed holds.
-fn is_kept(declarer: &mut Declarer<'_, '_>, assumed: &Assumed) -> Result<bool, NoMemory> {
-    if declarer.is_refused(assumed.from) || declarer.is_refused(assumed.to) {
-        return Ok(true);
-    }
-    declarer.eval.unit = assumed.unit;
-    let mut fits = assignability(&declarer.eval, assumed.from, assumed.to)? != Assign::No;
-    if assumed.either && !fits {
-        fits = assignability(&declarer.eval, assumed.to, assumed.from)? != Assign::No;
-    }
-    Ok(fits)
-}
-
 /// Refuses a promise that isn't kept, or keeps its expression as a doubtful one.
 fn refuse_promise<'a>(
     declarer: &mut Declarer<'_, 'a>,
@@ -70,7 +57,7 @@ fn refuse_promise<'a>(
 ) -> Result<(), NoMemory> {
     let assumed = &promise.assumed;
     if assumed.is_wanted {
-        declarer.note(assumed.unit, assumed.pos, 44);
+        declarer.note(assumed.unit, assumed.pos, rules::WRONG_KIND_OF_CONSTANT);
     } else {
         doubtful.push(Doubtful {
             unit: assumed.unit,
@@ -145,7 +132,7 @@ fn judge_initial<'a>(
     };
     let is_known = matches!(worth.value, Known::Value(_));
     if !is_known {
-        declarer.note(unit, name, 49);
+        declarer.note(unit, name, rules::BAD_DECLARATION);
     } else if !declarer.is_refused(to)
         && assignability(&declarer.eval, worth.kind, to)? != Assign::No
     {
@@ -173,7 +160,7 @@ fn keep_initial<'a>(
                 .place_constant(unit, pos, Constant { kind, value })
         }
         Known::Varies(_) => {
-            declarer.note(unit, name, 49);
+            declarer.note(unit, name, rules::BAD_DECLARATION);
             Ok(())
         }
     }

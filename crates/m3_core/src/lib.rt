@@ -7,6 +7,7 @@ mod chains;
 mod exprs;
 mod program;
 mod stmts;
+mod texts;
 mod values;
 
 pub use calls::{Actual, BuiltinCall, Routine};
@@ -19,4 +20,5 @@ pub use program::{Core, ExcDef, ProcDef, Role, VarDef, VarKind};
 pub use stmts::{
     Arm, Bound, CaseBranch, CoreStmt, Else, Handler, LabelRange, TypeBranch, WithBinding,
 };
+pub use texts::{LONGEST_TEXT, Text, bytes_of, joined_text, length_of};
 pub use values::{Value, ValueId};

@@ -1,9 +1,10 @@
 use crate::exprs::CoreExpr;
 use crate::stmts::CoreStmt;
+use crate::texts::Text;
 use crate::values::Value;
 use m3_base::Pos;
-use m3_sizes::SizedTypes;
 use m3_types::TypeId;
+use m3_types_sizes::SizedTypes;
 
 /// A checked program.
 #[derive(Drop)]
@@ -16,8 +17,8 @@ pub struct Core<'a> {
     /// The module and interface variables, by unit and place.
     pub globals: &'a [VarDef<'a>],
     pub exceptions: &'a [ExcDef<'a>],
-    /// The bytes of each text literal and constant text: each is one cell of its own.
-    pub texts: &'a [&'a [u8]],
+    /// The text literals and the constant texts that `&` makes.
+    pub texts: &'a [Text<'a>],
     /// The module bodies, by their numbers, in the order in which they run.
     pub order: &'a [u32],
     /// The constants that expressions and the defaults of types name.

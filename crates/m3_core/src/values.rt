@@ -1,5 +1,5 @@
 /// A constant of the program, by its place in the program's list of constants.
-#[derive(Clone, Copy, Debug, PartialEq, Eq, PartialOrd, Ord, Hash)]
+#[derive(Clone, Copy, PartialEq, Eq, PartialOrd, Ord, Hash)]
 pub struct ValueId(pub u32);
 
 /// The value of a constant. The constants that it is made of stand before it in the list.

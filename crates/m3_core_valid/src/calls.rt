@@ -1,8 +1,9 @@
 use crate::chains::judge_place;
 use crate::expressions::judge_expression;
+use crate::judge::{Judge, mark};
+use crate::tables::Form;
 use m3_base::NoMemory;
 use m3_core::{Actual, BuiltinCall, Routine};
-use m3_core_judge::{Form, Judge, mark};
 use m3_types::TypeId;
 use std::alloc::Global;
 

@@ -1,7 +1,8 @@
 use crate::calls::{expect_called, judge_actuals};
 use crate::expressions::{judge_expression, kind_of};
+use crate::judge::Judge;
+use crate::tables::Form;
 use m3_core::{Base, Chain, Step};
-use m3_core_judge::{Form, Judge};
 use m3_types::TypeId;
 
 /// What a chain gives up to a step: a place, or a value, if the step gives one at all.

@@ -1,8 +1,10 @@
 use crate::calls::expect_builtin;
 use crate::chains::{judge_array, judge_value};
+use crate::judge::Judge;
 use crate::rows::{expect_bindings, expect_fields, judge_bindings, judge_elements, judge_fields};
+use crate::tables::Form;
 use m3_core::{CoreExpr, Operation};
-use m3_core_judge::{Form, Judge};
+use m3_source::KnownShape;
 use m3_types::TypeId;
 
 /// The type of an expression; None for what gives nothing.
@@ -115,7 +117,7 @@ fn expect_node(judge: &mut Judge<'_>, value: &CoreExpr<'_>) {
 fn expect_constructor(judge: &mut Judge<'_>, value: &CoreExpr<'_>) {
     match value {
         CoreExpr::SetOf { kind, .. } => judge.expect(matches!(judge.form(*kind), Form::Set)),
-        CoreExpr::ArrayOf { kind, .. } => judge.expect(judge.is_array(*kind)),
+        CoreExpr::ArrayOf { kind, elements, .. } => expect_rows(judge, *kind, elements),
         CoreExpr::RecordOf { kind, fields, .. } => expect_fields(judge, *kind, fields),
         CoreExpr::New {
             made,
@@ -127,6 +129,29 @@ fn expect_constructor(judge: &mut Judge<'_>, value: &CoreExpr<'_>) {
             expect_bindings(judge, *made, bindings);
         }
         _ => {}
+    }
+}
+
+/// Constants fix the shape of each row of an open array of open arrays.
+fn expect_rows(judge: &mut Judge<'_>, kind: TypeId, elements: &[CoreExpr<'_>]) {
+    judge.expect(judge.is_array(kind));
+    let has_open_rows = match judge.form(kind) {
+        Form::OpenArray(row) => matches!(judge.form(row), Form::OpenArray(_)),
+        _ => false,
+    };
+    if has_open_rows {
+        for row in elements {
+            judge.expect(has_known_shape(judge, row));
+        }
+    }
+}
+
+/// Whether a row is of a fixed array type, a constant or an array that is written out.
+fn has_known_shape(judge: &Judge<'_>, row: &CoreExpr<'_>) -> bool {
+    match KnownShape::of(row) {
+        KnownShape::Written { .. } | KnownShape::Constant { .. } => true,
+        KnownShape::Typed(Some(kind)) => matches!(judge.form(kind), Form::FixedArray),
+        KnownShape::Typed(None) => false,
     }
 }
 

@@ -1,8 +1,9 @@
 use crate::expressions::judge_expression;
+use crate::judge::Judge;
 use crate::statements::judge_statements;
+use crate::tables::{Form, Heading, Tables, Variable, variable_of};
 use m3_base::NoMemory;
-use m3_core::{Core, ExcDef, ProcDef, Value, ValueId, VarDef};
-use m3_core_judge::{Form, Heading, Judge, Tables, Variable, variable_of};
+use m3_core::{Core, ExcDef, ProcDef, Text, Value, ValueId, VarDef, length_of};
 use std::alloc::Global;
 
 /// Whether a checked tree is well formed: the graph of its types is, each variable, field, method,
@@ -10,7 +11,7 @@ use std::alloc::Global;
 /// is defined for, each type is a type of the program, and each call and constructor has what it
 /// needs, each once. That the types of the parts fit each other isn't judged.
 pub fn is_well_formed(alloc: Global, core: &Core<'_>) -> Result<bool, NoMemory> {
-    let have_form = m3_forms::is_well_formed(alloc, &core.types.graph)?;
+    let have_form = m3_types_valid::is_well_formed(alloc, &core.types.graph)?;
     let tables = Tables::of(alloc, core)?;
     let mut judge = Judge::new(alloc, &tables, core.exceptions);
     judge.expect(have_form);
@@ -21,6 +22,7 @@ pub fn is_well_formed(alloc: Global, core: &Core<'_>) -> Result<bool, NoMemory> 
 fn judge_program(judge: &mut Judge<'_>, tables: &Tables, core: &Core<'_>) {
     judge_globals(judge, core.globals);
     judge_exceptions(judge, core.exceptions);
+    judge_texts(judge, core.texts);
     judge_values(judge, core.values);
     judge_order(judge, core.order);
     judge.expect_exception(core.alerted);
@@ -47,6 +49,23 @@ fn judge_variables(judge: &mut Judge<'_>, variables: &[Variable]) {
 fn judge_exceptions(judge: &mut Judge<'_>, exceptions: &[ExcDef<'_>]) {
     for exception in exceptions {
         judge.expect_optional(exception.argument);
+    }
+}
+
+/// The texts, each of which is made of those before it that aren't empty, and has their length.
+fn judge_texts(judge: &mut Judge<'_>, texts: &[Text<'_>]) {
+    for (place, text) in texts.iter().enumerate() {
+        if let Text::Joined {
+            left,
+            right,
+            length,
+        } = text
+        {
+            let before = length_of(texts, *left);
+            let behind = length_of(texts, *right);
+            judge.expect((*left as usize) < place && (*right as usize) < place);
+            judge.expect(before > 0 && behind > 0 && *length == before.saturating_add(behind));
+        }
     }
 }
 

@@ -1,7 +1,8 @@
 use crate::expressions::judge_expression;
+use crate::judge::{Judge, mark};
+use crate::tables::Form;
 use m3_base::NoMemory;
 use m3_core::{Binding, FieldValue, SetElement};
-use m3_core_judge::{Form, Judge, mark};
 use m3_types::TypeId;
 use std::alloc::Global;
 

@@ -1,8 +1,8 @@
 use crate::calls::expect_builtin;
 use crate::chains::{Given, judge_chain, judge_place};
 use crate::expressions::{judge_expression, judge_optional, judge_row};
+use crate::judge::Judge;
 use m3_core::{Arm, Bound, CaseBranch, CoreStmt, Handler, TypeBranch, WithBinding};
-use m3_core_judge::Judge;
 
 /// Judges each statement of a row.
 #[cycle(statements)]

@@ -11,7 +11,7 @@ mod words;
 
 use bumpalo::Bump;
 use m3_core_valid::is_well_formed;
-use m3_trial::Tally;
+use m3_test_tables::Tally;
 use programs::program_of;
 use std::alloc::Global;
 use std::rt::Files;

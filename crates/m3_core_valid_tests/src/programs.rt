@@ -4,25 +4,32 @@ use crate::types::{FUNCTION, INTEGER, OBJECT, OPEN_REFERENCE, PLAIN, REFERENCE, 
 use crate::words::Words;
 use bumpalo::Bump;
 use m3_base::NoMemory;
-use m3_core::{Core, CoreStmt, ExcDef, ProcDef, Role, Value, ValueId, VarDef, VarKind};
+use m3_core::{Core, CoreStmt, ExcDef, ProcDef, Role, Text, Value, ValueId, VarDef, VarKind};
 use m3_types::TypeId;
 use std::alloc::Global;
 
-/// What programs differ in: their procedures, the order of the bodies, the constants, and the
-/// place of the exception of alerts.
+/// What programs differ in: their procedures, the order of the bodies, the texts, the constants,
+/// and the place of the exception of alerts.
 #[derive(Clone, Copy)]
 struct Rows<'a> {
     procs: &'a [ProcDef<'a>],
     order: &'a [u32],
+    texts: &'a [Text<'a>],
     values: &'a [Value<'a>],
     alerted: u32,
 }
+
+/// The text of a program.
+const TEXT: Text<'static> = Text::Literal(b"text");
+
+static TEXTS: [Text<'static>; 1] = [TEXT];
 
 /// The program of a form:
 ///
 /// - `program order PLACE` or `program alerted PLACE`: with that body in its order, or that place
 ///   of the exception of alerts, in place of those that it ought to have; `program` alone with
 ///   both;
+/// - `program joined LEFT RIGHT LENGTH` with one text more, which is made of two and has a length;
 /// - `procedure-alone CHANGE` with nothing but one procedure, which is changed: `typed TYPE`,
 ///   `level NUMBER`, `inside PLACE`, `raises PLACE`, `bare` (without its formal) or nothing;
 /// - the statement of the procedure, in any other form.
@@ -49,7 +56,7 @@ fn program_by<'a>(alloc: Global, arena: &'a Bump, rows: Rows<'a>) -> Result<Core
         procs: rows.procs,
         globals,
         exceptions,
-        texts: &[b"text"],
+        texts: rows.texts,
         order: rows.order,
         values: rows.values,
         files: &[b"Main.m3"],
@@ -68,6 +75,7 @@ fn program_around<'a>(arena: &'a Bump, body: &[CoreStmt<'a>]) -> Result<Rows<'a>
     Ok(Rows {
         procs,
         order: &[1],
+        texts: &TEXTS,
         values,
         alerted: 0,
     })
@@ -77,6 +85,7 @@ fn changed_program<'a>(arena: &'a Bump, mut words: Words<'_>) -> Result<Rows<'a>
     let rows = program_around(arena, &[])?;
     match words.take() {
         "order" => ordered(arena, rows, words.take_number()),
+        "joined" => joined(arena, rows, words),
         "alerted" => Ok(Rows {
             alerted: words.take_number(),
             ..rows
@@ -90,6 +99,19 @@ fn ordered<'a>(arena: &'a Bump, rows: Rows<'a>, place: u32) -> Result<Rows<'a>, 
     Ok(Rows { order, ..rows })
 }
 
+fn joined<'a>(arena: &'a Bump, rows: Rows<'a>, mut words: Words<'_>) -> Result<Rows<'a>, NoMemory> {
+    let left = words.take_number();
+    let right = words.take_number();
+    let length = u64::from(words.take_number());
+    let joined = Text::Joined {
+        left,
+        right,
+        length,
+    };
+    let texts = &*arena.try_alloc_slice_copy(&[TEXT, joined])?;
+    Ok(Rows { texts, ..rows })
+}
+
 fn procedure_alone<'a>(arena: &'a Bump, mut words: Words<'_>) -> Result<Rows<'a>, NoMemory> {
     let proc = function(arena, &[])?;
     let proc = match words.take() {
@@ -100,6 +122,7 @@ fn procedure_alone<'a>(arena: &'a Bump, mut words: Words<'_>) -> Result<Rows<'a>
     Ok(Rows {
         procs,
         order: &[],
+        texts: &TEXTS,
         values: &[],
         alerted: 0,
     })

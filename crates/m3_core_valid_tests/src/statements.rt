@@ -1,10 +1,12 @@
 use crate::chains::chain_of;
-use crate::types::{FUNCTION, INTEGER, RECORD, REFERENCE};
+use crate::types::{FUNCTION, INTEGER, OPEN, RECORD, REFERENCE};
 use crate::words::Words;
 use bumpalo::Bump;
 use bumpalo::collections::into_bump_slice;
 use m3_base::{NoMemory, Pos};
-use m3_core::{BuiltinCall, Chain, CoreExpr, CoreStmt, FieldValue, Routine, ValueId};
+use m3_core::{
+    Base, BuiltinCall, Chain, Conversion, CoreExpr, CoreStmt, FieldValue, Routine, Step, ValueId,
+};
 use m3_types::TypeId;
 
 /// No place of a source, since none is told.
@@ -22,7 +24,9 @@ pub const POS: Pos = Pos {
 /// - `max COUNT COUNT PLACE .. [gives]` or `put-int ..`: a call with so many actuals, and their
 ///   places in order, a statement of its own unless it gives a number;
 /// - EVAL of a value: `text PLACE`, `constant PLACE`, `procedure PLACE`, `inner PLACE`, `record
-///   TYPE PLACE PLACE` (a number for each of two fields) or `new TYPE COUNT` (with so many sizes).
+///   TYPE PLACE PLACE` (a number for each of two fields), `new TYPE COUNT` (with so many sizes) or
+///   `array TYPE ROW` (of one row, which is `written`, `constant`, either of these `checked`, or a
+///   variable of a type).
 pub fn statement_of<'a>(arena: &'a Bump, form: &str) -> Result<CoreStmt<'a>, NoMemory> {
     let (name, rest) = form.split_once(" ").unwrap_or((form, ""));
     let words = Words::of(rest);
@@ -159,6 +163,7 @@ fn value_of<'a>(
     match name {
         "record" => record_of(arena, words),
         "new" => new_of(arena, words),
+        "array" => array_of(arena, words),
         _ => Ok(constant_of(name, words.take_number())),
     }
 }
@@ -215,4 +220,61 @@ fn new_of<'a>(arena: &'a Bump, mut words: Words<'_>) -> Result<CoreExpr<'a>, NoM
         sizes: numbers(arena, words.take_number())?,
         bindings: &[],
     })
+}
+
+fn array_of<'a>(arena: &'a Bump, mut words: Words<'_>) -> Result<CoreExpr<'a>, NoMemory> {
+    let kind = words.take_type();
+    let row = row_of(arena, words)?;
+    Ok(CoreExpr::ArrayOf {
+        pos: POS,
+        kind,
+        elements: &*arena.try_alloc_slice_copy(&[row])?,
+        is_filled: false,
+    })
+}
+
+fn row_of<'a>(arena: &'a Bump, mut words: Words<'_>) -> Result<CoreExpr<'a>, NoMemory> {
+    match words.take() {
+        "checked" => Ok(CoreExpr::Convert {
+            pos: POS,
+            kind: OPEN,
+            check: Conversion::Shape,
+            operand: &*arena.try_alloc(known_row_of(arena, words.take())?)?,
+        }),
+        "variable" => variable_of(arena, words.take_type()),
+        name => known_row_of(arena, name),
+    }
+}
+
+/// A row that is written out, or a constant.
+fn known_row_of<'a>(arena: &'a Bump, name: &str) -> Result<CoreExpr<'a>, NoMemory> {
+    match name {
+        "written" => Ok(CoreExpr::ArrayOf {
+            pos: POS,
+            kind: OPEN,
+            elements: numbers(arena, 1)?,
+            is_filled: false,
+        }),
+        _ => Ok(CoreExpr::Constant {
+            pos: POS,
+            kind: OPEN,
+            value: ValueId(0),
+        }),
+    }
+}
+
+/// What the variable at place 0 holds, as a value of a type.
+fn variable_of<'a>(arena: &'a Bump, kind: TypeId) -> Result<CoreExpr<'a>, NoMemory> {
+    let base = Base::Local {
+        level: 0,
+        variable: 0,
+        kind,
+    };
+    let steps = &*arena.try_alloc_slice_copy(&[Step::Read { kind }])?;
+    Ok(CoreExpr::Chain(&*arena.try_alloc(Chain {
+        pos: POS,
+        base,
+        steps,
+        kind: Some(kind),
+    })?))
 }

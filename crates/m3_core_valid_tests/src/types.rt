@@ -1,8 +1,8 @@
 //! The types of the programs that are judged.
 use bumpalo::Bump;
 use m3_base::NoMemory;
-use m3_sizes::SizedTypes;
 use m3_types::{Field, Formal, Method, Mode, Raises, TypeGraph, TypeId, TypeNode};
+use m3_types_sizes::SizedTypes;
 use std::alloc::Global;
 
 pub const INTEGER: TypeId = TypeId(0);
@@ -22,6 +22,12 @@ pub const FUNCTION: TypeId = TypeId(6);
 pub const ROOT: TypeId = TypeId(7);
 /// OBJECT f: INTEGER METHODS m(x: INTEGER): INTEGER END.
 pub const OBJECT: TypeId = TypeId(8);
+/// ARRAY OF ARRAY OF INTEGER.
+pub const ROWS: TypeId = TypeId(9);
+
+const PAIR: TypeId = TypeId(10);
+/// ARRAY [0..1] OF INTEGER.
+pub const FIXED: TypeId = TypeId(11);
 /// A type that no program has.
 pub const NONE: TypeId = TypeId(99);
 
@@ -72,6 +78,9 @@ fn nodes_of<'a>(arena: &'a Bump) -> Result<&'a [TypeNode<'a>], NoMemory> {
         TypeNode::Procedure(formals, Some(INTEGER), Raises::Any),
         TypeNode::Root,
         object_node(arena)?,
+        TypeNode::OpenArray(OPEN),
+        TypeNode::Subrange(INTEGER, 0, 1),
+        TypeNode::FixedArray(PAIR, INTEGER),
     ];
     Ok(&*arena.try_alloc_slice_copy(&nodes)?)
 }

@@ -1,5 +1,6 @@
 use crate::types::{
-    FUNCTION, INTEGER, NONE, OBJECT, OPEN, OPEN_REFERENCE, PLAIN, RECORD, REFERENCE, ROOT,
+    FIXED, FUNCTION, INTEGER, NONE, OBJECT, OPEN, OPEN_REFERENCE, PLAIN, RECORD, REFERENCE, ROOT,
+    ROWS,
 };
 use m3_types::TypeId;
 
@@ -49,6 +50,8 @@ fn type_named(name: &str) -> TypeId {
         "function" => FUNCTION,
         "ROOT" => ROOT,
         "object" => OBJECT,
+        "rows" => ROWS,
+        "fixed" => FIXED,
         _ => NONE,
     }
 }

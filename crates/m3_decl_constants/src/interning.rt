@@ -1,9 +1,9 @@
 use bumpalo::Bump;
 use bumpalo::collections::into_bump_slice;
 use m3_base::NoMemory;
+use m3_const_values::are_same;
 use m3_core::{Value, ValueId};
-use m3_declarer::Declarer;
-use m3_early_types::are_same;
+use m3_decl_state::Declarer;
 use m3_types::{ConstId, ConstValue, TypeNode};
 
 /// A constant of the program as one that types contain: after its parts, over an explicit
@@ -72,14 +72,17 @@ fn intern_whole(declarer: &mut Declarer<'_, '_>, value: ValueId) -> Result<(), N
 }
 
 /// A constant of the program as types contain it.
-fn contained<'a>(declarer: &Declarer<'_, 'a>, value: ValueId) -> Result<ConstValue<'a>, NoMemory> {
+fn contained<'a>(
+    declarer: &mut Declarer<'_, 'a>,
+    value: ValueId,
+) -> Result<ConstValue<'a>, NoMemory> {
     let Some(value) = declarer.eval.stored(value) else {
         return Ok(ConstValue::Nil);
     };
     match value {
         Value::Number(number) => Ok(ConstValue::Ordinal(number)),
         Value::Nil => Ok(ConstValue::Nil),
-        Value::Text(_) => Ok(contained_text(declarer, value)),
+        Value::Text(_) => contained_text(declarer, value),
         Value::Procedure(number) => Ok(ConstValue::Procedure(number)),
         Value::Set(members) => Ok(ConstValue::Set(places_of(declarer, members)?)),
         Value::Record(parts) => Ok(ConstValue::Fields(row_of(declarer, parts)?)),
@@ -90,10 +93,13 @@ fn contained<'a>(declarer: &Declarer<'_, 'a>, value: ValueId) -> Result<ConstVal
     }
 }
 
-fn contained_text<'a>(declarer: &Declarer<'_, 'a>, value: Value<'a>) -> ConstValue<'a> {
-    match declarer.bytes_of(value) {
-        Some(text) => ConstValue::Text(text),
-        None => ConstValue::Nil,
+fn contained_text<'a>(
+    declarer: &mut Declarer<'_, 'a>,
+    value: Value<'a>,
+) -> Result<ConstValue<'a>, NoMemory> {
+    match declarer.bytes_of(value)? {
+        Some(text) => Ok(ConstValue::Text(text)),
+        None => Ok(ConstValue::Nil),
     }
 }
 

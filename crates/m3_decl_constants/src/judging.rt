@@ -1,11 +1,10 @@
-use m3_base::NoMemory;
+use m3_base::{NoMemory, rules};
+use m3_const_values::{Known, Worth, converted, fits};
+use m3_const_walk::expression;
 use m3_core::Value;
-use m3_declarer::{Declarer, Doubtful, Doubts, Promise};
-use m3_early_types::{converted, fits};
-use m3_evaluate::expression;
+use m3_decl_state::{Declarer, Doubtful, Doubts, Promise};
 use m3_syntax::Expr;
-use m3_types::{TypeId, TypeNode};
-use m3_worth::{Known, Need, Worth};
+use m3_types::TypeId;
 
 /// What an expression is worth.
 pub fn worth_of<'a>(
@@ -48,7 +47,11 @@ fn assume<'a>(
 ) -> Result<(), NoMemory> {
     for assumed in &declarer.eval.assumed {
         let assumed = *assumed;
-        doubts.assumed.push(Promise { assumed, value })?;
+        doubts.assumed.push(Promise {
+            assumed,
+            value,
+            constant: None,
+        })?;
     }
     declarer.eval.assumed.clear();
     Ok(())
@@ -82,7 +85,7 @@ pub fn constant_of<'a>(
     let Some((kind, known)) = typed_constant(declarer, doubts, value)? else {
         return Ok(None);
     };
-    if was_refused(declarer, to) {
+    if declarer.eval.was_refused(to) || declarer.eval.declared.is_unsure(kind, to) {
         return Ok(None);
     }
     let pos = value.pos();
@@ -92,7 +95,7 @@ pub fn constant_of<'a>(
         return Ok(None);
     }
     if !fits {
-        declarer.refuse(pos, 44)?;
+        declarer.refuse(pos, rules::WRONG_KIND_OF_CONSTANT)?;
         return Ok(None);
     }
     let worth = Worth {
@@ -107,10 +110,4 @@ pub fn constant_of<'a>(
             Ok(None)
         }
     }
-}
-
-/// Whether a type was worked out and refused.
-fn was_refused(declarer: &Declarer<'_, '_>, kind: TypeId) -> bool {
-    matches!(declarer.eval.definition(kind), TypeNode::Reserved)
-        && declarer.eval.settled.contains(&Need::Node(kind))
 }

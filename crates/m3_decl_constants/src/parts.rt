@@ -1,11 +1,11 @@
+use crate::interning::intern;
+use crate::judging::{constant_of, typed_constant};
 use bumpalo::Bump;
 use bumpalo::collections::into_bump_slice;
-use m3_base::{NoMemory, Pos};
-use m3_constant_values::{constant_of, intern, typed_constant};
+use m3_base::{NoMemory, Pos, rules};
+use m3_const_values::{base_of, entity_named, is_ordinal, share_base};
 use m3_core::Value;
-use m3_declarer::{BrandAt, Declarer, Doubts};
-use m3_early_names::entity_named;
-use m3_early_types::{base_of, is_ordinal, share_base};
+use m3_decl_state::{BrandAt, Declarer, Doubts};
 use m3_syntax::{Expr, Init, Name, Signature};
 use m3_types::{Brand, Field, Formal, Initial, Mode, Raises, TypeId, TypeNode};
 
@@ -39,7 +39,7 @@ pub fn subrange<'a>(
         return Ok(None);
     };
     if !share_base(&mut declarer.eval, kind, other)? {
-        declarer.refuse(last.pos(), 44)?;
+        declarer.refuse(last.pos(), rules::WRONG_KIND_OF_CONSTANT)?;
         return Ok(None);
     }
     Ok(Some(TypeNode::Subrange(base_of(&declarer.eval, kind), from, to)))
@@ -57,7 +57,7 @@ fn bound_of<'a>(
     match value {
         Value::Number(number) if is_ordinal(&mut declarer.eval, kind)? => Ok(Some((kind, number))),
         _ => {
-            declarer.refuse(pos, 44)?;
+            declarer.refuse(pos, rules::WRONG_KIND_OF_CONSTANT)?;
             Ok(None)
         }
     }
@@ -159,7 +159,7 @@ fn raises_of<'a>(
             Some(number) => row.push(number)?,
             None => {
                 let unit = declarer.eval.unit;
-                declarer.note_later(unit, name.first.pos, 78);
+                declarer.note_later(unit, name.first.pos, rules::NOT_AN_EXCEPTION);
             }
         }
     }
@@ -179,12 +179,12 @@ pub fn brand_of<'a>(
     };
     if let Some(value) = brand.text {
         if let Some((_, known)) = typed_constant(declarer, doubts, value)? {
-            match declarer.bytes_of(known) {
+            match declarer.bytes_of(known)? {
                 Some(text) => {
                     note_brand(declarer, text, value.pos())?;
                     return Ok(Some(Brand::Text(text)));
                 }
-                None => declarer.refuse(value.pos(), 44)?,
+                None => declarer.refuse(value.pos(), rules::WRONG_KIND_OF_CONSTANT)?,
             }
         }
     }

@@ -1,12 +1,12 @@
 use m3_base::{Least, NoMemory, Pos};
-use m3_core::{Value, ValueId};
-use m3_scopes::EntityId;
+use m3_core::{Text, Value, ValueId};
+use m3_link_scopes::EntityId;
 use m3_types::{TypeGraph, TypeId};
 use std::alloc::Global;
-use std::collections::HashMap;
+use std::collections::{HashMap, HashSet};
 
 /// The types that every program has.
-#[derive(Clone, Copy, Debug)]
+#[derive(Clone, Copy)]
 pub struct Basic {
     pub integer: TypeId,
     pub boolean: TypeId,
@@ -22,7 +22,7 @@ pub struct Basic {
 }
 
 /// A constant: its type and its value.
-#[derive(Clone, Copy, Debug)]
+#[derive(Clone, Copy)]
 pub struct Constant {
     pub kind: TypeId,
     pub value: ValueId,
@@ -34,8 +34,13 @@ pub struct Declared<'a> {
     pub types: TypeGraph<'a>,
     pub basic: Basic,
     pub values: Vec<Value<'a>>,
-    /// The bytes of each text literal and constant text: each is one cell.
-    pub texts: Vec<&'a [u8]>,
+    /// The text literals and the constant texts: each is one cell.
+    pub texts: Vec<Text<'a>>,
+    /// The types whose own text breaks a rule or hangs on what was refused.
+    pub flawed: HashSet<TypeId>,
+    /// The types that were refused, and the flawed ones, with those that name one of these, however
+    /// far down. What hangs on them isn't judged.
+    pub unsound: HashSet<TypeId>,
     /// The least broken rule of expressions and statements that was met in declarations.
     pub later: Least,
     named: HashMap<EntityId, TypeId>,
@@ -57,6 +62,8 @@ impl<'a> Declared<'a> {
             basic,
             values: Vec::new(alloc),
             texts: Vec::new(alloc),
+            flawed: HashSet::new(alloc),
+            unsound: HashSet::new(alloc),
             later: Least::new(),
             named: HashMap::new(alloc),
             kinds: HashMap::new(alloc),
@@ -99,6 +106,11 @@ impl<'a> Declared<'a> {
     pub fn give_constant(&mut self, entity: EntityId, constant: Constant) -> Result<(), NoMemory> {
         self.constants.insert(entity, constant)?;
         Ok(())
+    }
+
+    /// Forgets a constant that turns out to be none of its type.
+    pub fn forget_constant(&mut self, entity: EntityId) {
+        self.constants.remove(&entity);
     }
 
     /// The type of the type expression whose first token stands at a place of a unit's text.

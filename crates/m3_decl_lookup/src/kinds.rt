@@ -1,5 +1,5 @@
 use crate::declared::Basic;
-use m3_scopes::Predeclared;
+use m3_link_scopes::Predeclared;
 use m3_types::{TypeId, TypeNode};
 
 impl Basic {

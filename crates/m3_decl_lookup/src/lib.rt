@@ -3,7 +3,9 @@
 #![tactic(auto)]
 
 mod declared;
+mod families;
 mod kinds;
 
 pub use declared::{Basic, Constant, Declared};
+pub use families::{Family, family_of};
 pub use kinds::{field_kind, method_kind};

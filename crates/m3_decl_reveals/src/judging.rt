@@ -1,7 +1,7 @@
 use crate::telling::{Told, all_told};
-use m3_base::NoMemory;
-use m3_declarer::Declarer;
-use m3_scopes::Declaration;
+use m3_base::{NoMemory, rules};
+use m3_decl_state::Declarer;
+use m3_link_scopes::Declaration;
 use m3_types::{TypeId, TypeNode};
 
 /// A view in which no reveal applies.
@@ -69,7 +69,7 @@ fn judge_full<'a>(
         || !is_below_bound(declarer, kind, found.opaque)?
         || !is_below_partial(declarer, told, first, found.opaque, kind)?
     {
-        declarer.note(found.unit, found.pos, 45);
+        declarer.note(found.unit, found.pos, rules::BAD_REVELATION);
     }
     Ok(())
 }
@@ -128,7 +128,7 @@ fn judge_partial<'a>(
                 && !is_fully_below(declarer, found.kind, other.kind)?
                 && !is_fully_below(declarer, other.kind, found.kind)?
             {
-                declarer.note(found.unit, found.pos, 45);
+                declarer.note(found.unit, found.pos, rules::BAD_REVELATION);
                 return Ok(());
             }
         }
@@ -157,7 +157,7 @@ fn is_fully_below<'a>(declarer: &Declarer<'_, 'a>, a: TypeId, b: TypeId) -> Resu
     let above = taken_full(declarer, b);
     let mut at = taken_full(declarer, a);
     for _ in 0..declarer.eval.declared.types.nodes.len() {
-        if m3_subtype::subtype(
+        if m3_types_subtype::subtype(
             declarer.eval.alloc,
             &declarer.eval.declared.types,
             NO_VIEW,

@@ -1,8 +1,8 @@
 use indexmap::IndexSet;
 use m3_base::{NoMemory, Pos, place_number};
-use m3_declarer::Declarer;
-use m3_early_names::type_of;
-use m3_scopes::{Declaration, Revealed};
+use m3_const_values::type_of;
+use m3_decl_state::Declarer;
+use m3_link_scopes::{Declaration, Revealed};
 use m3_syntax::TypeExp;
 use m3_types::{Reveal, TypeGraph, TypeId, TypeNode};
 

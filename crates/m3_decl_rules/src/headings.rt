@@ -1,8 +1,8 @@
 use crate::wideness::{Words, new_words, words_of};
-use m3_base::{NoMemory, Pos, place_number};
-use m3_declarer::{Declarer, Trees};
-use m3_early_types::is_subtype;
-use m3_scopes::{Declaration, Entity, EntityId, EntityKind};
+use m3_base::{NoMemory, Pos, place_number, rules};
+use m3_const_values::is_subtype;
+use m3_decl_state::{Declarer, Trees};
+use m3_link_scopes::{Declaration, Entity, EntityId, EntityKind};
 
 /// Rule 49 on the arguments of exceptions.
 pub fn judge_arguments<'a>(
@@ -34,7 +34,7 @@ fn judge_argument<'a>(
         return Ok(());
     };
     if !declarer.is_refused(kind) && words_of(declarer, words, kind)? > 1 {
-        declarer.note(unit, pos, 49);
+        declarer.note(unit, pos, rules::BAD_DECLARATION);
     }
     Ok(())
 }
@@ -49,7 +49,7 @@ pub fn judge_brands<'a>(declarer: &mut Declarer<'_, 'a>) -> Result<(), NoMemory>
     let mut before: Option<&[u8]> = None;
     for (text, _, pos, unit) in &order {
         if before == Some(*text) {
-            declarer.note(*unit, *pos, 49);
+            declarer.note(*unit, *pos, rules::BAD_DECLARATION);
         }
         before = Some(*text);
     }
@@ -94,12 +94,12 @@ fn judge_body<'a>(
     ) else {
         return Ok(());
     };
-    if declarer.is_refused(wanted) || declarer.is_refused(kind) {
+    if declarer.is_unsound(wanted) || declarer.is_unsound(kind) {
         return Ok(());
     }
     declarer.eval.unit = entity.unit;
     if !is_subtype(&declarer.eval, kind, wanted)? {
-        declarer.note(entity.unit, pos, 49);
+        declarer.note(entity.unit, pos, rules::BAD_DECLARATION);
     }
     Ok(())
 }

@@ -1,13 +1,11 @@
-use m3_base::{NoMemory, place_number};
-use m3_declared::method_kind;
-use m3_declarer::{Declarer, MethodValue};
-use m3_early_names::{newest_member, type_of_name};
-use m3_early_types::{is_subtype, seen_structure};
-use m3_gathered::TypeAt;
+use m3_base::{NoMemory, place_number, rules};
+use m3_const_values::{Member, is_subtype, newest_member, seen_structure, type_of_name};
+use m3_decl_lookup::method_kind;
+use m3_decl_state::{Declarer, MethodValue};
+use m3_link_gather::TypeAt;
 use m3_syntax::TypeExp;
 use m3_types::{Mode, Secret, TypeId, TypeNode};
-use m3_worth::Member;
-use std::collections::HashSet;
+use std::collections::{HashMap, HashSet};
 
 /// How many ancestors are passed between two that are noted as being below a type.
 const NOTED_EVERY: usize = 64;
@@ -36,14 +34,47 @@ pub fn judge_methods<'a>(
     let mut lines = Lines {
         below: HashSet::new(declarer.eval.alloc),
     };
+    let mut roots = HashMap::new(declarer.eval.alloc);
     for place in 0..declarer.values.len() {
         if let Some(value) = declarer.values.get(place).copied() {
-            if !orphans.contains(&value.object) {
+            if !is_orphan(declarer, &orphans, &mut roots, value.object)? {
                 judge_value(declarer, &mut lines, &value)?;
             }
         }
     }
     Ok(())
+}
+
+/// Whether a part of an object type or one of its ancestors has a parent that is refused. What
+/// is found of them is kept.
+fn is_orphan<'a>(
+    declarer: &Declarer<'_, 'a>,
+    orphans: &HashSet<TypeId>,
+    known: &mut HashMap<TypeId, bool>,
+    object: TypeId,
+) -> Result<bool, NoMemory> {
+    let mut passed = Vec::new(declarer.eval.alloc);
+    let mut at = object;
+    let mut is_orphan = false;
+    'ancestors: for _ in 0..declarer.eval.declared.types.nodes.len() {
+        if let Some(found) = known.get(&at) {
+            is_orphan = *found;
+            break 'ancestors;
+        }
+        passed.push(at)?;
+        if orphans.contains(&at) || declarer.is_refused(at) {
+            is_orphan = true;
+            break 'ancestors;
+        }
+        match declarer.eval.definition(at) {
+            TypeNode::Object(_, parent, _, _, _) => at = parent,
+            _ => break 'ancestors,
+        }
+    }
+    for kind in &passed {
+        known.insert(*kind, is_orphan)?;
+    }
+    Ok(is_orphan)
 }
 
 /// The parts of object types whose parents are refused.
@@ -85,7 +116,7 @@ fn judge_parent<'a>(
         return Ok(Some(first));
     }
     if !is_parent(declarer, parent)? {
-        declarer.note(written.unit, name.pos(), 49);
+        declarer.note(written.unit, name.pos(), rules::BAD_DECLARATION);
         return Ok(Some(first));
     }
     Ok(None)
@@ -103,7 +134,8 @@ fn is_parent<'a>(declarer: &mut Declarer<'_, 'a>, kind: TypeId) -> Result<bool, 
     ))
 }
 
-/// Refuses what is bound to a method and doesn't fit it, and an override of no method.
+/// Refuses what is bound to a method and doesn't fit it, what overrides one and is no procedure
+/// (rule 44), and an override of no method.
 fn judge_value<'a>(
     declarer: &mut Declarer<'_, 'a>,
     lines: &mut Lines,
@@ -114,6 +146,10 @@ fn judge_value<'a>(
         Some(signature) => Some(signature),
         None => overridden(declarer, value)?,
     };
+    if let (Some(_), Some(pos)) = (signature, value.wrong) {
+        declarer.note(value.unit, pos, rules::WRONG_KIND_OF_CONSTANT);
+        return Ok(());
+    }
     let is_good = match (signature, value.procedure) {
         (None, _) => false,
         (Some(_), None) => true,
@@ -122,7 +158,7 @@ fn judge_value<'a>(
         }
     };
     if !is_good {
-        declarer.note(value.unit, value.pos, 49);
+        declarer.note(value.unit, value.pos, rules::BAD_DECLARATION);
     }
     Ok(())
 }
@@ -147,7 +183,7 @@ fn overridden<'a>(
     }
 }
 
-/// Whether a procedure can be a method of an object type, or one of them is refused.
+/// Whether a procedure can be a method of an object type, or a type in one of them is refused.
 fn fits<'a>(
     declarer: &mut Declarer<'_, 'a>,
     lines: &mut Lines,
@@ -155,7 +191,7 @@ fn fits<'a>(
     signature: TypeId,
     procedure: TypeId,
 ) -> Result<bool, NoMemory> {
-    if declarer.is_refused(procedure) || declarer.is_refused(signature) {
+    if declarer.is_unsound(procedure) || declarer.is_unsound(signature) {
         return Ok(true);
     }
     method_fits(declarer, lines, object, signature, procedure)

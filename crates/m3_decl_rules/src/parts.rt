@@ -1,12 +1,12 @@
-use m3_base::{NoMemory, Pos, place_number};
-use m3_declarer::{Declarer, Trees};
-use m3_gathered::TypeAt;
-use m3_scopes::{Declaration, Entity, EntityId, EntityKind};
+use m3_base::{NoMemory, Pos, place_number, rules};
+use m3_decl_state::{Declarer, Trees};
+use m3_link_gather::TypeAt;
+use m3_link_scopes::{Declaration, Entity, EntityId, EntityKind};
 use m3_syntax::{Init, ObjectPart, Signature, TypeExp};
 use m3_types::{TypeId, TypeNode};
 
 /// Which types a place forbids beside empty ordinal types.
-#[derive(Clone, Copy, Debug, PartialEq, Eq)]
+#[derive(Clone, Copy, PartialEq, Eq)]
 enum Open {
     Allowed,
     Forbidden,
@@ -20,20 +20,37 @@ fn place_of(init: &Init<'_>) -> Pos {
     }
 }
 
-/// Rules 47 and 48 on the parts of types, and on variables.
+/// Rules 47 and 48 on the parts of types, and on variables. The types that break one are noted.
 pub fn judge_parts<'a>(
     declarer: &mut Declarer<'_, 'a>,
     trees: &Trees<'_, 'a>,
 ) -> Result<(), NoMemory> {
     for written in &trees.gathered.types {
+        let notes = declarer.notes;
         judge_type(declarer, written);
+        if declarer.notes > notes {
+            let kind = declarer.kind_of(written.kind);
+            declarer.flawed.push(kind)?;
+        }
     }
     let program = declarer.eval.program;
     for (place, entity) in program.binds.entities().iter().enumerate() {
         let id = EntityId(place_number(place)?);
         if let Some(declaration) = trees.declaration(entity) {
+            let notes = declarer.notes;
             judge_entity(declarer, declaration, entity, id);
+            if declarer.notes > notes && entity.kind == EntityKind::Procedure {
+                note_flawed(declarer, id)?;
+            }
         }
+    }
+    Ok(())
+}
+
+/// Notes that the signature of a procedure breaks a rule.
+fn note_flawed(declarer: &mut Declarer<'_, '_>, procedure: EntityId) -> Result<(), NoMemory> {
+    if let Some(kind) = declarer.eval.declared.kind_of(procedure) {
+        declarer.flawed.push(kind)?;
     }
     Ok(())
 }
@@ -59,7 +76,7 @@ fn judge_held<'a>(declarer: &mut Declarer<'_, 'a>, unit: u32, pos: Pos, kind: Ty
     let is_empty = is_ordinal(declarer, kind)
         && declarer.eval.declared.types.member_count(kind) == 0;
     if is_empty || is_open && open == Open::Forbidden {
-        declarer.note(unit, pos, 47);
+        declarer.note(unit, pos, rules::TYPE_NOT_ALLOWED_HERE);
     }
 }
 
@@ -70,11 +87,11 @@ fn judge_ordinal<'a>(
     exp: &TypeExp<'a>,
 ) -> Option<TypeId> {
     let kind = declarer.kind_of(exp);
-    if declarer.is_refused(kind) {
+    if declarer.is_unsound(kind) {
         return None;
     }
     if !is_ordinal(declarer, kind) {
-        declarer.note(unit, exp.pos(), 47);
+        declarer.note(unit, exp.pos(), rules::TYPE_NOT_ALLOWED_HERE);
         return None;
     }
     Some(kind)
@@ -100,7 +117,7 @@ fn judge_type<'a>(declarer: &mut Declarer<'_, 'a>, written: &TypeAt<'a>) {
         TypeExp::Set { pos, base } => {
             if let Some(kind) = judge_ordinal(declarer, unit, base) {
                 if declarer.eval.declared.types.member_count(kind) > 256 {
-                    declarer.note(unit, *pos, 48);
+                    declarer.note(unit, *pos, rules::SET_TOO_LARGE);
                 }
             }
         }
@@ -211,7 +228,7 @@ fn judge_signature<'a>(
     }
     if let (Some(kind), Some(exp)) = (result, signature.result) {
         if let TypeNode::OpenArray(_) = node(declarer, kind) {
-            declarer.note(unit, exp.pos(), 47);
+            declarer.note(unit, exp.pos(), rules::TYPE_NOT_ALLOWED_HERE);
         }
     }
 }

@@ -1,6 +1,6 @@
-use m3_base::{NoMemory, place_number};
-use m3_declarer::Declarer;
-use m3_scopes::{EntityId, EntityKind};
+use m3_base::{NoMemory, place_number, rules};
+use m3_decl_state::Declarer;
+use m3_link_scopes::{EntityId, EntityKind};
 use m3_types::{TypeId, TypeNode};
 
 /// Tarjan's search for strongly connected components (1972), over an explicit stack: for each
@@ -188,25 +188,26 @@ fn refuse_cyclic<'a>(declarer: &mut Declarer<'_, 'a>, search: &Search) -> Result
     let program = declarer.eval.program;
     for (place, entity) in program.binds.entities().iter().enumerate() {
         let id = EntityId(place_number(place)?);
-        if names_cyclic(declarer, search, id, entity.kind) {
-            declarer.note(entity.unit, entity.pos, 46);
+        if let Some(kind) = cyclic_type(declarer, search, id, entity.kind) {
+            declarer.note(entity.unit, entity.pos, rules::ILLEGAL_RECURSION);
+            declarer.flawed.push(kind)?;
         }
     }
     Ok(())
 }
 
-/// Whether an entity is the name of a type that is on a cycle.
-fn names_cyclic<'a>(
+/// The type on a cycle that an entity is the name of.
+fn cyclic_type<'a>(
     declarer: &Declarer<'_, 'a>,
     search: &Search,
     id: EntityId,
     kind: EntityKind,
-) -> bool {
+) -> Option<TypeId> {
     if !matches!(kind, EntityKind::Type | EntityKind::Opaque) {
-        return false;
+        return None;
     }
     match declarer.eval.declared.type_named(id) {
-        Some(kind) => search.is_on_cycle(kind.0),
-        None => false,
+        Some(kind) if search.is_on_cycle(kind.0) => Some(kind),
+        _ => None,
     }
 }

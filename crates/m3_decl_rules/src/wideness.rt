@@ -1,7 +1,10 @@
 use m3_base::NoMemory;
-use m3_declarer::Declarer;
+use m3_decl_state::Declarer;
 use m3_types::{Field, TypeId, TypeNode};
 use std::collections::HashMap;
+
+/// The most members that a set may have; a larger set is refused anyway.
+const MOST_MEMBERS: u128 = 256;
 
 /// The words of types, as far as 2: each type's are told once.
 #[derive(Drop)]
@@ -31,7 +34,7 @@ pub fn new_words<'a>(declarer: &Declarer<'_, 'a>) -> Words {
 }
 
 /// The words of the values of a type, or 2 where they are more. A type that contains itself is
-/// refused anyway; where it does, it counts 1.
+/// refused anyway; where it does, it counts 1. What was refused counts nothing.
 pub fn words_of<'a>(
     declarer: &Declarer<'_, 'a>,
     words: &mut Words,
@@ -88,6 +91,7 @@ fn push_held<'a>(
 fn sum_of<'a>(declarer: &Declarer<'_, 'a>, words: &Words, kind: TypeId) -> u64 {
     match declarer.eval.definition(kind) {
         TypeNode::Fields(fields) => sum_of_fields(words, fields),
+        TypeNode::FixedArray(index, _) if declarer.is_refused(index) => 0,
         TypeNode::FixedArray(index, element) => {
             let each = words.of(element);
             match declarer.eval.declared.types.member_count(index) {
@@ -97,13 +101,15 @@ fn sum_of<'a>(declarer: &Declarer<'_, 'a>, words: &Words, kind: TypeId) -> u64 {
             }
         }
         TypeNode::SetOf(base) => {
-            if declarer.eval.declared.types.member_count(base) > 64 {
+            let members = declarer.eval.declared.types.member_count(base);
+            if members > 64 && members <= MOST_MEMBERS {
                 2
             } else {
                 1
             }
         }
         TypeNode::Procedure(_, _, _) | TypeNode::OpenArray(_) => 2,
+        TypeNode::Reserved => 0,
         _ => 1,
     }
 }

@@ -1,9 +1,11 @@
-use m3_base::{NoMemory, place_number};
-use m3_declarer::{Declarer, Doubts, Trees};
-use m3_making::{make_constant, make_kind, make_methods, make_node};
-use m3_reveals::{list_reveals, note_reveals};
-use m3_scopes::{EntityId, EntityKind};
-use m3_worth::Need;
+use crate::promises::forget_refused;
+use crate::soundness::tell_unsound;
+use m3_base::{NoMemory, place_number, rules};
+use m3_const_values::Need;
+use m3_decl_reveals::{list_reveals, note_reveals};
+use m3_decl_state::{Declarer, Doubts, Promise, Trees};
+use m3_decl_tasks::{make_constant, make_kind, make_methods, make_node};
+use m3_link_scopes::{EntityId, EntityKind};
 
 /// Does all tasks: the definitions of types, then with the reveals of opaque types the constants
 /// and the types of variables.
@@ -15,9 +17,12 @@ pub fn settle_all<'a>(
     attempt_nodes(declarer, trees)?;
     settle_nodes(declarer, trees)?;
     settle_methods(declarer, trees)?;
+    tell_unsound(declarer)?;
     declarer.has_definitions = true;
     list_reveals(declarer, trees.declarations)?;
     declarer.eval.is_complete = true;
+    forget_refused(declarer, &trees.doubts)?;
+    judge_postponed(declarer, trees)?;
     settle_names(declarer, trees)
 }
 
@@ -53,6 +58,22 @@ fn settle_methods<'a>(
     for place in 0..declarer.eval.drafted.len() {
         if let Some(kind) = declarer.eval.drafted.get(place).copied() {
             settle(declarer, trees, Need::Methods(kind))?;
+        }
+    }
+    Ok(())
+}
+
+/// Does the tasks again whose text breaks a rule, since it is only now known which types are
+/// refused, and notes the rules that are broken all the same.
+fn judge_postponed<'a>(
+    declarer: &mut Declarer<'_, 'a>,
+    trees: &mut Trees<'_, 'a>,
+) -> Result<(), NoMemory> {
+    for place in 0..declarer.postponed.len() {
+        if let Some(need) = declarer.postponed.get(place).copied() {
+            forget_notes(declarer);
+            make(declarer, trees, need)?;
+            note_reasons(declarer);
         }
     }
     Ok(())
@@ -178,7 +199,7 @@ fn refuse_task<'a>(declarer: &mut Declarer<'_, 'a>, need: Need) {
         },
     };
     if let Some((unit, pos)) = at {
-        declarer.note(unit, pos, 46);
+        declarer.note(unit, pos, rules::ILLEGAL_RECURSION);
     }
 }
 
@@ -202,8 +223,13 @@ fn attempt<'a>(
         forget_interned(declarer, interned);
         return Ok(false);
     }
-    note_reasons(declarer);
-    keep_doubts(&mut trees.doubts)?;
+    note_flaw(declarer, &trees.doubts, need)?;
+    if declarer.eval.is_complete || declarer.reasons.is_empty() {
+        note_reasons(declarer);
+    } else {
+        declarer.postponed.push(need)?;
+    }
+    keep_doubts(&mut trees.doubts, need)?;
     keep_notes(declarer)?;
     declarer.eval.settled.insert(need)?;
     Ok(true)
@@ -241,15 +267,42 @@ fn forget_interned<'a>(declarer: &mut Declarer<'_, 'a>, kept: usize) {
 }
 
 /// Keeps what a task noted of constant expressions.
-fn keep_doubts(doubts: &mut Doubts<'_>) -> Result<(), NoMemory> {
+fn keep_doubts(doubts: &mut Doubts<'_>, need: Need) -> Result<(), NoMemory> {
     keep_all(doubts.doubts.as_slice(), &mut doubts.doubtful)?;
-    keep_all(doubts.assumed.as_slice(), &mut doubts.promises)
+    let constant = match need {
+        Need::Constant(id) => Some(id),
+        _ => None,
+    };
+    for promise in &doubts.assumed {
+        let promise = Promise {
+            constant,
+            ..*promise
+        };
+        doubts.promises.push(promise)?;
+    }
+    Ok(())
 }
 
 /// Keeps the brands and the procedures of methods that a task noted.
 fn keep_notes<'a>(declarer: &mut Declarer<'_, 'a>) -> Result<(), NoMemory> {
     keep_all(declarer.new_brands.as_slice(), &mut declarer.brands)?;
     keep_all(declarer.new_values.as_slice(), &mut declarer.values)
+}
+
+/// Notes that the text of a type breaks a rule.
+fn note_flaw<'a>(
+    declarer: &mut Declarer<'_, 'a>,
+    doubts: &Doubts<'a>,
+    need: Need,
+) -> Result<(), NoMemory> {
+    if declarer.reasons.is_empty() && doubts.doubts.is_empty() {
+        return Ok(());
+    }
+    match need {
+        Need::Node(kind) | Need::Methods(kind) => declarer.flawed.push(kind)?,
+        Need::Constant(_) | Need::Kind(_) => {}
+    }
+    Ok(())
 }
 
 fn note_reasons<'a>(declarer: &mut Declarer<'_, 'a>) {

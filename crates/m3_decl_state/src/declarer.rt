@@ -1,10 +1,9 @@
 use m3_base::{Least, NoMemory, Pos, Refusal};
-use m3_core::{Value, ValueId};
-use m3_early_names::type_of;
-use m3_scopes::EntityId;
+use m3_const_values::{Evaluator, Need, Reason, type_of};
+use m3_core::{Text, Value, ValueId, bytes_of};
+use m3_link_scopes::EntityId;
 use m3_syntax::TypeExp;
 use m3_types::{ConstId, TypeId, TypeNode};
-use m3_worth::{Evaluator, Need, Reason};
 use std::alloc::Global;
 use std::collections::HashMap;
 
@@ -12,7 +11,7 @@ const PHASE: u8 = 5;
 
 /// A type whose definition is a task: its unit, and where rule 46 is reported: at its name, or
 /// where it has none at its first token. How it is written stands among the trees.
-#[derive(Clone, Copy, Debug)]
+#[derive(Clone, Copy)]
 pub struct Plan {
     pub unit: u32,
     pub pos: Pos,
@@ -40,6 +39,8 @@ pub struct MethodValue<'a> {
     pub signature: Option<TypeId>,
     /// The type of the procedure; none for NIL, and for what was refused.
     pub procedure: Option<TypeId>,
+    /// The place of what overrides a method and is no procedure.
+    pub wrong: Option<Pos>,
 }
 
 /// What declares the types and constants of a program. The trees of its text stand beside it
@@ -58,6 +59,12 @@ pub struct Declarer<'p, 'a> {
     /// What was noted so far.
     pub brands: Vec<BrandAt<'a>>,
     pub values: Vec<MethodValue<'a>>,
+    /// The types whose own text breaks a rule, as far as that was found.
+    pub flawed: Vec<TypeId>,
+    /// The tasks whose text breaks a rule and that were done before all types were worked out.
+    pub postponed: Vec<Need>,
+    /// How many broken rules were noted.
+    pub notes: u64,
     /// Whether the definitions of all types were worked out.
     pub has_definitions: bool,
     /// The number of the next BRANDED without a text.
@@ -82,6 +89,9 @@ impl<'p, 'a> Declarer<'p, 'a> {
             new_values: Vec::new(alloc),
             brands: Vec::new(alloc),
             values: Vec::new(alloc),
+            flawed: Vec::new(alloc),
+            postponed: Vec::new(alloc),
+            notes: 0,
             has_definitions: false,
             occurrence: 0,
             interned: HashMap::new(alloc),
@@ -100,6 +110,7 @@ impl<'p, 'a> Declarer<'p, 'a> {
 
     /// Notes that a unit breaks a rule.
     pub fn note(&mut self, unit: u32, pos: Pos, rule: u16) {
+        self.notes = self.notes.saturating_add(1);
         if let Some(unit) = self.number_of(unit) {
             self.least.note(Refusal {
                 phase: PHASE,
@@ -146,6 +157,11 @@ impl<'p, 'a> Declarer<'p, 'a> {
         matches!(self.eval.definition(kind), TypeNode::Reserved)
     }
 
+    /// Whether a type was refused, or names one that was, or one whose own text breaks a rule.
+    pub fn is_unsound(&self, kind: TypeId) -> bool {
+        self.eval.declared.unsound.contains(&kind)
+    }
+
     /// The type that fully reveals an opaque type.
     pub fn revealed(&self, kind: TypeId) -> Option<TypeId> {
         if (kind.0 as usize) < self.eval.declared.types.nodes.len() {
@@ -155,12 +171,28 @@ impl<'p, 'a> Declarer<'p, 'a> {
         }
     }
 
-    /// The text of a constant.
-    pub fn bytes_of(&self, value: Value<'a>) -> Option<&'a [u8]> {
-        match value {
-            Value::Text(cell) => self.eval.declared.texts.get(cell as usize).copied(),
-            _ => None,
+    /// The bytes of a constant, if it is a text. Those of a text that `&` made are written out once
+    /// only.
+    pub fn bytes_of(&mut self, value: Value<'a>) -> Result<Option<&'a [u8]>, NoMemory> {
+        let Value::Text(cell) = value else {
+            return Ok(None);
+        };
+        match self.eval.declared.texts.get(cell as usize) {
+            Some(Text::Literal(bytes)) | Some(Text::Made(bytes)) => Ok(Some(*bytes)),
+            Some(Text::Joined { .. }) => Ok(Some(self.written_out(cell)?)),
+            None => Ok(None),
         }
+    }
+
+    fn written_out(&mut self, cell: u32) -> Result<&'a [u8], NoMemory> {
+        let alloc = self.eval.alloc;
+        let arena = self.eval.arena;
+        let bytes = bytes_of(alloc, self.eval.declared.texts.as_slice(), cell)?;
+        let kept: &'a [u8] = &*arena.try_alloc_slice_copy(bytes.as_slice())?;
+        if let Some(text) = self.eval.declared.texts.get_mut(cell as usize) {
+            *text = Text::Made(kept);
+        }
+        Ok(kept)
     }
 
     /// The name of an entity's unit and place, where rule 46 is reported.

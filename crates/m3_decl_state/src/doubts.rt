@@ -1,5 +1,6 @@
+use m3_const_values::Assumed;
+use m3_link_scopes::EntityId;
 use m3_syntax::Expr;
-use m3_worth::Assumed;
 use std::alloc::Global;
 
 /// A constant expression of a declaration that breaks a rule of expressions, with its unit.
@@ -14,6 +15,8 @@ pub struct Doubtful<'a> {
 pub struct Promise<'a> {
     pub assumed: Assumed,
     pub value: &'a Expr<'a>,
+    /// The named constant whose value the expression is.
+    pub constant: Option<EntityId>,
 }
 
 /// What is noted of constant expressions for rules that are judged later.

@@ -1,6 +1,6 @@
 use crate::doubts::Doubts;
-use m3_gathered::Gathered;
-use m3_scopes::{Declaration, Entity};
+use m3_link_gather::Gathered;
+use m3_link_scopes::{Declaration, Entity};
 use m3_syntax::{Init, Signature, TypeExp};
 use m3_types::TypeId;
 use std::alloc::Global;

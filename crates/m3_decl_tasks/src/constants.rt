@@ -1,12 +1,11 @@
 use m3_base::{NoMemory, Pos};
-use m3_constant_values::{constant_of, typed_constant, worth_of};
+use m3_const_values::{base_of, entity_named, share_base, type_of};
 use m3_core::Value;
-use m3_declared::Constant;
-use m3_declarer::{Declarer, Doubts, Trees};
-use m3_early_names::{entity_named, type_of};
-use m3_early_types::{base_of, share_base};
-use m3_gathered::Bound;
-use m3_scopes::{Declaration, Entity, EntityId, EntityKind};
+use m3_decl_constants::{constant_of, typed_constant, worth_of};
+use m3_decl_lookup::Constant;
+use m3_decl_state::{Declarer, Doubts, Trees};
+use m3_link_gather::Bound;
+use m3_link_scopes::{Declaration, Entity, EntityId, EntityKind};
 use m3_syntax::{ConstDecl, Expr, Init, Qualid, Signature};
 use m3_types::{TypeId, TypeNode};
 

@@ -1,10 +1,10 @@
 use bumpalo::Bump;
 use bumpalo::collections::into_bump_slice;
 use m3_base::NoMemory;
-use m3_declarer::{Declarer, Doubts, Trees, Written};
-use m3_early_names::type_of_name;
+use m3_const_values::type_of_name;
+use m3_decl_constants::{brand_of, field_row, signature_node, subrange};
+use m3_decl_state::{Declarer, Doubts, Trees, Written};
 use m3_syntax::{ObjectPart, TypeExp, TypeName};
-use m3_type_parts::{brand_of, field_row, signature_node, subrange};
 use m3_types::{Method, Override, TypeId, TypeNode};
 
 /// Works out the definition of a type.

@@ -1,11 +1,10 @@
 use bumpalo::Bump;
 use bumpalo::collections::into_bump_slice;
-use m3_base::NoMemory;
-use m3_constant_values::typed_constant;
+use m3_base::{NoMemory, rules};
 use m3_core::Value;
-use m3_declarer::{Declarer, Doubts, MethodValue, Trees, Written};
+use m3_decl_constants::{initial_of, typed_constant};
+use m3_decl_state::{Declarer, Doubts, MethodValue, Trees, Written};
 use m3_syntax::{Expr, Name, ObjectPart, TypeExp};
-use m3_type_parts::initial_of;
 use m3_types::{Method, Override, TypeId, TypeNode};
 
 /// Works out what is bound to the methods of an object type, and so its whole definition.
@@ -109,7 +108,8 @@ fn override_row<'a>(
     Ok(into_bump_slice(row))
 }
 
-/// What is bound to a method: a procedure or NIL (rule 44). Whether it fits is judged later.
+/// What is bound to a method: a procedure or NIL (rule 44). Whether it fits is judged later, and so
+/// is what overrides a method, which may turn out to be none.
 fn method_value<'a>(
     declarer: &mut Declarer<'_, 'a>,
     doubts: &mut Doubts<'a>,
@@ -121,6 +121,7 @@ fn method_value<'a>(
     let constant = typed_constant(declarer, doubts, value)?;
     let mut procedure = None;
     let mut found = None;
+    let mut wrong = None;
     if let Some((kind, known)) = constant {
         match known {
             Value::Procedure(_) => {
@@ -128,7 +129,8 @@ fn method_value<'a>(
                 found = Some(known);
             }
             Value::Nil => found = Some(known),
-            _ => declarer.refuse(value.pos(), 44)?,
+            _ if signature.is_none() => wrong = Some(value.pos()),
+            _ => declarer.refuse(value.pos(), rules::WRONG_KIND_OF_CONSTANT)?,
         }
     }
     declarer.new_values.push(MethodValue {
@@ -138,6 +140,7 @@ fn method_value<'a>(
         object,
         signature,
         procedure,
+        wrong,
     })?;
     Ok(found)
 }

@@ -1,10 +1,10 @@
 use crate::naming::type_declaration;
 use bumpalo::collections::into_bump_slice;
 use m3_base::{NoMemory, place_number};
-use m3_declarer::{Declarer, Trees};
-use m3_early_names::{is_built_in, type_of};
-use m3_gathered::TypeAt;
-use m3_scopes::{Entity, EntityId, EntityKind};
+use m3_const_values::{is_built_in, type_of};
+use m3_decl_state::{Declarer, Trees};
+use m3_link_gather::TypeAt;
+use m3_link_scopes::{Entity, EntityId, EntityKind};
 use m3_syntax::{Init, Name, TypeExp};
 use m3_types::{Secret, TypeId, TypeNode};
 

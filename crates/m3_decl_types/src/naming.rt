@@ -1,8 +1,8 @@
 use indexmap::IndexSet;
-use m3_base::{NoMemory, Pos, place_number};
-use m3_declarer::{Declarer, Trees};
-use m3_early_names::{entity_named, type_of_entity};
-use m3_scopes::{Declaration, Entity, EntityId, EntityKind};
+use m3_base::{NoMemory, Pos, place_number, rules};
+use m3_const_values::{entity_named, type_of_entity};
+use m3_decl_state::{Declarer, Trees};
+use m3_link_scopes::{Declaration, Entity, EntityId, EntityKind};
 use m3_syntax::{Qualid, TypeDecl, TypeExp, TypeName};
 use m3_types::TypeId;
 
@@ -169,7 +169,7 @@ fn refuse_names(declarer: &mut Declarer<'_, '_>, path: &IndexSet<EntityId>, firs
     for (place, id) in path.iter().enumerate() {
         if place >= first {
             if let Some((unit, pos)) = declarer.place_of(*id) {
-                declarer.note(unit, pos, 46);
+                declarer.note(unit, pos, rules::ILLEGAL_RECURSION);
             }
         }
     }

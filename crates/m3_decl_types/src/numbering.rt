@@ -1,8 +1,9 @@
 use m3_base::{NoMemory, Pos, place_number};
-use m3_declarer::Declarer;
-use m3_fold::spelled;
-use m3_gathered::TextAt;
-use m3_scopes::{EntityId, EntityKind};
+use m3_const_arithmetic::spelled;
+use m3_core::Text;
+use m3_decl_state::Declarer;
+use m3_link_gather::TextAt;
+use m3_link_scopes::{EntityId, EntityKind};
 
 /// An entity of a unit, in the order of the text.
 type Ordered = (u32, Pos, EntityId);
@@ -15,7 +16,7 @@ pub fn number_texts<'a>(
     for text in texts {
         let bytes = spelled(declarer.eval.arena, text.text)?;
         let cell = place_number(declarer.eval.declared.texts.len())?;
-        declarer.eval.declared.texts.push(bytes)?;
+        declarer.eval.declared.texts.push(Text::Literal(bytes))?;
         declarer
             .eval
             .declared

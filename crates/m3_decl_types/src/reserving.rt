@@ -1,11 +1,11 @@
 use crate::numbering::{number_exceptions, number_procedures, number_texts};
 use m3_base::{NoMemory, Pos, place_number};
-use m3_declarer::{Declarer, Plan, Trees, Writings, Written};
-use m3_gathered::TypeAt;
-use m3_scopes::{Declaration, Entity, EntityId, EntityKind};
+use m3_const_values::Need;
+use m3_decl_state::{Declarer, Plan, Trees, Writings, Written};
+use m3_link_gather::TypeAt;
+use m3_link_scopes::{Declaration, Entity, EntityId, EntityKind};
 use m3_syntax::{ObjectPart, TypeExp};
 use m3_types::TypeId;
-use m3_worth::Need;
 
 /// Gives each type expression, method and procedure a place in the graph, and numbers to
 /// texts, procedures and exceptions.

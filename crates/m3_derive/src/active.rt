@@ -6,7 +6,7 @@ use std::alloc::Global;
 const ABSENT: u32 = u32::MAX;
 
 /// A temporary that is live, and the place behind the stretch in which it is.
-#[derive(Clone, Copy, Debug)]
+#[derive(Clone, Copy)]
 pub(crate) struct Active {
     pub(crate) temp: u32,
     pub(crate) to: u32,

@@ -8,6 +8,6 @@ mod planning;
 mod plans;
 mod rows;
 
-pub use m3_bases::{Base, Derivation, WayPlan};
+pub use m3_gen_bases::{Base, Derivation, WayPlan};
 pub use planning::derive;
 pub use plans::{Derived, RowPlan};

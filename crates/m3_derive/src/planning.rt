@@ -2,8 +2,8 @@ use crate::plans::Derived;
 use crate::rows::plan_rows;
 use bumpalo::Bump;
 use m3_base::NoMemory;
-use m3_bases::{Based, find_bases};
 use m3_flow::{block_order, live_with};
+use m3_gen_bases::{Based, find_bases};
 use m3_mid::Proc;
 use std::alloc::Global;
 

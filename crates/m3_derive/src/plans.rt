@@ -1,5 +1,5 @@
-use m3_bases::Derivation;
 use m3_flow::RowUse;
+use m3_gen_bases::Derivation;
 use m3_mid::Proc;
 
 /// The row of a point: its operation, and the tidy and the derived temporaries that it names. It

@@ -3,8 +3,8 @@ use crate::plans::RowPlan;
 use bumpalo::Bump;
 use bumpalo::collections::into_bump_slice;
 use m3_base::{NoMemory, place_number};
-use m3_bases::{Base, Derivation, WayPlan, kind_of};
 use m3_flow::{LiveSets, Order, RowUse, actuals_of, is_call, is_point, ops_of, shown_at};
+use m3_gen_bases::{Base, Derivation, WayPlan, kind_of};
 use m3_mid::{Actual, Held, Kind, MidOp, Proc};
 use std::alloc::Global;
 

@@ -2,7 +2,7 @@ use crate::calls::Passed;
 use crate::writer::Writer;
 use m3_alloc::Idle;
 use m3_base::NoMemory;
-use m3_code::{Fork, Places};
+use m3_gen_instructions::{Fork, Places};
 use m3_isa::Op;
 use m3_mid::{End, MidOp};
 
@@ -44,7 +44,7 @@ impl<'a> Writer<'a> {
         match op {
             MidOp::SlotAddress { to, slot } => {
                 self.emitter
-                    .put_address(Op::Slot, to, m3_code::word_of(slot))
+                    .put_address(Op::Slot, to, m3_gen_instructions::word_of(slot))
             }
             MidOp::FrameAddress { to } => self.emitter.put_address(Op::Slot, to, 0),
             MidOp::GlobalAddress { to, word } => self.emitter.put_address(Op::Glb, to, word),

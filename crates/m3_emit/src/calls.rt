@@ -1,6 +1,6 @@
 use crate::writer::Writer;
 use m3_base::NoMemory;
-use m3_code::{FIRST, word_of};
+use m3_gen_instructions::{FIRST, word_of};
 use m3_isa::Op;
 use m3_mid::{Actual, Callee, Kind, MidOp, Operand, Raised};
 use m3_tables::Location;
@@ -14,7 +14,7 @@ pub(crate) struct Passed {
 }
 
 /// A register whose word is to come into another.
-#[derive(Clone, Copy, Debug)]
+#[derive(Clone, Copy)]
 struct Transfer {
     from: u8,
     to: u8,

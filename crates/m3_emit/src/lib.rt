@@ -13,5 +13,5 @@ mod targets;
 mod writer;
 
 pub use emitting::emit;
-pub use m3_code::{Links, Places};
+pub use m3_gen_instructions::{Links, Places};
 pub use part::{Part, SpanPart};

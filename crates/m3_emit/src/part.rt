@@ -1,10 +1,10 @@
-use m3_code::goes_to_imm;
+use m3_gen_instructions::goes_to_imm;
 use m3_isa::Instr;
-use m3_table_writer::RowPlain;
 use m3_tables::Location;
+use m3_tables_writer::RowPlain;
 
 /// Where a variable is shown at an instruction.
-#[derive(Clone, Copy, Debug)]
+#[derive(Clone, Copy)]
 pub struct SpanPart {
     pub var: u32,
     pub instr: u32,

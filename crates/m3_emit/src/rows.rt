@@ -2,12 +2,12 @@ use crate::calls::Passed;
 use crate::part::SpanPart;
 use crate::writer::Writer;
 use m3_base::{NoMemory, gap};
-use m3_code::word_of;
 use m3_derive::{Base, Derivation, RowPlan, WayPlan};
 use m3_flow::shown_at;
+use m3_gen_instructions::word_of;
 use m3_mid::{Held, MidOp};
-use m3_table_writer::{DerivedPlain, RowPlain, Way};
 use m3_tables::Location;
+use m3_tables_writer::{DerivedPlain, RowPlain, Way};
 use std::alloc::Global;
 
 /// Places, rising and each once.

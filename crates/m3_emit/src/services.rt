@@ -1,12 +1,12 @@
 use crate::calls::Passed;
 use crate::writer::Writer;
 use m3_base::{FaultKind, NoMemory, Pos};
-use m3_code::{FIRST, Goal, Places};
+use m3_gen_instructions::{FIRST, Goal, Places};
 use m3_isa::{Instr, Op};
 use m3_mid::{Kind, MidOp, Operand, Service};
 
 /// Which fields of its instruction name the operands and results of a service.
-#[derive(Clone, Copy, Debug, PartialEq, Eq)]
+#[derive(Clone, Copy, PartialEq, Eq)]
 enum Form {
     /// Operands in a, b.
     Operands,
@@ -45,7 +45,7 @@ fn form_of(service: Service) -> (Op, Form, Option<FaultKind>) {
 }
 
 /// The registers of a service.
-#[derive(Clone, Copy, Debug)]
+#[derive(Clone, Copy)]
 struct Registers {
     operands: [u8; 3],
     result: Option<Goal>,
@@ -211,7 +211,8 @@ impl<'a> Writer<'a> {
             }
             Some(slot) => {
                 let at = self.emitter.scratch()?;
-                self.emitter.put_word(Op::Slot, at, m3_code::word_of(slot))?;
+                self.emitter
+                    .put_word(Op::Slot, at, m3_gen_instructions::word_of(slot))?;
                 let goal = self.emitter.goal(to)?;
                 self.add_row(op, &[], &passed)?;
                 self.emitter.put_imm(Op::Newo, goal.register, at, imm)?;

@@ -1,7 +1,7 @@
 use crate::writer::Writer;
 use m3_base::{NoMemory, place_number};
-use m3_code::word_of;
 use m3_flow::is_point;
+use m3_gen_instructions::word_of;
 use m3_isa::Op;
 use m3_mid::{Block, MemoryWord, MidOp, Proc};
 use m3_tables::Location;

@@ -1,6 +1,6 @@
 use crate::part::SpanPart;
-use m3_code::Emitter;
-use m3_table_writer::RowPlain;
+use m3_gen_instructions::Emitter;
+use m3_tables_writer::RowPlain;
 
 /// The code of a procedure with its rows, in the making.
 #[derive(Drop)]

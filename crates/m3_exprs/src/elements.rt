@@ -1,6 +1,6 @@
-use m3_constructor_parts::Part;
-use m3_operand_names::inner_name;
-use m3_operands::{Checker, Given, Thing};
+use m3_check_constructors::Part;
+use m3_check_names::inner_name;
+use m3_check_state::{Checker, Given, Thing};
 use m3_syntax::{Actual, Expr, Name};
 
 fn given<'a>(

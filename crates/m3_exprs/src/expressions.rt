@@ -1,16 +1,14 @@
+use crate::elements::{actual_given, named, one, range};
+use crate::leaves::{leaf, type_thing};
 use bumpalo::collections::into_bump_slice;
 use m3_base::{NoMemory, Pos};
-use m3_calls::call;
-use m3_chains::{parenthesized, value_of};
-use m3_constructor_parts::{Part, Written};
-use m3_constructors::constructor;
-use m3_leaves::{actual_given, leaf, named, one, range, type_thing};
-use m3_operand_names::inner_name;
-use m3_operands::{Checker, Given, Thing, Valued};
-use m3_operations::{combined, nots, signed};
-use m3_selectors::{Index, dereference, dot, indexed};
+use m3_check_assigning::{parenthesized, value_of};
+use m3_check_calls::call;
+use m3_check_constructors::{Part, Written, constructor};
+use m3_check_names::{inner_name, type_of};
+use m3_check_operators::{Index, combined, dereference, dot, indexed, nots, signed};
+use m3_check_state::{Checker, Given, Thing, Valued};
 use m3_syntax::{Actual, Element, Expr, Selector};
-use m3_type_names::type_of;
 
 /// An expression as a value; none where something in it was refused.
 pub fn expression<'a>(

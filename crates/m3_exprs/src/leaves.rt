@@ -1,8 +1,7 @@
 use m3_base::NoMemory;
-use m3_operand_names::thing_named;
-use m3_operands::{Checker, Thing};
+use m3_check_names::{thing_named, type_of};
+use m3_check_state::{Checker, Thing};
 use m3_syntax::{Expr, TypeExp};
-use m3_type_names::type_of;
 
 /// What an expression is that holds no other: a name or a literal.
 pub fn leaf<'a>(checker: &Checker<'_, 'a>, value: &Expr<'a>) -> Result<Thing<'a>, NoMemory> {

@@ -27,7 +27,7 @@ pub(crate) fn entries_of(alloc: Global, p: &Proc) -> Result<Groups, NoMemory> {
 }
 
 /// How far the walk through the blocks has come with a block.
-#[derive(Clone, Copy, Debug, PartialEq, Eq)]
+#[derive(Clone, Copy, PartialEq, Eq)]
 pub(crate) enum Progress {
     New,
     Open,

@@ -2,7 +2,7 @@ use m3_base::{NoMemory, place_number};
 use std::alloc::Global;
 
 /// A number and the group that it belongs to.
-#[derive(Clone, Copy, Debug)]
+#[derive(Clone, Copy)]
 pub struct Pair {
     pub group: u32,
     pub item: u32,

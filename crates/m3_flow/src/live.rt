@@ -11,14 +11,14 @@ use m3_mid::{Block, MidOp, Proc};
 use std::alloc::Global;
 
 /// Places in a row: the first, and the one behind the last.
-#[derive(Clone, Copy, Debug, PartialEq, Eq)]
+#[derive(Clone, Copy, PartialEq, Eq)]
 pub struct LiveRange {
     pub from: u32,
     pub to: u32,
 }
 
 /// A use of a temporary by the row of a point, beside those by the operation itself.
-#[derive(Clone, Copy, Debug, PartialEq, Eq)]
+#[derive(Clone, Copy, PartialEq, Eq)]
 pub struct RowUse {
     pub block: u32,
     pub op: u32,

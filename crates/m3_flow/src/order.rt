@@ -17,7 +17,7 @@ pub struct Order {
 }
 
 /// Which of its exits a block can fall into without a jump.
-#[derive(Clone, Copy, Debug, PartialEq, Eq)]
+#[derive(Clone, Copy, PartialEq, Eq)]
 enum Fall {
     Yes,
     No,

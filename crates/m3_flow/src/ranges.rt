@@ -6,7 +6,7 @@ use m3_mid::Block;
 use std::alloc::Global;
 
 /// A stretch of places at which a temporary is live; whether it begins at the front of a block.
-#[derive(Clone, Copy, Debug)]
+#[derive(Clone, Copy)]
 struct Piece {
     temp: u32,
     range: LiveRange,

@@ -2,7 +2,7 @@ use m3_mid::{Kind, Proc};
 
 /// A base of a derived pointer: a tidy temporary, or the slot of a formal by reference, which the
 /// caller describes.
-#[derive(Clone, Copy, Debug, PartialEq, Eq)]
+#[derive(Clone, Copy, PartialEq, Eq)]
 pub enum Base {
     Temp(u32),
     Slot(u32),

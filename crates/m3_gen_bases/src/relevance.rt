@@ -6,7 +6,7 @@ use m3_mid::{Actual, Kind, MidOp, Proc};
 use std::alloc::Global;
 
 /// A point by its place; whether it is a call.
-#[derive(Clone, Copy, Debug)]
+#[derive(Clone, Copy)]
 struct PointAt {
     place: u32,
     is_call: bool,

@@ -8,7 +8,7 @@ use m3_mid::{Kind, Proc};
 use std::alloc::Global;
 
 /// From what a derived temporary comes, over all its settings.
-#[derive(Clone, Copy, Debug)]
+#[derive(Clone, Copy)]
 pub(crate) enum Shape<'a> {
     /// It isn't set.
     Unknown,
@@ -73,7 +73,7 @@ fn same_terms(left: &[Term], right: &[Term]) -> bool {
 }
 
 /// What one setting says.
-#[derive(Clone, Copy, Debug, PartialEq, Eq)]
+#[derive(Clone, Copy, PartialEq, Eq)]
 pub(crate) enum Said {
     /// Nothing, or nothing yet.
     Nothing,

@@ -5,7 +5,7 @@ use m3_mid::{Kind, MemoryWord, MidOp, Operand, Proc, WordOperator};
 use std::alloc::Global;
 
 /// A base that is added, or taken away.
-#[derive(Clone, Copy, Debug, PartialEq, Eq)]
+#[derive(Clone, Copy, PartialEq, Eq)]
 pub(crate) struct Term {
     pub(crate) base: Base,
     pub(crate) is_taken: bool,
@@ -13,14 +13,14 @@ pub(crate) struct Term {
 
 /// Where an address comes from: from at most two temporaries or slots, or it is a tidy pointer of
 /// its own.
-#[derive(Clone, Copy, Debug)]
+#[derive(Clone, Copy)]
 pub(crate) enum Source {
     Terms([Option<Term>; 2]),
     Own,
 }
 
 /// A setting of a derived temporary.
-#[derive(Clone, Copy, Debug)]
+#[derive(Clone, Copy)]
 pub(crate) struct Setting {
     pub(crate) block: u32,
     pub(crate) op: u32,

@@ -4,7 +4,7 @@ use m3_isa::Op;
 use m3_mid::{Operand, Relation};
 
 /// A comparison that one instruction makes.
-#[derive(Clone, Copy, Debug)]
+#[derive(Clone, Copy)]
 struct Test {
     op: Op,
     left: Operand,

@@ -5,7 +5,7 @@ use m3_isa::{Instr, Op};
 use m3_mid::{Operand, Relation};
 
 /// The blocks at which it goes on behind an If, and the block whose code follows.
-#[derive(Clone, Copy, Debug)]
+#[derive(Clone, Copy)]
 pub struct Fork {
     pub yes: u32,
     pub no: u32,

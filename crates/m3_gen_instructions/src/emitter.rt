@@ -7,7 +7,7 @@ use m3_tables::Location;
 use std::alloc::Global;
 
 /// What a register above those of the temporaries holds, beside what is being computed.
-#[derive(Clone, Copy, Debug, PartialEq, Eq)]
+#[derive(Clone, Copy, PartialEq, Eq)]
 pub enum Content {
     Nothing,
     /// The word of the frame that a temporary has as its place.
@@ -18,7 +18,7 @@ pub enum Content {
 }
 
 /// Where a jump goes.
-#[derive(Clone, Copy, Debug)]
+#[derive(Clone, Copy)]
 pub enum Target {
     Block(u32),
     Stub(u32),
@@ -26,7 +26,7 @@ pub enum Target {
 
 /// The address of a word that the next operation alone loads or stores: instead of the temporary it
 /// takes a register and the distance from there to the word.
-#[derive(Clone, Copy, Debug)]
+#[derive(Clone, Copy)]
 pub struct Fold {
     pub temp: u32,
     pub register: u8,

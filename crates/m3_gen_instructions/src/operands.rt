@@ -15,7 +15,7 @@ fn halves_of(value: i64) -> (i32, i32) {
 
 /// Where the result of an operation goes: into a register, and from there to a word of the frame
 /// where that is its place.
-#[derive(Clone, Copy, Debug)]
+#[derive(Clone, Copy)]
 pub struct Goal {
     pub register: u8,
     pub word: Option<u32>,

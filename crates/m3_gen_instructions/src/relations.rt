@@ -2,7 +2,7 @@ use m3_isa::Op;
 use m3_mid::{Operand, Relation};
 
 /// A branch that is taken where its relation holds: BZ and BNZ look at the left operand alone.
-#[derive(Clone, Copy, Debug)]
+#[derive(Clone, Copy)]
 pub(crate) struct Branch {
     pub(crate) op: Op,
     pub(crate) left: Operand,

@@ -2,8 +2,8 @@ use crate::methods::Tables;
 use m3_base::{NoMemory, gap};
 use m3_image_writer::{GlobalPart, TypePart};
 use m3_layout::{cell_shape, has_cell};
-use m3_objects::number_of;
-use m3_storage::Storage;
+use m3_lower_objects::number_of;
+use m3_lower_storage::Storage;
 use m3_types::TypeId;
 use std::alloc::Global;
 

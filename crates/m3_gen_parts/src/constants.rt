@@ -1,7 +1,8 @@
 use m3_base::{NoMemory, gap, place_number};
-use m3_core::{Value, ValueId};
-use m3_objects::{Form, number_of};
-use m3_storage::Storage;
+use m3_core::{LONGEST_TEXT, Text, Value, ValueId, bytes_of, length_of};
+use m3_lower_objects::{Form, number_of};
+use m3_lower_storage::{Storage, open_dims};
+use m3_source::KnownShape;
 use m3_types::{TypeId, TypeNode};
 use std::alloc::Global;
 
@@ -13,7 +14,7 @@ const FIRST_CONSTANT: u64 = 1 << 50;
 #[derive(Drop)]
 pub struct Constants {
     pub words: Vec<u64>,
-    /// The word at which the cell of each text begins.
+    /// The word at which the cell of each text begins; 0 for one that no code names.
     pub texts: Vec<u32>,
     /// The word at which each value begins; 0 for one that no code names.
     pub values: Vec<u32>,
@@ -28,23 +29,47 @@ enum Task {
 }
 
 impl Constants {
-    /// The constants of a program with these texts.
-    pub fn of(alloc: Global, texts: &[&[u8]], storage: &Storage) -> Result<Constants, NoMemory> {
+    /// The constants of a program with these texts. Those that `&` makes have at most
+    /// `LONGEST_TEXT` bytes together, or it is want of memory.
+    pub fn of(alloc: Global, texts: &[Text], storage: &Storage) -> Result<Constants, NoMemory> {
         let mut constants = Constants {
             words: Vec::new(alloc),
             texts: Vec::new(alloc),
             values: Vec::new(alloc),
         };
-        for text in texts {
-            constants.add_text(text)?;
-        }
+        constants.add_texts(alloc, texts, storage)?;
         constants.add_values(alloc, storage)?;
         Ok(constants)
     }
 
+    /// Adds the cells of the texts that code names.
+    fn add_texts(
+        &mut self,
+        alloc: Global,
+        texts: &[Text],
+        storage: &Storage,
+    ) -> Result<(), NoMemory> {
+        let mut room = LONGEST_TEXT;
+        for place in 0..texts.len() {
+            let text = place_number(place)?;
+            if !storage.has_text(text) {
+                self.texts.push(0)?;
+                continue;
+            }
+            self.texts.push(place_number(self.words.len())?)?;
+            if let Some(Text::Literal(bytes)) = texts.get(place) {
+                self.add_text(bytes)?;
+            } else {
+                room = room.checked_sub(length_of(texts, text)).ok_or(NoMemory)?;
+                let bytes = bytes_of(alloc, texts, text)?;
+                self.add_text(bytes.as_slice())?;
+            }
+        }
+        Ok(())
+    }
+
     /// Adds the cell of a text: its header, its length, and its bytes, eight in a word.
     fn add_text(&mut self, text: &[u8]) -> Result<(), NoMemory> {
-        self.texts.push(place_number(self.words.len())?)?;
         let length = text.len() as u64;
         let words = (length.saturating_add(7) / 8).saturating_add(2);
         self.words.push(words.wrapping_shl(32))?;
@@ -60,8 +85,13 @@ impl Constants {
             let place = place_number(place)?;
             match written_kind(storage, place) {
                 Some(kind) => {
-                    self.values.push(place_number(self.words.len())?)?;
+                    let start = self.words.len();
+                    self.values.push(place_number(start)?)?;
                     self.write(alloc, storage, ValueId(place), kind)?;
+                    if self.words.len() == start {
+                        // a value of no words has an address too
+                        self.words.push(0)?;
+                    }
                 }
                 None => self.values.push(0)?,
             }
@@ -237,9 +267,9 @@ fn open_array(
         _ => return Ok(()),
     };
     let further = count.saturating_sub(parts.len() as u64);
-    if further > 0 && !parts.is_empty() {
+    if let (Some(last), true) = (parts.last(), further > 0) {
         tasks.push(Task::Again {
-            words: storage.words(element),
+            words: words_of(storage, *last, element),
             times: further,
         })?;
     }
@@ -247,4 +277,18 @@ fn open_array(
         push_value(storage, *value, element, tasks)?;
     }
     Ok(())
+}
+
+/// The words of a value of a type, of all elements where that is an open array.
+fn words_of(storage: &Storage, value: ValueId, kind: TypeId) -> u64 {
+    let dims = open_dims(storage.types, kind);
+    let shape = KnownShape::Constant { kind, value };
+    let count = shape.elements(&storage.types.graph, storage.values, u64::from(dims));
+    let mut inner = kind;
+    for _ in 0..dims {
+        if let TypeNode::OpenArray(element) = storage.node(inner) {
+            inner = element;
+        }
+    }
+    count.saturating_mul(storage.words(inner))
 }

@@ -1,7 +1,7 @@
 use m3_base::NoMemory;
 use m3_core::Value;
-use m3_objects::parent_of;
-use m3_storage::Storage;
+use m3_lower_objects::parent_of;
+use m3_lower_storage::Storage;
 use m3_types::{ConstId, ConstValue, Initial, Method, Override, TypeId, TypeNode};
 use std::alloc::Global;
 

@@ -1,8 +1,8 @@
 use crate::fields::{put_count, put_list, put_word};
 use crate::sections::number_of;
 use m3_base::{NoMemory, gap};
-use m3_table_writer::{DerivedPlain, RowPlain, Way};
 use m3_tables::Location;
+use m3_tables_writer::{DerivedPlain, RowPlain, Way};
 use std::alloc::Global;
 
 /// What a row says of the places: the numbers of the tidy ones, rising, and the bytes of the rest.
@@ -173,7 +173,7 @@ fn put_half_count(out: &mut Vec<u8>, count: usize) -> Result<(), NoMemory> {
             out.extend_from_slice(&count.to_le_bytes())?;
             Ok(())
         }
-        // m3_bases keeps an address with more ways in no temporary
+        // m3_gen_bases keeps an address with more ways in no temporary
         Err(_) => Err(gap()),
     }
 }
@@ -184,7 +184,7 @@ fn put_byte_count(out: &mut Vec<u8>, count: usize) -> Result<(), NoMemory> {
             out.push(count)?;
             Ok(())
         }
-        // m3_bases keeps an address with more bases in no temporary
+        // m3_gen_bases keeps an address with more bases in no temporary
         Err(_) => Err(gap()),
     }
 }

@@ -3,8 +3,8 @@ use m3_base::{Bytes, NoMemory, place_number};
 use m3_core::{Core, VarDef, VarKind};
 use m3_emit::SpanPart;
 use m3_image_writer::VarPart;
-use m3_objects::{Form, number_of};
-use m3_storage::{Storage, is_shown, type_of_variable};
+use m3_lower_objects::{Form, number_of};
+use m3_lower_storage::{Storage, is_shown, type_of_variable};
 use std::alloc::Global;
 
 /// The procedure of a global variable, in an image.

@@ -1,7 +1,7 @@
 use crate::tables::Tables;
 use bumpalo::Bump;
 use bumpalo::collections::into_bump_slice;
-use m3_base::{Least, NoMemory, Pos, Refusal, Refused};
+use m3_base::{Least, NoMemory, Pos, Refusal, Refused, rules};
 use m3_syntax::{Import, ImportItem, Name, Unit, UnitKind};
 use std::alloc::Global;
 
@@ -37,7 +37,7 @@ pub fn expand<'a>(
     expansion.least.check()?;
     match expansion.passed {
         None => Ok(expansion.expanded),
-        Some(pos) => Err(Refused::Rule(refusal(pos.file, pos, 18))),
+        Some(pos) => Err(Refused::Rule(refusal(pos.file, pos, rules::TOO_MANY_TOKENS_IN_ALL))),
     }
 }
 
@@ -102,7 +102,7 @@ impl<'a> Expansion<'_, 'a> {
         self.judge_actuals(unit.pos.file, head.actuals);
         match text_at(self.units, head.found) {
             None => {
-                self.note(unit.pos.file, head.generic.pos, 15);
+                self.note(unit.pos.file, head.generic.pos, rules::UNKNOWN_GENERIC);
                 Ok(())
             }
             Some(text) => self.write_out(arena, unit, &head, text),
@@ -119,7 +119,11 @@ impl<'a> Expansion<'_, 'a> {
     ) -> Result<(), NoMemory> {
         let formals = formals_of(&text.kind);
         if formals.len() != head.actuals.len() {
-            self.note(unit.pos.file, head.generic.pos, 16);
+            self.note(
+                unit.pos.file,
+                head.generic.pos,
+                rules::WRONG_NUMBER_OF_ACTUALS,
+            );
         }
         self.count(unit.pos, text.tokens);
         let imports = imports_of(arena, head.actuals, formals, text.imports)?;
@@ -144,7 +148,7 @@ impl<'a> Expansion<'_, 'a> {
     fn judge_actuals(&mut self, unit: u32, actuals: &'a [Name<'a>]) {
         for actual in actuals {
             if !self.tables.is_interface(actual.text) {
-                self.note(unit, actual.pos, 17);
+                self.note(unit, actual.pos, rules::ACTUAL_IS_NO_INTERFACE);
             }
         }
     }

@@ -2,9 +2,9 @@
 use Rattle.std.proofs.Common.{◌≡◌, ℕ, ◌+◌, ◌≤◌, Bool, true, false, ◌&&◌, List, [], ◌∷◌, length, Option, Some, None, ◌⊎◌, inl, inr, refl, sym, arith}
 use Rattle.std.specs.Prelude.{◌==◌, nat_lt, IfNone}
 use Rattle.std.proofs.lemmas.Bool.Decides.{nat_tests}
-use Rattle.m3_sections.specs.declared.procs.ProcPart.{ProcPart}
-use Rattle.m3_sections.specs.Parts.{Program}
-use Rattle.m3_sections.specs.Ranges.{containing, end_from}
+use Rattle.m3_image_sections.specs.declared.procs.ProcPart.{ProcPart}
+use Rattle.m3_image_sections.specs.Parts.{Program}
+use Rattle.m3_image_sections.specs.Ranges.{containing, end_from}
 use Rattle.m3_image.specs.Programs.{begins_with_point, procs_suit, fault_of}
 
 choice : (b : Bool) → (b ≡ true) ⊎ (b ≡ false)

@@ -8,8 +8,8 @@ use Rattle.m3_tables.specs.Sections.{directory_fault, listed_in, instruction_in 
 use Rattle.m3_tables.proofs.KeepingLemmas.{choice}
 use Rattle.m3_isa.specs.declared.instructions.Instr.{Instr}
 use Rattle.m3_isa.specs.Instructions.{is_point}
-use Rattle.m3_sections.specs.Parts.{Program}
-use Rattle.m3_sections.specs.Ranges.{is_point_at, points_from}
+use Rattle.m3_image_sections.specs.Parts.{Program}
+use Rattle.m3_image_sections.specs.Ranges.{is_point_at, points_from}
 use Rattle.m3_image.specs.Programs.{lists_points}
 use Rattle.m3_image.proofs.RowLemmas.{listed, listed_get}
 

@@ -10,13 +10,13 @@ use Rattle.std.proofs.lemmas.Bool.{cases_lt, lt-ltb, le-ltb}
 use Rattle.std.proofs.lemmas.Bool.Decides.{nat_tests}
 use Rattle.m3_tables.specs.Numbers.{word_in}
 use Rattle.m3_tables.specs.Sections.{directory_fault, listed_in, first_bad, end_fault, first_fault as rows_or_else}
-use Rattle.m3_sections.specs.Parts.{Program}
-use Rattle.m3_sections.specs.Ranges.{first_failing, is_point_at, points_from}
+use Rattle.m3_image_sections.specs.Parts.{Program}
+use Rattle.m3_image_sections.specs.Ranges.{first_failing, is_point_at, points_from}
 use Rattle.m3_image.specs.Programs.{lists_points, row_suits, tables_fault}
-use Rattle.m3_sections.specs.Fields.{each}
-use Rattle.m3_sections.proofs.ListLemmas.{each_at, each_past, known}
-use Rattle.m3_sections.proofs.FirstLemmas.{before_bad, both_stop, both_bad, both_none}
-use Rattle.m3_sections.proofs.CodeLemmas.{drop_at, drop_past, points_yes, points_no}
+use Rattle.m3_image_sections.specs.Fields.{each}
+use Rattle.m3_image_sections.proofs.ListLemmas.{each_at, each_past, known}
+use Rattle.m3_image_sections.proofs.FirstLemmas.{before_bad, both_stop, both_bad, both_none}
+use Rattle.m3_image_sections.proofs.CodeLemmas.{drop_at, drop_past, points_yes, points_no}
 
 -- the instructions that the directory lists
 abbrev pub listed : List ℕ → List ℕ

@@ -11,16 +11,16 @@ use Rattle.m3_tables.specs.Rows.{Entry}
 use Rattle.m3_tables.specs.Sections.{directory_fault, end_fault, is_tidy, contents_in, is_good, tidy_all, is_between, entry_passes, derived_pass, is_within, are_free, spares_registers, instruction_in as row_instruction}
 use Rattle.m3_tables.proofs.KeepingLemmas.{choice, and_parts, or_implies, has_passes, place_passes, tidy_passes, free_passes, row_kept}
 use Rattle.m3_isa.specs.declared.instructions.Instr.{Instr}
-use Rattle.m3_sections.specs.declared.procs.ProcPart.{ProcPart}
-use Rattle.m3_sections.specs.declared.refusal.ImageRefusal.TheVariants as refusal
+use Rattle.m3_image_sections.specs.declared.procs.ProcPart.{ProcPart}
+use Rattle.m3_image_sections.specs.declared.refusal.ImageRefusal.TheVariants as refusal
 use Rattle.m3_image.specs.declared.targets.Target.{Target}
 use Rattle.m3_image.specs.declared.targets.Target.TheVariants.{Jump}
-use Rattle.m3_sections.specs.Parts.{Program}
-use Rattle.m3_sections.specs.Ranges.{or_else, first_failing, containing}
+use Rattle.m3_image_sections.specs.Parts.{Program}
+use Rattle.m3_image_sections.specs.Ranges.{or_else, first_failing, containing}
 use Rattle.m3_image.specs.Programs.{names, target_of, target_fits, lists_points, is_call, row_suits, row_fits, tables_fault, procs_suit, fault_of}
-use Rattle.m3_sections.specs.Ranges.{contains}
+use Rattle.m3_image_sections.specs.Ranges.{contains}
 use Rattle.m3_image.specs.Sound.{IsInFrame, EntryPlaces, RowInFrame, RowSparesRegisters, ProgramRow, JumpStays, IsSoundProgram}
-use Rattle.m3_sections.proofs.FirstLemmas.{first_none}
+use Rattle.m3_image_sections.proofs.FirstLemmas.{first_none}
 use Rattle.m3_image.proofs.CoverLemmas.{suits, all_contained}
 use Rattle.m3_image.proofs.PointLemmas.{each_point, only_points}
 

@@ -2,11 +2,11 @@
 -- refused.
 use Rattle.std.specs.Prelude.{◌≡◌, IsTrue, ℕ, List, [], length, Option, Some, None, Result, Ok, Err}
 use Rattle.std.specs.List.{list_all}
-use Rattle.m3_sections.specs.declared.refusal.ImageRefusal.{ImageRefusal}
-use Rattle.m3_sections.specs.Parts.{Program, Image, Variable, procs_at, types_at, globals_at, constants_at, places_at, names_at, variables_at}
-use Rattle.m3_sections.specs.Sections.{Sections, sections_of}
-use Rattle.m3_sections.specs.Forms.{procs_fit, types_fit, globals_fit, places_fit}
-use Rattle.m3_sections.specs.Reading.{◌>>=◌, whole, any, code_of}
+use Rattle.m3_image_sections.specs.declared.refusal.ImageRefusal.{ImageRefusal}
+use Rattle.m3_image_sections.specs.Parts.{Program, Image, Variable, procs_at, types_at, globals_at, constants_at, places_at, names_at, variables_at}
+use Rattle.m3_image_sections.specs.Sections.{Sections, sections_of}
+use Rattle.m3_image_sections.specs.Forms.{procs_fit, types_fit, globals_fit, places_fit}
+use Rattle.m3_image_sections.specs.Reading.{◌>>=◌, whole, any, code_of}
 use Rattle.m3_image.specs.Programs.{fault_of, variable_fits}
 
 -- ---- the whole

@@ -8,15 +8,15 @@ use Rattle.m3_tables.specs.Sections.{directory_fault, end_fault, is_good, is_wit
 use Rattle.m3_isa.specs.declared.instructions.Instr.{Instr}
 use Rattle.m3_isa.specs.declared.instructions.Op.{Op}
 use Rattle.m3_isa.specs.declared.instructions.Op.TheVariants as op
-use Rattle.m3_sections.specs.declared.procs.ProcPart.{ProcPart}
-use Rattle.m3_sections.specs.declared.refusal.ImageRefusal.{ImageRefusal}
-use Rattle.m3_sections.specs.declared.refusal.ImageRefusal.TheVariants as refusal
+use Rattle.m3_image_sections.specs.declared.procs.ProcPart.{ProcPart}
+use Rattle.m3_image_sections.specs.declared.refusal.ImageRefusal.{ImageRefusal}
+use Rattle.m3_image_sections.specs.declared.refusal.ImageRefusal.TheVariants as refusal
 use Rattle.m3_image.specs.declared.targets.Target.{Target}
 use Rattle.m3_image.specs.declared.targets.Target.TheVariants as target
-use Rattle.m3_sections.specs.Fields.{each}
-use Rattle.m3_sections.specs.Parts.{Variable, Program}
-use Rattle.m3_sections.specs.Forms.{none}
-use Rattle.m3_sections.specs.Ranges.{or_else, first_failing, is_point_at, end_from, containing, contains, points_from}
+use Rattle.m3_image_sections.specs.Fields.{each}
+use Rattle.m3_image_sections.specs.Parts.{Variable, Program}
+use Rattle.m3_image_sections.specs.Forms.{none}
+use Rattle.m3_image_sections.specs.Ranges.{or_else, first_failing, is_point_at, end_from, containing, contains, points_from}
 
 -- ---- the code and its procedures
 

@@ -6,10 +6,10 @@ use Rattle.m3_tables.specs.Rows.{Entry}
 use Rattle.m3_tables.specs.Keeping.{RowKept}
 use Rattle.m3_tables.specs.Sections.{is_tidy, contents_in, instruction_in as row_instruction}
 use Rattle.m3_isa.specs.declared.instructions.Instr.{Instr}
-use Rattle.m3_sections.specs.declared.procs.ProcPart.{ProcPart}
+use Rattle.m3_image_sections.specs.declared.procs.ProcPart.{ProcPart}
 use Rattle.m3_image.specs.declared.targets.Target.TheVariants.{Jump}
-use Rattle.m3_sections.specs.Parts.{Program}
-use Rattle.m3_sections.specs.Ranges.{containing, is_point_at}
+use Rattle.m3_image_sections.specs.Parts.{Program}
+use Rattle.m3_image_sections.specs.Ranges.{containing, is_point_at}
 use Rattle.m3_image.specs.Programs.{target_of, is_call}
 
 -- a place that is a register, or a slot of a frame of so many words

@@ -3,15 +3,15 @@ ghost use Rattle.std.specs.List.{list_all};
 ghost use Rattle.m3_tables.specs.Numbers.{word_in};
 ghost use Rattle.m3_tables.specs.Tables.{section_of, row_count};
 ghost use Rattle.m3_image.specs.Programs.{fault_of, variable_fits};
-ghost use Rattle.m3_sections.specs.PartViews.{variables_list};
+ghost use Rattle.m3_image_sections.specs.PartViews.{variables_list};
 ghost use Rattle.m3_image.specs.ProgramViews.{program_view};
 
 use crate::program::Program;
 use m3_heap::Maps;
-use m3_isa::Instr;
-use m3_sections::{
+use m3_image_sections::{
     ImageRefusal, Names, ProcPart, Procs, Sections, TypeView, Types, VarView, Variables,
 };
+use m3_isa::Instr;
 use m3_tables::{Numbers, TableView};
 
 /// An image, as it stands in its bytes. A view takes no memory.
@@ -32,14 +32,14 @@ impl<'a> ImageView<'a> {
     ghost use Rattle.std.specs.List.{slice_get};
     ghost use Rattle.std.specs.Prelude.{IfSome};
     ghost use Rattle.m3_isa.specs.Instructions.{IsInstruction};
-    ghost use Rattle.m3_sections.specs.Reading.{seen};
+    ghost use Rattle.m3_image_sections.specs.Reading.{seen};
     ghost use Rattle.m3_image.specs.Images.{read_of, IsImage};
-    ghost use Rattle.m3_sections.specs.Ranges.{containing};
+    ghost use Rattle.m3_image_sections.specs.Ranges.{containing};
     ghost use Rattle.m3_image.specs.Sound.{IsSoundProgram};
     ghost use Rattle.std.specs.Prelude.{◌≤◌, IfNone, length};
     ghost use Rattle.m3_tables.specs.Views.{numbers_of};
     ghost use Rattle.m3_image.specs.Views.{image_view};
-    ghost use Rattle.m3_sections.specs.PartViews.{type_of, types_of, procs_of, names_of, variable_of};
+    ghost use Rattle.m3_image_sections.specs.PartViews.{type_of, types_of, procs_of, names_of, variable_of};
 
     /// The image that bytes are. The error is the first condition that the bytes meet, in the order in which the
     /// conditions are tested.
@@ -239,7 +239,7 @@ impl<'a> ImageView<'a> {
 impl<'a> Maps for ImageView<'a> {
     ghost use Rattle.std.specs.Prelude.{map};
     ghost use Rattle.m3_image.specs.Views.{image_view};
-    ghost use Rattle.m3_sections.specs.Shapes.{shape_of};
+    ghost use Rattle.m3_image_sections.specs.Shapes.{shape_of};
 
     ghost shapes = { λ v. map shape_of (image_view v).program.types };
 

@@ -8,6 +8,6 @@ mod shown;
 mod targets;
 
 pub use image::ImageView;
-pub use m3_sections::{
+pub use m3_image_sections::{
     ImageRefusal, Names, Pairs, ProcPart, Procs, TypeView, Types, VarView, Variables,
 };

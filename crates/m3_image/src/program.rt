@@ -1,9 +1,9 @@
 //! A program whose sections have their form, each by itself.
 ghost use Rattle.std.specs.Prelude.{◌≡◌, IsTrue, length};
-ghost use Rattle.m3_sections.specs.Forms.{procs_fit, types_fit, globals_fit, places_fit};
-ghost use Rattle.m3_sections.specs.PartViews.{names_of, pairs_of, procs_of, types_of, globals_of};
+ghost use Rattle.m3_image_sections.specs.Forms.{procs_fit, types_fit, globals_fit, places_fit};
+ghost use Rattle.m3_image_sections.specs.PartViews.{names_of, pairs_of, procs_of, types_of, globals_of};
 
-use m3_sections::{Code, Globals, ImageRefusal, Longs, Names, Pairs, Procs, Sections, Types};
+use m3_image_sections::{Code, Globals, ImageRefusal, Longs, Names, Pairs, Procs, Sections, Types};
 
 /// All that is carried out.
 #[derive(Clone, Copy)]
@@ -33,13 +33,13 @@ pub(crate) struct Places<'a> {
 
 impl<'a> Places<'a> {
     ghost use Rattle.std.specs.Option.{option_map};
-    ghost use Rattle.m3_sections.specs.Parts.{places_at};
-    ghost use Rattle.m3_sections.specs.Reading.{seen, whole};
+    ghost use Rattle.m3_image_sections.specs.Parts.{places_at};
+    ghost use Rattle.m3_image_sections.specs.Reading.{seen, whole};
     ghost use Rattle.std.specs.Prelude.{nat_lt, IfOk};
     ghost use Rattle.m3_image.specs.ProgramViews.{places_of};
 
     /// The files and places at the front of a section, and the bytes after them.
-    #[tactic(auto, unfolding(m3_sections::specs::Parts::places_at))]
+    #[tactic(auto, unfolding(m3_image_sections::specs::Parts::places_at))]
     fn at(section: &'a [u8]) -> Option<(Places<'a>, &'a [u8])>
         ensures { option_map (λ x. (places_of x.0, x.1.now)) result ≡ places_at section.now }
     {
@@ -79,12 +79,12 @@ impl<'a> Places<'a> {
 }
 
 impl<'a> Program<'a> {
-    ghost use Rattle.m3_sections.specs.Parts.{constants_at, names_at};
-    ghost use Rattle.m3_sections.specs.Reading.{whole, any, seen};
+    ghost use Rattle.m3_image_sections.specs.Parts.{constants_at, names_at};
+    ghost use Rattle.m3_image_sections.specs.Reading.{whole, any, seen};
     ghost use Rattle.m3_image.specs.Images.{program_of};
     ghost use Rattle.m3_image.specs.Programs.{begins_with_point, procs_suit};
-    ghost use Rattle.m3_sections.specs.PartViews.{longs_of};
-    ghost use Rattle.m3_sections.specs.SectionViews.{sections_view};
+    ghost use Rattle.m3_image_sections.specs.PartViews.{longs_of};
+    ghost use Rattle.m3_image_sections.specs.SectionViews.{sections_view};
     ghost use Rattle.m3_image.specs.ProgramViews.{program_view};
 
     /// The constants of a section that holds nothing else.

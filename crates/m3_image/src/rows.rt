@@ -3,8 +3,8 @@ ghost use Rattle.std.specs.Prelude.{◌≡◌};
 ghost use Rattle.m3_image.specs.Programs.{is_call};
 
 use crate::program::Program;
+use m3_image_sections::ImageRefusal;
 use m3_isa::Op;
-use m3_sections::ImageRefusal;
 use m3_tables::{Row, TableFront, TableView, word};
 
 /// Whether an operation calls a procedure.
@@ -22,7 +22,7 @@ impl<'a> Program<'a> {
     ghost use Rattle.m3_tables.specs.Sections.{directory_fault, listed_in};
     ghost use Rattle.m3_tables.specs.Tables.{section_of, row_count, section_of_row, number_of_row, IsFront};
     ghost use Rattle.m3_image.specs.Programs.{lists_points, row_suits, tables_fault};
-    ghost use Rattle.m3_sections.specs.Ranges.{first_failing};
+    ghost use Rattle.m3_image_sections.specs.Ranges.{first_failing};
     ghost use Rattle.m3_image.specs.Views.{program_view};
 
     /// Whether the directory has an instruction as its row of a number.

@@ -3,15 +3,15 @@ ghost use Rattle.std.specs.Prelude.{◌≡◌};
 ghost use Rattle.std.specs.Option.{option_map};
 
 use crate::program::Program;
-use m3_sections::{ImageRefusal, NONE, Pairs, ProcPart, VarView, Variables};
+use m3_image_sections::{ImageRefusal, NONE, Pairs, ProcPart, VarView, Variables};
 
 impl<'a> Program<'a> {
     ghost use Rattle.std.specs.Prelude.{IfOk, IsTrue};
     ghost use Rattle.std.specs.List.{list_all};
     ghost use Rattle.m3_image.specs.Programs.{span_fits, local_fits, owner_fits, variable_fits};
-    ghost use Rattle.m3_sections.specs.Reading.{seen};
+    ghost use Rattle.m3_image_sections.specs.Reading.{seen};
     ghost use Rattle.m3_image.specs.Images.{variables_of};
-    ghost use Rattle.m3_sections.specs.PartViews.{pairs_of, variable_of, variables_list};
+    ghost use Rattle.m3_image_sections.specs.PartViews.{pairs_of, variable_of, variables_list};
     ghost use Rattle.m3_image.specs.Views.{program_view};
 
     /// Whether a span is at a point of a procedure, in a register or in a slot of its frame.

@@ -54,7 +54,7 @@ fn is_below(number: i32, limit: usize) -> bool
 
 impl<'a> Program<'a> {
     ghost use Rattle.m3_image.specs.Programs.{names, target_fits};
-    ghost use Rattle.m3_sections.specs.Ranges.{first_failing};
+    ghost use Rattle.m3_image_sections.specs.Ranges.{first_failing};
     ghost use Rattle.m3_image.specs.Views.{program_view};
 
     /// Whether the number of an instruction at a place names what is there, where there are so many types.

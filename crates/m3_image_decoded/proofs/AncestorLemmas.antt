@@ -2,15 +2,15 @@
 use Rattle.std.proofs.Common.{◌≡◌, ℕ, zero, suc, ◌+◌, ◌-◌, ◌<◌, ◌≤◌, List, Option, Some, None, refl, sym, ◌∙◌, arith, inl, inr}
 use Rattle.std.specs.Option.{option_and_then}
 use Rattle.std.proofs.lemmas.Bool.{cases_lt}
-use Rattle.m3_sections.specs.Parts.{CellType}
-use Rattle.m3_decoded.specs.declared.jumps.Jump.{Jump}
+use Rattle.m3_image_sections.specs.Parts.{CellType}
+use Rattle.m3_image_decoded.specs.declared.jumps.Jump.{Jump}
 use Rattle.std.proofs.Common.{length, get_or, map}
 use Rattle.std.specs.List.{slice_get}
 use Rattle.std.proofs.lemmas.Option.{slice_get-map, slice_get-get_or}
-use Rattle.m3_decoded.specs.declared.types.ReadyType.{ReadyType}
-use Rattle.m3_decoded.specs.ReadyTypes.{ready_type}
-use Rattle.m3_decoded.specs.Ancestors.{parent_in, parent_of, ancestor, IsSubtype, IsForest}
-use Rattle.m3_decoded.specs.Jumps.{JumpFits}
+use Rattle.m3_image_decoded.specs.declared.types.ReadyType.{ReadyType}
+use Rattle.m3_image_decoded.specs.ReadyTypes.{ready_type}
+use Rattle.m3_image_decoded.specs.Ancestors.{parent_in, parent_of, ancestor, IsSubtype, IsForest}
+use Rattle.m3_image_decoded.specs.Jumps.{JumpFits}
 
 -- generations add up
 pub ancestor_add : (types : List CellType) (n m t s : ℕ) → ancestor types n t ≡ Some s → ancestor types (n + m) t ≡ ancestor types m s

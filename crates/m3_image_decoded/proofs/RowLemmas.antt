@@ -2,9 +2,9 @@
 use Rattle.std.proofs.Common.{◌≡◌, ℕ, ◌+◌, List, [], ◌∷◌, ◌++◌, length, Some, suc, refl, ◌∙◌, arith}
 use Rattle.std.specs.List.{slice_get}
 use Rattle.m3_tables.specs.Sections.{tidy_list, was_list}
-use Rattle.m3_decoded.specs.declared.span.Span.{Span}
-use Rattle.m3_decoded.specs.Parts.{part, IsSpan, KeepsParts}
-use Rattle.m3_decoded.proofs.Lists.{all_more}
+use Rattle.m3_image_decoded.specs.declared.span.Span.{Span}
+use Rattle.m3_image_decoded.specs.Parts.{part, IsSpan, KeepsParts}
+use Rattle.m3_image_decoded.proofs.Lists.{all_more}
 
 -- each span has the tidy places of its row
 abbrev pub AreTold : List ℕ → List ℕ → List Span → Type 0

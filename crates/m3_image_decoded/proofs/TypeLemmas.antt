@@ -7,12 +7,12 @@ use Rattle.std.proofs.lemmas.List.{map-append}
 use Rattle.std.proofs.lemmas.Bool.Decides.{nat_tests}
 use Rattle.m3_tables.specs.Numbers.{rises}
 use Rattle.m3_tables.specs.Sections.{is_between}
-use Rattle.m3_sections.specs.Parts.{CellType}
-use Rattle.m3_sections.specs.Forms.{none, parent_fits, type_fits, types_fit_from, types_fit}
-use Rattle.m3_sections.proofs.ShapeLemmas.{type_pointers}
-use Rattle.m3_decoded.specs.declared.types.ReadyType.{ReadyType}
-use Rattle.m3_decoded.specs.ReadyTypes.{ready_type}
-use Rattle.m3_decoded.specs.Ancestors.{parent_in, IsForest}
+use Rattle.m3_image_sections.specs.Parts.{CellType}
+use Rattle.m3_image_sections.specs.Forms.{none, parent_fits, type_fits, types_fit_from, types_fit}
+use Rattle.m3_image_sections.proofs.ShapeLemmas.{type_pointers}
+use Rattle.m3_image_decoded.specs.declared.types.ReadyType.{ReadyType}
+use Rattle.m3_image_decoded.specs.ReadyTypes.{ready_type}
+use Rattle.m3_image_decoded.specs.Ancestors.{parent_in, IsForest}
 
 and_parts : (a b : Bool) → (a && b) ≡ true → (a ≡ true) × (b ≡ true)
 and_parts true b e = (refl, e)

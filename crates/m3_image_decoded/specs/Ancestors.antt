@@ -2,8 +2,8 @@
 use Rattle.std.specs.Prelude.{◌≡◌, ℕ, zero, suc, ◌<◌, ◌==◌, if◌then◌else◌, List, Option, Some, None}
 use Rattle.std.specs.Option.{option_and_then}
 use Rattle.std.specs.List.{slice_get}
-use Rattle.m3_sections.specs.Parts.{CellType}
-use Rattle.m3_sections.specs.Forms.{none}
+use Rattle.m3_image_sections.specs.Parts.{CellType}
+use Rattle.m3_image_sections.specs.Forms.{none}
 
 -- the number of a type's parent, where it has one
 abbrev pub parent_in : CellType → Option ℕ

@@ -1,8 +1,8 @@
 -- What a type's jump has to keep.
 use Rattle.std.specs.Prelude.{◌≡◌, ℕ, ◌+◌, ◌≤◌, ◌<◌, List, length, Some, slice_index_or}
-use Rattle.m3_sections.specs.Parts.{CellType}
-use Rattle.m3_decoded.specs.declared.jumps.Jump.{Jump}
-use Rattle.m3_decoded.specs.Ancestors.{ancestor}
+use Rattle.m3_image_sections.specs.Parts.{CellType}
+use Rattle.m3_image_decoded.specs.declared.jumps.Jump.{Jump}
+use Rattle.m3_image_decoded.specs.Ancestors.{ancestor}
 
 -- it stands so many generations above the type
 pub record JumpFits (types : List CellType) (t : ℕ) (j : Jump) : Type 0 where

@@ -1,6 +1,6 @@
 -- Parts of a list of numbers.
 use Rattle.std.specs.Prelude.{◌≡◌, ℕ, ◌-◌, ◌≤◌, List, length, take, drop}
-use Rattle.m3_decoded.specs.declared.span.Span.{Span}
+use Rattle.m3_image_decoded.specs.declared.span.Span.{Span}
 
 -- the numbers from a place on and before another
 abbrev pub part : List ℕ → Span → List ℕ

@@ -1,7 +1,7 @@
 -- The image that was made ready.
-use Rattle.m3_sections.specs.Parts.{Image}
+use Rattle.m3_image_sections.specs.Parts.{Image}
 use Rattle.m3_image.specs.Views.{image_view}
-use Rattle.m3_decoded.specs.declared.decoded.Decoded.{Decoded}
+use Rattle.m3_image_decoded.specs.declared.decoded.Decoded.{Decoded}
 
 abbrev pub image_of : Decoded → Image
 image_of d = image_view d.image

@@ -1,10 +1,10 @@
 //! The instructions of an image, each decoded once, and the procedure that each is in.
 ghost use Rattle.std.specs.Prelude.{◌≡◌, ◌≤◌, ℕ, Some, length, IfOk, IfSome};
 ghost use Rattle.std.specs.List.{slice_get};
-ghost use Rattle.m3_sections.specs.declared.procs.ProcPart.{ProcPart};
-ghost use Rattle.m3_sections.specs.Ranges.{containing};
+ghost use Rattle.m3_image_sections.specs.declared.procs.ProcPart.{ProcPart};
+ghost use Rattle.m3_image_sections.specs.Ranges.{containing};
 ghost use Rattle.m3_image.specs.Views.{image_view};
-ghost use Rattle.m3_decoded.specs.Code.{AreInstructions};
+ghost use Rattle.m3_image_decoded.specs.Code.{AreInstructions};
 
 use m3_base::NoMemory;
 use m3_image::{ImageView, ProcPart};

@@ -4,13 +4,13 @@ ghost use Rattle.m3_tables.specs.Numbers.{word_in};
 ghost use Rattle.m3_tables.specs.Tables.{section_of, row_count};
 ghost use Rattle.m3_isa.specs.Instructions.{IsInstruction};
 ghost use Rattle.m3_isa.specs.declared.instructions.Instr.{Instr as Instruction};
-ghost use Rattle.m3_sections.specs.declared.procs.ProcPart.{ProcPart};
-ghost use Rattle.m3_sections.specs.Ranges.{containing};
+ghost use Rattle.m3_image_sections.specs.declared.procs.ProcPart.{ProcPart};
+ghost use Rattle.m3_image_sections.specs.Ranges.{containing};
 ghost use Rattle.m3_image.specs.Views.{image_view};
-ghost use Rattle.m3_decoded.specs.Code.{AreInstructions};
-ghost use Rattle.m3_decoded.specs.Jumps.{JumpsFit};
-ghost use Rattle.m3_decoded.specs.ReadyTypes.{ready_type};
-ghost use Rattle.m3_decoded.specs.RowViews.{table_of};
+ghost use Rattle.m3_image_decoded.specs.Code.{AreInstructions};
+ghost use Rattle.m3_image_decoded.specs.Jumps.{JumpsFit};
+ghost use Rattle.m3_image_decoded.specs.ReadyTypes.{ready_type};
+ghost use Rattle.m3_image_decoded.specs.RowViews.{table_of};
 
 use crate::code::{homes, instructions, procedures};
 use crate::jumps::{Jump, is_subtype, jumps};
@@ -55,9 +55,9 @@ impl<'a> Decoded<'a> {
     ghost use Rattle.m3_tables.specs.Numbers.{is_once};
     ghost use Rattle.m3_tables.specs.Sections.{instruction_in, tidy_list};
     ghost use Rattle.m3_tables.specs.Tables.{section_of_row, number_of_row};
-    ghost use Rattle.m3_sections.specs.PartViews.{type_of};
-    ghost use Rattle.m3_decoded.specs.Ancestors.{IsSubtype};
-    ghost use Rattle.m3_decoded.specs.Ready.{image_of};
+    ghost use Rattle.m3_image_sections.specs.PartViews.{type_of};
+    ghost use Rattle.m3_image_decoded.specs.Ancestors.{IsSubtype};
+    ghost use Rattle.m3_image_decoded.specs.Ready.{image_of};
 
     /// An image, made ready.
     pub fn of(alloc: Global, image: ImageView<'a>) -> Result<Decoded<'a>, NoMemory>
@@ -180,8 +180,8 @@ impl<'a> Decoded<'a> {
 }
 
 impl<'a> Maps for Decoded<'a> {
-    ghost use Rattle.m3_sections.specs.Shapes.{shape_of};
-    ghost use Rattle.m3_decoded.specs.Ready.{image_of};
+    ghost use Rattle.m3_image_sections.specs.Shapes.{shape_of};
+    ghost use Rattle.m3_image_decoded.specs.Ready.{image_of};
 
     ghost shapes = { λ d. map shape_of (image_of d).program.types };
 

@@ -1,9 +1,9 @@
 //! For each type a further ancestor, chosen so that any ancestor is found in logarithmic time
 //! (Myers, An applicative random-access stack, 1983).
 ghost use Rattle.std.specs.Prelude.{◌≡◌, ◌≤◌, ◌<◌, ℕ, length, IfOk, IsTrue, ◌↔◌, Some, map};
-ghost use Rattle.m3_decoded.specs.Ancestors.{parent_of, IsForest, IsSubtype};
-ghost use Rattle.m3_decoded.specs.Jumps.{JumpFits, JumpsFit};
-ghost use Rattle.m3_decoded.specs.ReadyTypes.{ready_type};
+ghost use Rattle.m3_image_decoded.specs.Ancestors.{parent_of, IsForest, IsSubtype};
+ghost use Rattle.m3_image_decoded.specs.Jumps.{JumpFits, JumpsFit};
+ghost use Rattle.m3_image_decoded.specs.ReadyTypes.{ready_type};
 
 use crate::types::ReadyType;
 use m3_base::NoMemory;

@@ -3,8 +3,8 @@ ghost use Rattle.std.specs.Prelude.{◌≡◌, ◌≤◌, ℕ, length, IfOk, Som
 ghost use Rattle.std.specs.List.{slice_get};
 ghost use Rattle.m3_tables.specs.Sections.{was_list, tidy_list};
 ghost use Rattle.m3_tables.specs.Tables.{section_of, row_count, section_of_row, number_of_row};
-ghost use Rattle.m3_decoded.specs.declared.span.Span.{Span};
-ghost use Rattle.m3_decoded.specs.Parts.{part, IsSpan, KeepsParts};
+ghost use Rattle.m3_image_decoded.specs.declared.span.Span.{Span};
+ghost use Rattle.m3_image_decoded.specs.Parts.{part, IsSpan, KeepsParts};
 
 use crate::span::Span;
 use m3_base::NoMemory;
@@ -63,7 +63,7 @@ fn push_row(
 impl<'a> TidyLists<'a> {
     ghost use Rattle.std.specs.Prelude.{◌<◌, true, IfSome, IfNone};
     ghost use Rattle.m3_tables.specs.Numbers.{is_once};
-    ghost use Rattle.m3_decoded.specs.RowViews.{table_of};
+    ghost use Rattle.m3_image_decoded.specs.RowViews.{table_of};
 
     /// The tidy places of the rows of a table.
     pub(crate) fn of(alloc: Global, table: TableView<'a>) -> Result<TidyLists<'a>, NoMemory>

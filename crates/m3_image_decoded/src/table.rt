@@ -1,7 +1,7 @@
 //! The types of an image in a list.
 ghost use Rattle.std.specs.Prelude.{◌≡◌, map, IfOk};
 ghost use Rattle.m3_image.specs.Views.{image_view};
-ghost use Rattle.m3_decoded.specs.ReadyTypes.{ready_type};
+ghost use Rattle.m3_image_decoded.specs.ReadyTypes.{ready_type};
 
 use crate::types::ReadyType;
 use m3_base::NoMemory;

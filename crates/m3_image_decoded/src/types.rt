@@ -4,7 +4,7 @@ ghost use Rattle.std.specs.List.{list_all};
 ghost use Rattle.m3_tables.specs.Numbers.{rises};
 ghost use Rattle.m3_tables.specs.Sections.{is_between};
 ghost use Rattle.m3_heap.specs.Shapes.{is_listed};
-ghost use Rattle.m3_sections.specs.PartViews.{type_of};
+ghost use Rattle.m3_image_sections.specs.PartViews.{type_of};
 
 use m3_image::TypeView;
 
@@ -25,8 +25,8 @@ pub(crate) struct ReadyType<'a> {
 impl<'a> ReadyType<'a> {
     ghost use Rattle.std.specs.Prelude.{Some};
     ghost use Rattle.m3_heap.specs.Shapes.{is_pointer_in};
-    ghost use Rattle.m3_sections.specs.Shapes.{shape_of};
-    ghost use Rattle.m3_decoded.specs.Ancestors.{parent_in};
+    ghost use Rattle.m3_image_sections.specs.Shapes.{shape_of};
+    ghost use Rattle.m3_image_decoded.specs.Ancestors.{parent_in};
 
     /// A type whose pointers rise and lie below its words.
     pub(crate) fn of(view: TypeView<'a>) -> ReadyType<'a>

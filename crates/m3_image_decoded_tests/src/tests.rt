@@ -1,7 +1,7 @@
 use m3_base::NoMemory;
-use m3_decoded::Decoded;
 use m3_heap::Maps;
 use m3_image::ImageView;
+use m3_image_decoded::Decoded;
 use std::alloc::Global;
 use std::test::Fail;
 

@@ -6,14 +6,14 @@ use Rattle.std.proofs.lemmas.List.{append_assoc}
 use Rattle.std.proofs.lemmas.Option.{slice_get_cases}
 use Rattle.std.proofs.lemmas.Bool.Decides.{nat_tests}
 use Rattle.m3_isa.specs.declared.instructions.Instr.{Instr}
-use Rattle.m3_sections.specs.declared.procs.ProcPart.{ProcPart}
-use Rattle.m3_sections.specs.Forms.{proc_fits, follow_from, procs_fit}
-use Rattle.m3_sections.specs.Parts.{Program}
-use Rattle.m3_sections.specs.Ranges.{end_from}
-use Rattle.m3_sections.proofs.ProcLemmas.{fit_follows}
+use Rattle.m3_image_sections.specs.declared.procs.ProcPart.{ProcPart}
+use Rattle.m3_image_sections.specs.Forms.{proc_fits, follow_from, procs_fit}
+use Rattle.m3_image_sections.specs.Parts.{Program}
+use Rattle.m3_image_sections.specs.Ranges.{end_from}
+use Rattle.m3_image_sections.proofs.ProcLemmas.{fit_follows}
 use Rattle.m3_image.specs.Programs.{begins_with_point, procs_suit, fault_of}
 use Rattle.m3_image.proofs.CoverLemmas.{suits}
-use Rattle.m3_dump.specs.Texts.{instruction_line, RowText, CodeText, code}
+use Rattle.m3_image_dump.specs.Texts.{instruction_line, RowText, CodeText, code}
 
 and_parts : (a b : Bool) → (a && b) ≡ true → (a ≡ true) × (b ≡ true)
 and_parts true b e = (refl, e)

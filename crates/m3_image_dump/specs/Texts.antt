@@ -7,10 +7,10 @@ use Rattle.m3_tables.specs.Numbers.{word_in}
 use Rattle.m3_tables.specs.Rows.{Bases, Entry, Contents}
 use Rattle.m3_tables.specs.Sections.{instruction_in, tidy_list, contents_in}
 use Rattle.m3_isa.specs.declared.instructions.Instr.{Instr}
-use Rattle.m3_sections.specs.declared.procs.ProcPart.{ProcPart}
-use Rattle.m3_sections.specs.Forms.{none}
-use Rattle.m3_sections.specs.Parts.{Image, Program, Variable}
-use Rattle.m3_dump.specs.Names.{text_of}
+use Rattle.m3_image_sections.specs.declared.procs.ProcPart.{ProcPart}
+use Rattle.m3_image_sections.specs.Forms.{none}
+use Rattle.m3_image_sections.specs.Parts.{Image, Program, Variable}
+use Rattle.m3_image_dump.specs.Names.{text_of}
 
 -- a text that grew by one of some texts
 pub record Adds (texts : List ℕ → Type 0) (old new : List ℕ) : Type 0 where

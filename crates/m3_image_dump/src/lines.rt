@@ -1,18 +1,18 @@
 //! The lines of procedures, instructions and variables, and the whole text.
 ghost use Rattle.std.specs.Prelude.{◌≡◌, ◌++◌, ◌+◌, ◌≤◌, length, IfOk, OnOk};
-ghost use Rattle.m3_decoded.specs.Ready.{image_of};
-ghost use Rattle.m3_sections.specs.PartViews.{variable_of, pairs_of, variables_list};
+ghost use Rattle.m3_image_decoded.specs.Ready.{image_of};
+ghost use Rattle.m3_image_sections.specs.PartViews.{variable_of, pairs_of, variables_list};
 ghost use Rattle.std.specs.List.{flat_map};
-ghost use Rattle.m3_dump.specs.Texts.{proc_line, instruction_line, owner_word, form_word};
-ghost use Rattle.m3_dump.specs.Texts.{global_word, span_word, variable_words, variable_line, Adds};
-ghost use Rattle.m3_dump.specs.Texts.{CodeText, ProcsText, IsDump};
+ghost use Rattle.m3_image_dump.specs.Texts.{proc_line, instruction_line, owner_word, form_word};
+ghost use Rattle.m3_image_dump.specs.Texts.{global_word, span_word, variable_words, variable_line, Adds};
+ghost use Rattle.m3_image_dump.specs.Texts.{CodeText, ProcsText, IsDump};
 
 use crate::names::name_of;
 use crate::rows::put_row_at;
 use crate::words::{put, put_number, put_number_word, put_place, put_signed_word};
 use m3_base::NoMemory;
-use m3_decoded::Decoded;
 use m3_image::{Pairs, ProcPart, VarView};
+use m3_image_decoded::Decoded;
 use m3_isa::Instr;
 use std::alloc::Global;
 

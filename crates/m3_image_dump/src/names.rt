@@ -1,5 +1,5 @@
 ghost use Rattle.std.specs.Prelude.{◌≡◌};
-ghost use Rattle.m3_dump.specs.Names.{text_of};
+ghost use Rattle.m3_image_dump.specs.Names.{text_of};
 
 use m3_isa::Op;
 

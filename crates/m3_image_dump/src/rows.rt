@@ -4,13 +4,13 @@ ghost use Rattle.std.specs.List.{flat_map};
 ghost use Rattle.m3_tables.specs.Views.{entry_of, bases_of, numbers_of};
 ghost use Rattle.m3_tables.specs.Tables.{section_of_row, number_of_row};
 ghost use Rattle.m3_tables.specs.Sections.{contents_in};
-ghost use Rattle.m3_decoded.specs.Ready.{image_of};
-ghost use Rattle.m3_dump.specs.Texts.{place_text, place_word, way_text, ways_text, path_text};
-ghost use Rattle.m3_dump.specs.Texts.{entry_word, row_line, InOrder, Adds, RowText};
+ghost use Rattle.m3_image_decoded.specs.Ready.{image_of};
+ghost use Rattle.m3_image_dump.specs.Texts.{place_text, place_word, way_text, ways_text, path_text};
+ghost use Rattle.m3_image_dump.specs.Texts.{entry_word, row_line, InOrder, Adds, RowText};
 
 use crate::words::{put, put_place, put_place_word, put_places};
 use m3_base::NoMemory;
-use m3_decoded::Decoded;
+use m3_image_decoded::Decoded;
 use m3_tables::{Derivation, Numbers, Row, WayView};
 use std::alloc::Global;
 

@@ -3,7 +3,7 @@ ghost use Rattle.std.specs.Prelude.{◌≡◌, ◌++◌, codes, decimal, OnOk};
 ghost use Rattle.std.specs.Fmt.{signed_decimal};
 ghost use Rattle.std.specs.List.{flat_map};
 ghost use Rattle.m3_tables.specs.Views.{numbers_of};
-ghost use Rattle.m3_dump.specs.Texts.{number_word, place_text, place_word};
+ghost use Rattle.m3_image_dump.specs.Texts.{number_word, place_text, place_word};
 
 use itoa::Buffer;
 use m3_base::NoMemory;

@@ -1,6 +1,6 @@
-use m3_decoded::Decoded;
-use m3_dump::dump;
 use m3_image::ImageView;
+use m3_image_decoded::Decoded;
+use m3_image_dump::dump;
 use std::test::Fail;
 
 /// An image with something in each section.

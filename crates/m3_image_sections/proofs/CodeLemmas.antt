@@ -7,11 +7,11 @@ use Rattle.std.proofs.lemmas.Option.{slice_get_past}
 use Rattle.m3_isa.specs.declared.instructions.Instr.{Instr}
 use Rattle.m3_isa.specs.Instructions.{is_point}
 use Rattle.m3_isa.specs.CodeBytes.{instruction_in}
-use Rattle.m3_sections.specs.Fields.{each}
-use Rattle.m3_sections.specs.Ranges.{first_failing, is_point_at, points_from}
-use Rattle.m3_sections.specs.Reading.{somes, code_in, instruction_at}
-use Rattle.m3_sections.proofs.ListLemmas.{length_each, each_at}
-use Rattle.m3_sections.proofs.FirstLemmas.{first_none}
+use Rattle.m3_image_sections.specs.Fields.{each}
+use Rattle.m3_image_sections.specs.Ranges.{first_failing, is_point_at, points_from}
+use Rattle.m3_image_sections.specs.Reading.{somes, code_in, instruction_at}
+use Rattle.m3_image_sections.proofs.ListLemmas.{length_each, each_at}
+use Rattle.m3_image_sections.proofs.FirstLemmas.{first_none}
 
 -- only the first eight bytes count
 pub instruction_take : (bytes : List ℕ) → 8 ≤ length bytes → instruction_in (take 8 bytes) ≡ instruction_in bytes

@@ -4,7 +4,7 @@ use Rattle.std.specs.Prelude.{List, unwrap_or}
 use Rattle.std.specs.Option.{option_map_or}
 use Rattle.std.proofs.lemmas.Bool.{cases_lt}
 use Rattle.m3_tables.specs.Sections.{first_bad, is_good}
-use Rattle.m3_sections.specs.Ranges.{first_failing, or_else}
+use Rattle.m3_image_sections.specs.Ranges.{first_failing, or_else}
 
 pub first_zero : (test : ℕ → Bool) → first_failing test 0 ≡ None
 unfolding first_failing

@@ -6,8 +6,8 @@ use Rattle.std.proofs.lemmas.Bool.{cases_lt, lt-ltb, le-ltb}
 use Rattle.std.proofs.lemmas.List.{drop-drop}
 use Rattle.std.proofs.lemmas.Option.{slice_get_past}
 use Rattle.m3_tables.specs.Fields.{◌>>=◌, word_at, list_at}
-use Rattle.m3_sections.specs.Fields.{each, many_in, past_many, left_by}
-use Rattle.m3_sections.specs.Parts.{CellType, type_at}
+use Rattle.m3_image_sections.specs.Fields.{each, many_in, past_many, left_by}
+use Rattle.m3_image_sections.specs.Parts.{CellType, type_at}
 
 -- ---- things of one size
 

@@ -5,9 +5,9 @@ use Rattle.std.specs.List.{slice_get}
 use Rattle.std.specs.Option.{option_map_or}
 use Rattle.std.proofs.lemmas.Bool.{lt-ltb, le-ltb}
 use Rattle.std.proofs.lemmas.Bool.Decides.{nat_tests}
-use Rattle.m3_sections.specs.declared.procs.ProcPart.{ProcPart}
-use Rattle.m3_sections.specs.Forms.{proc_fits, follow_from, second_fits, procs_fit}
-use Rattle.m3_sections.specs.Ranges.{containing}
+use Rattle.m3_image_sections.specs.declared.procs.ProcPart.{ProcPart}
+use Rattle.m3_image_sections.specs.Forms.{proc_fits, follow_from, second_fits, procs_fit}
+use Rattle.m3_image_sections.specs.Ranges.{containing}
 
 -- where a procedure ends, by its number
 abbrev pub end_at : List ProcPart → ℕ → ℕ

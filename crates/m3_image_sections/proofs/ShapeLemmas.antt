@@ -9,9 +9,9 @@ use Rattle.m3_tables.specs.Sections.{is_between}
 use Rattle.std.proofs.Common.{map}
 use Rattle.std.proofs.lemmas.Option.{slice_get-map}
 use Rattle.m3_heap.specs.Shapes.{is_listed, is_pointer_in, is_pointer_of}
-use Rattle.m3_sections.specs.Shapes.{shape_of}
-use Rattle.m3_sections.specs.Parts.{CellType}
-use Rattle.m3_sections.specs.Forms.{layout_fits, type_fits, types_fit_from, types_fit}
+use Rattle.m3_image_sections.specs.Shapes.{shape_of}
+use Rattle.m3_image_sections.specs.Parts.{CellType}
+use Rattle.m3_image_sections.specs.Forms.{layout_fits, type_fits, types_fit_from, types_fit}
 
 and_parts : (a b : Bool) → (a && b) ≡ true → (a ≡ true) × (b ≡ true)
 and_parts true b e = (refl, e)

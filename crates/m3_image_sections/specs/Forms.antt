@@ -3,8 +3,8 @@ use Rattle.std.specs.Prelude.{ℕ, suc, ◌+◌, ◌-◌, ◌^◌, nat_lt, nat_l
 use Rattle.std.specs.List.{list_all}
 use Rattle.m3_tables.specs.Numbers.{rises}
 use Rattle.m3_tables.specs.Sections.{is_between}
-use Rattle.m3_sections.specs.declared.procs.ProcPart.{ProcPart}
-use Rattle.m3_sections.specs.Parts.{CellType, Globals, Places}
+use Rattle.m3_image_sections.specs.declared.procs.ProcPart.{ProcPart}
+use Rattle.m3_image_sections.specs.Parts.{CellType, Globals, Places}
 
 -- the number that stands for no parent, and for no procedure
 abbrev pub none : ℕ

@@ -2,20 +2,20 @@
 use Rattle.std.specs.Prelude.{ℕ, List, length}
 use Rattle.m3_tables.specs.Views.{numbers_of}
 use Rattle.m3_isa.specs.declared.instructions.Instr.{Instr}
-use Rattle.m3_sections.specs.declared.procs.ProcPart.{ProcPart}
-use Rattle.m3_sections.specs.declared.procs.Procs.{Procs}
-use Rattle.m3_sections.specs.declared.lists.Longs.{Longs}
-use Rattle.m3_sections.specs.declared.lists.Pairs.{Pairs}
-use Rattle.m3_sections.specs.declared.lists.Names.{Names}
-use Rattle.m3_sections.specs.declared.types.TypeView.{TypeView}
-use Rattle.m3_sections.specs.declared.types.Types.{Types}
-use Rattle.m3_sections.specs.declared.types.Globals as code_globals
-use Rattle.m3_sections.specs.declared.code.Code.{Code}
-use Rattle.m3_sections.specs.declared.variables.VarView.{VarView}
-use Rattle.m3_sections.specs.declared.variables.Variables.{Variables}
-use Rattle.m3_sections.specs.Reading.{code_in}
-use Rattle.m3_sections.specs.Fields.{long_in, text_at, each, many_in}
-use Rattle.m3_sections.specs.Parts.{CellType, Globals, Variable, pair_in, proc_in, type_at, variable_at}
+use Rattle.m3_image_sections.specs.declared.procs.ProcPart.{ProcPart}
+use Rattle.m3_image_sections.specs.declared.procs.Procs.{Procs}
+use Rattle.m3_image_sections.specs.declared.lists.Longs.{Longs}
+use Rattle.m3_image_sections.specs.declared.lists.Pairs.{Pairs}
+use Rattle.m3_image_sections.specs.declared.lists.Names.{Names}
+use Rattle.m3_image_sections.specs.declared.types.TypeView.{TypeView}
+use Rattle.m3_image_sections.specs.declared.types.Types.{Types}
+use Rattle.m3_image_sections.specs.declared.types.Globals as code_globals
+use Rattle.m3_image_sections.specs.declared.code.Code.{Code}
+use Rattle.m3_image_sections.specs.declared.variables.VarView.{VarView}
+use Rattle.m3_image_sections.specs.declared.variables.Variables.{Variables}
+use Rattle.m3_image_sections.specs.Reading.{code_in}
+use Rattle.m3_image_sections.specs.Fields.{long_in, text_at, each, many_in}
+use Rattle.m3_image_sections.specs.Parts.{CellType, Globals, Variable, pair_in, proc_in, type_at, variable_at}
 
 abbrev pub longs_of : Longs → List ℕ
 longs_of list = each 8 long_in list.count list.bytes.now

@@ -3,8 +3,8 @@ use Rattle.std.specs.Prelude.{ℕ, ◌*◌, ◌/◌, List, length, drop, Option,
 use Rattle.m3_tables.specs.Numbers.{word_in}
 use Rattle.m3_tables.specs.Fields.{◌>>=◌, word_at, list_at}
 use Rattle.m3_isa.specs.declared.instructions.Instr.{Instr}
-use Rattle.m3_sections.specs.declared.procs.ProcPart.{ProcPart}
-use Rattle.m3_sections.specs.Fields.{long_in, byte_at, text_at, each, counted_at, many_at, all_at}
+use Rattle.m3_image_sections.specs.declared.procs.ProcPart.{ProcPart}
+use Rattle.m3_image_sections.specs.Fields.{long_in, byte_at, text_at, each, counted_at, many_at, all_at}
 
 -- a type of cells: its kind (0 fixed, 1 open, 2 text), its parent, the words of a fixed cell or of an open
 -- cell's element, the open dimensions, the methods (a procedure's number and 1, or 0 for none) and the

@@ -4,7 +4,7 @@ use Rattle.std.specs.Option.{option_map_or}
 use Rattle.std.specs.List.{slice_get}
 use Rattle.m3_isa.specs.declared.instructions.Instr.{Instr}
 use Rattle.m3_isa.specs.Instructions.{is_point}
-use Rattle.m3_sections.specs.declared.procs.ProcPart.{ProcPart}
+use Rattle.m3_image_sections.specs.declared.procs.ProcPart.{ProcPart}
 
 -- the first, or else the second
 abbrev pub or_else : {A : Type 0} → Option A → Option A → Option A

@@ -2,10 +2,10 @@
 use Rattle.std.specs.Prelude.{ℕ, ◌*◌, ◌/◌, ◌%◌, ◌==◌, Bool, true, ◌&&◌, if◌then◌else◌, List, [], ◌∷◌, length, drop, Option, Some, None, is_some, Result, Ok, Err}
 use Rattle.m3_isa.specs.declared.instructions.Instr.{Instr}
 use Rattle.m3_isa.specs.CodeBytes.{instruction_in}
-use Rattle.m3_sections.specs.declared.refusal.ImageRefusal.{ImageRefusal}
-use Rattle.m3_sections.specs.declared.refusal.ImageRefusal.TheVariants.{Section, Instruction}
-use Rattle.m3_sections.specs.Fields.{each}
-use Rattle.m3_sections.specs.Ranges.{first_failing}
+use Rattle.m3_image_sections.specs.declared.refusal.ImageRefusal.{ImageRefusal}
+use Rattle.m3_image_sections.specs.declared.refusal.ImageRefusal.TheVariants.{Section, Instruction}
+use Rattle.m3_image_sections.specs.Fields.{each}
+use Rattle.m3_image_sections.specs.Ranges.{first_failing}
 
 infixl 10 ◌>>=◌
 abbrev pub ◌>>=◌ : {A B : Type 0} → Result A ImageRefusal → (A → Result B ImageRefusal) → Result B ImageRefusal

@@ -1,7 +1,7 @@
 -- What the sections of the code stand for.
 use Rattle.std.specs.Option.{option_map}
-use Rattle.m3_sections.specs.declared.sections.Sections as code_sections
-use Rattle.m3_sections.specs.Sections.{Sections}
+use Rattle.m3_image_sections.specs.declared.sections.Sections as code_sections
+use Rattle.m3_image_sections.specs.Sections.{Sections}
 
 abbrev pub sections_view : code_sections.Sections → Sections
 sections_view s = record {

@@ -3,9 +3,9 @@ use Rattle.std.specs.Prelude.{ℕ, nat_lt, ◌==◌, ◌||◌, if◌then◌else�
 use Rattle.byteorder.specs.Endian.{little_number}
 use Rattle.m3_tables.specs.Numbers.{word_in}
 use Rattle.m3_tables.specs.Fields.{◌>>=◌}
-use Rattle.m3_sections.specs.declared.refusal.ImageRefusal.{ImageRefusal}
-use Rattle.m3_sections.specs.declared.refusal.ImageRefusal.TheVariants.{Short, Magic, Version, Rest}
-use Rattle.m3_sections.specs.Fields.{text_at}
+use Rattle.m3_image_sections.specs.declared.refusal.ImageRefusal.{ImageRefusal}
+use Rattle.m3_image_sections.specs.declared.refusal.ImageRefusal.TheVariants.{Short, Magic, Version, Rest}
+use Rattle.m3_image_sections.specs.Fields.{text_at}
 
 -- the bytes of each section; the ninth is there in version 2 alone
 pub record Sections : Type 0 where

@@ -2,8 +2,8 @@
 ghost use Rattle.std.specs.Prelude.{◌≡◌, ◌≤◌, ◌<◌, ◌^◌, ◌/◌, None, IfSome, is_some, length};
 ghost use Rattle.m3_isa.specs.Instructions.{IsInstruction};
 ghost use Rattle.m3_isa.specs.CodeBytes.{instruction_in};
-ghost use Rattle.m3_sections.specs.Ranges.{first_failing};
-ghost use Rattle.m3_sections.specs.Reading.{instruction_at};
+ghost use Rattle.m3_image_sections.specs.Ranges.{first_failing};
+ghost use Rattle.m3_image_sections.specs.Reading.{instruction_at};
 
 use crate::refusal::ImageRefusal;
 use m3_isa::{Instr, decode};
@@ -50,9 +50,9 @@ fn first_bad(section: &[u8]) -> Option<u32>
 
 impl<'a> Code<'a> {
     ghost use Rattle.std.specs.List.{slice_get};
-    ghost use Rattle.m3_sections.specs.Reading.{code_of, seen};
-    ghost use Rattle.m3_sections.specs.Ranges.{is_point_at};
-    ghost use Rattle.m3_sections.specs.PartViews.{code_list};
+    ghost use Rattle.m3_image_sections.specs.Reading.{code_of, seen};
+    ghost use Rattle.m3_image_sections.specs.Ranges.{is_point_at};
+    ghost use Rattle.m3_image_sections.specs.PartViews.{code_list};
 
     /// The code of a section.
     #[tactic(auto, unfolding(crate::specs::Reading::code_of))]

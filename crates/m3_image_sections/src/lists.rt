@@ -1,7 +1,7 @@
 //! Things one after the other in bytes: numbers, procedures, places and names.
 ghost use Rattle.std.specs.Prelude.{◌≡◌, ◌≤◌, ◌<◌, ◌*◌, ◌^◌, length, IfSome};
 ghost use Rattle.std.specs.Option.{option_map};
-ghost use Rattle.m3_sections.specs.Fields.{long_in, byte_at, text_at, past_many};
+ghost use Rattle.m3_image_sections.specs.Fields.{long_in, byte_at, text_at, past_many};
 
 use byteorder::{ByteOrder, LittleEndian};
 use m3_tables::{word, word_at};
@@ -64,8 +64,8 @@ pub struct Names<'a> {
 
 impl<'a> Longs<'a> {
     ghost use Rattle.std.specs.List.{slice_get};
-    ghost use Rattle.m3_sections.specs.Fields.{counted_at};
-    ghost use Rattle.m3_sections.specs.PartViews.{longs_of};
+    ghost use Rattle.m3_image_sections.specs.Fields.{counted_at};
+    ghost use Rattle.m3_image_sections.specs.PartViews.{longs_of};
 
     /// How many numbers there are.
     #[tactic(auto, using(crate::proofs::ListLemmas::length_each))]
@@ -102,9 +102,9 @@ impl<'a> Longs<'a> {
 
 impl<'a> Pairs<'a> {
     ghost use Rattle.std.specs.List.{slice_get};
-    ghost use Rattle.m3_sections.specs.Fields.{counted_at};
-    ghost use Rattle.m3_sections.specs.Parts.{pair_in};
-    ghost use Rattle.m3_sections.specs.PartViews.{pairs_of};
+    ghost use Rattle.m3_image_sections.specs.Fields.{counted_at};
+    ghost use Rattle.m3_image_sections.specs.Parts.{pair_in};
+    ghost use Rattle.m3_image_sections.specs.PartViews.{pairs_of};
 
     /// How many pairs there are.
     #[tactic(auto, using(crate::proofs::ListLemmas::length_each))]
@@ -144,7 +144,7 @@ impl<'a> Iterator for Pairs<'a> {
     type Item = (u32, u32);
 
     ghost use Rattle.std.specs.Iterator.{YieldsFirst, item_count};
-    ghost use Rattle.m3_sections.specs.PartViews.{pairs_of};
+    ghost use Rattle.m3_image_sections.specs.PartViews.{pairs_of};
 
     ghost next_gives = { YieldsFirst pairs_of };
 
@@ -167,7 +167,7 @@ impl<'a> Iterator for Names<'a> {
     type Item = &'a [u8];
 
     ghost use Rattle.std.specs.Iterator.{YieldsFirstBy, item_count};
-    ghost use Rattle.m3_sections.specs.PartViews.{names_of};
+    ghost use Rattle.m3_image_sections.specs.PartViews.{names_of};
 
     ghost next_gives = { YieldsFirstBy (λ x. x.now) names_of };
 
@@ -200,8 +200,8 @@ fn past_names(count: u32, bytes: &[u8]) -> Option<&[u8]>
 
 impl<'a> Names<'a> {
     ghost use Rattle.std.specs.List.{slice_get};
-    ghost use Rattle.m3_sections.specs.Fields.{many_at};
-    ghost use Rattle.m3_sections.specs.PartViews.{names_of};
+    ghost use Rattle.m3_image_sections.specs.Fields.{many_at};
+    ghost use Rattle.m3_image_sections.specs.PartViews.{names_of};
 
     /// Names behind their count, and the bytes after them.
     #[tactic(auto, unfolding(crate::specs::Fields::many_at), using(crate::proofs::ListLemmas::length_all))]

@@ -24,9 +24,9 @@ pub struct Procs<'a> {
 
 impl ProcPart {
     ghost use Rattle.std.specs.Prelude.{◌+◌};
-    ghost use Rattle.m3_sections.specs.Parts.{proc_in};
-    ghost use Rattle.m3_sections.specs.Forms.{proc_fits};
-    ghost use Rattle.m3_sections.specs.Ranges.{contains};
+    ghost use Rattle.m3_image_sections.specs.Parts.{proc_in};
+    ghost use Rattle.m3_image_sections.specs.Forms.{proc_fits};
+    ghost use Rattle.m3_image_sections.specs.Ranges.{contains};
 
     fn of(bytes: &[u8]) -> ProcPart
         requires { 16 ≤ length bytes.now }
@@ -65,7 +65,7 @@ impl<'a> Iterator for Procs<'a> {
     type Item = ProcPart;
 
     ghost use Rattle.std.specs.Iterator.{YieldsFirst, item_count};
-    ghost use Rattle.m3_sections.specs.PartViews.{procs_of};
+    ghost use Rattle.m3_image_sections.specs.PartViews.{procs_of};
 
     ghost next_gives = { YieldsFirst procs_of };
 
@@ -87,11 +87,11 @@ impl<'a> Iterator for Procs<'a> {
 impl<'a> Procs<'a> {
     ghost use Rattle.std.specs.Prelude.{◌<◌, Some, IfOk, IsTrue};
     ghost use Rattle.std.specs.List.{slice_get};
-    ghost use Rattle.m3_sections.specs.Parts.{procs_at};
-    ghost use Rattle.m3_sections.specs.Forms.{follow_from, second_fits, procs_fit};
-    ghost use Rattle.m3_sections.specs.Reading.{seen, whole};
-    ghost use Rattle.m3_sections.specs.Ranges.{containing, end_from};
-    ghost use Rattle.m3_sections.specs.PartViews.{procs_of};
+    ghost use Rattle.m3_image_sections.specs.Parts.{procs_at};
+    ghost use Rattle.m3_image_sections.specs.Forms.{follow_from, second_fits, procs_fit};
+    ghost use Rattle.m3_image_sections.specs.Reading.{seen, whole};
+    ghost use Rattle.m3_image_sections.specs.Ranges.{containing, end_from};
+    ghost use Rattle.m3_image_sections.specs.PartViews.{procs_of};
 
     /// The procedures of a section, and the bytes after them.
     #[tactic(auto, unfolding(crate::specs::Parts::procs_at))]

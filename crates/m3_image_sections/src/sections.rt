@@ -1,7 +1,7 @@
 //! How an image is cut into its sections.
 ghost use Rattle.std.specs.Prelude.{◌≡◌, ◌<◌, ◌^◌, length};
 ghost use Rattle.std.specs.Option.{option_map};
-ghost use Rattle.m3_sections.specs.Sections.{ninth_at};
+ghost use Rattle.m3_image_sections.specs.Sections.{ninth_at};
 
 use crate::lists::text_at;
 use crate::refusal::ImageRefusal;
@@ -40,9 +40,9 @@ fn ninth_at(version: u32, bytes: &[u8]) -> Option<(Option<&[u8]>, &[u8])>
 }
 
 impl<'a> Sections<'a> {
-    ghost use Rattle.m3_sections.specs.Sections.{sections_at, sections_of};
-    ghost use Rattle.m3_sections.specs.Reading.{seen};
-    ghost use Rattle.m3_sections.specs.SectionViews.{sections_view};
+    ghost use Rattle.m3_image_sections.specs.Sections.{sections_at, sections_of};
+    ghost use Rattle.m3_image_sections.specs.Reading.{seen};
+    ghost use Rattle.m3_image_sections.specs.SectionViews.{sections_view};
 
     /// The sections of a version, and the bytes after them.
     #[tactic(auto, unfolding(crate::specs::Sections::sections_at))]

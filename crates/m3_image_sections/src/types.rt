@@ -53,11 +53,11 @@ impl<'a> TypeView<'a> {
     ghost use Rattle.std.specs.Prelude.{nat_le, Some, IsTrue};
     ghost use Rattle.m3_tables.specs.Numbers.{rises};
     ghost use Rattle.m3_heap.specs.Shapes.{is_listed, is_pointer_in};
-    ghost use Rattle.m3_sections.specs.Shapes.{shape_of};
+    ghost use Rattle.m3_image_sections.specs.Shapes.{shape_of};
     ghost use Rattle.std.specs.List.{slice_get};
-    ghost use Rattle.m3_sections.specs.Parts.{type_at};
-    ghost use Rattle.m3_sections.specs.Forms.{layout_fits, parent_fits, number_fits, is_three_alone, type_fits};
-    ghost use Rattle.m3_sections.specs.PartViews.{type_of};
+    ghost use Rattle.m3_image_sections.specs.Parts.{type_at};
+    ghost use Rattle.m3_image_sections.specs.Forms.{layout_fits, parent_fits, number_fits, is_three_alone, type_fits};
+    ghost use Rattle.m3_image_sections.specs.PartViews.{type_of};
 
     /// The form of the type's cells: 0 fixed, 1 open, 2 text.
     pub fn kind(&self) -> u32
@@ -231,7 +231,7 @@ impl<'a> Iterator for Types<'a> {
     type Item = TypeView<'a>;
 
     ghost use Rattle.std.specs.Iterator.{YieldsFirstBy, item_count};
-    ghost use Rattle.m3_sections.specs.PartViews.{type_of, types_of};
+    ghost use Rattle.m3_image_sections.specs.PartViews.{type_of, types_of};
 
     ghost next_gives = { YieldsFirstBy type_of types_of };
 
@@ -247,10 +247,10 @@ impl<'a> Iterator for Types<'a> {
 impl<'a> Types<'a> {
     ghost use Rattle.std.specs.Prelude.{Some, IfOk, IsTrue};
     ghost use Rattle.std.specs.List.{slice_get};
-    ghost use Rattle.m3_sections.specs.Parts.{types_at};
-    ghost use Rattle.m3_sections.specs.Forms.{types_fit_from, types_fit};
-    ghost use Rattle.m3_sections.specs.Reading.{seen, whole};
-    ghost use Rattle.m3_sections.specs.PartViews.{type_of, types_of, procs_of};
+    ghost use Rattle.m3_image_sections.specs.Parts.{types_at};
+    ghost use Rattle.m3_image_sections.specs.Forms.{types_fit_from, types_fit};
+    ghost use Rattle.m3_image_sections.specs.Reading.{seen, whole};
+    ghost use Rattle.m3_image_sections.specs.PartViews.{type_of, types_of, procs_of};
 
     /// The types of a section, and the bytes after them.
     #[tactic(auto, unfolding(crate::specs::Parts::types_at, crate::specs::Fields::all_at))]
@@ -326,10 +326,10 @@ impl<'a> Types<'a> {
 
 impl<'a> Globals<'a> {
     ghost use Rattle.std.specs.Prelude.{IfOk, IsTrue};
-    ghost use Rattle.m3_sections.specs.Parts.{globals_at};
-    ghost use Rattle.m3_sections.specs.Forms.{globals_fit};
-    ghost use Rattle.m3_sections.specs.Reading.{seen, whole};
-    ghost use Rattle.m3_sections.specs.PartViews.{globals_of};
+    ghost use Rattle.m3_image_sections.specs.Parts.{globals_at};
+    ghost use Rattle.m3_image_sections.specs.Forms.{globals_fit};
+    ghost use Rattle.m3_image_sections.specs.Reading.{seen, whole};
+    ghost use Rattle.m3_image_sections.specs.PartViews.{globals_of};
 
     /// What a section says of the globals, and the bytes after that.
     #[tactic(auto, unfolding(crate::specs::Parts::globals_at))]

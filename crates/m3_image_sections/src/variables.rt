@@ -31,8 +31,8 @@ impl<'a> VarView<'a> {
     ghost use Rattle.std.specs.List.{slice_get};
     ghost use Rattle.m3_tables.specs.Numbers.{rises};
     ghost use Rattle.m3_tables.specs.Places.{location_of};
-    ghost use Rattle.m3_sections.specs.Parts.{variable_at};
-    ghost use Rattle.m3_sections.specs.PartViews.{variable_of, pairs_of};
+    ghost use Rattle.m3_image_sections.specs.Parts.{variable_at};
+    ghost use Rattle.m3_image_sections.specs.PartViews.{variable_of, pairs_of};
 
     /// Where the variable is while a thread stands at an instruction: that instruction, and the place. None
     /// exactly past the variable's spans.
@@ -92,7 +92,7 @@ impl<'a> Iterator for Variables<'a> {
     type Item = VarView<'a>;
 
     ghost use Rattle.std.specs.Iterator.{YieldsFirstBy, item_count};
-    ghost use Rattle.m3_sections.specs.PartViews.{variable_of, variables_list};
+    ghost use Rattle.m3_image_sections.specs.PartViews.{variable_of, variables_list};
 
     ghost next_gives = { YieldsFirstBy variable_of variables_list };
 
@@ -114,9 +114,9 @@ impl<'a> Iterator for Variables<'a> {
 impl<'a> Variables<'a> {
     ghost use Rattle.std.specs.Prelude.{[]};
     ghost use Rattle.std.specs.List.{slice_get};
-    ghost use Rattle.m3_sections.specs.Fields.{past_many};
-    ghost use Rattle.m3_sections.specs.Parts.{variable_at, variables_at};
-    ghost use Rattle.m3_sections.specs.PartViews.{variable_of, variables_list};
+    ghost use Rattle.m3_image_sections.specs.Fields.{past_many};
+    ghost use Rattle.m3_image_sections.specs.Parts.{variable_at, variables_at};
+    ghost use Rattle.m3_image_sections.specs.PartViews.{variable_of, variables_list};
 
     /// No variables.
     pub fn nothing() -> Variables<'a>

@@ -10,12 +10,12 @@ use Rattle.m3_isa.specs.Instructions.{IsInstruction}
 use Rattle.m3_tables.specs.Numbers.{word_in, half_in}
 use Rattle.m3_tables.specs.Fields.{word_at, half_at, list_at, bases_at, ways_in, past_ways, entry_at, entries_in, past_entries, contents_at, tidies_at}
 use Rattle.m3_tables.specs.Sections.{is_tidy, contents_in, past_row, is_good, tidy_all, are_free}
-use Rattle.m3_table_writer.specs.Writing.{word_bytes, list_bytes}
-use Rattle.m3_sections.specs.declared.procs.ProcPart.{ProcPart}
-use Rattle.m3_sections.specs.Parts.{CellType, Globals, Program, Variable, Image}
-use Rattle.m3_sections.specs.Forms.{procs_fit, types_fit, globals_fit, places_fit}
+use Rattle.m3_tables_writer.specs.Writing.{word_bytes, list_bytes}
+use Rattle.m3_image_sections.specs.declared.procs.ProcPart.{ProcPart}
+use Rattle.m3_image_sections.specs.Parts.{CellType, Globals, Program, Variable, Image}
+use Rattle.m3_image_sections.specs.Forms.{procs_fit, types_fit, globals_fit, places_fit}
 use Rattle.m3_image.specs.Programs.{fault_of, variable_fits, procs_suit, tables_fault, lists_points}
-use Rattle.m3_sections.specs.Ranges.{first_failing}
+use Rattle.m3_image_sections.specs.Ranges.{first_failing}
 use Rattle.m3_image_writer.specs.declared.parts.VarPart.{VarPart}
 use Rattle.m3_image_writer.specs.declared.parts.ImageParts.{ImageParts}
 use Rattle.m3_image_writer.specs.Fields.{long_bytes, text_bytes, place_bytes}

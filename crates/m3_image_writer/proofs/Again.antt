@@ -7,8 +7,8 @@ use Rattle.std.proofs.lemmas.List.{take_at, drop_at}
 use Rattle.byteorder.specs.Numbers.{little_number-reads_back}
 use Rattle.m3_tables.specs.Numbers.{word_in, numbers}
 use Rattle.m3_tables.specs.Fields.{word_at, list_at}
-use Rattle.m3_table_writer.specs.Writing.{word_bytes, list_bytes}
-use Rattle.m3_sections.specs.Fields.{long_in, text_at, each, counted_at, many_in, past_many, many_at, left_by, all_at}
+use Rattle.m3_tables_writer.specs.Writing.{word_bytes, list_bytes}
+use Rattle.m3_image_sections.specs.Fields.{long_in, text_at, each, counted_at, many_in, past_many, many_at, left_by, all_at}
 use Rattle.m3_image_writer.specs.Fields.{long_bytes, text_bytes}
 use Rattle.m3_image_writer.specs.Again.{Reads, ReadsFixed}
 use Rattle.m3_image_writer.proofs.Lengths.{length-word_bytes}

@@ -9,16 +9,16 @@ use Rattle.std.proofs.lemmas.List.{append-nil, drop_at, drop_all, drop-drop}
 use Rattle.std.proofs.Math.Nat.{mul-div_cancel_left}
 use Rattle.m3_isa.specs.declared.instructions.Instr.{Instr}
 use Rattle.m3_isa.specs.CodeBytes.{bytes_of, instruction_in}
-use Rattle.m3_sections.specs.declared.procs.ProcPart.{ProcPart}
-use Rattle.m3_sections.specs.Fields.{text_at, each}
-use Rattle.m3_sections.specs.Sections.{Sections, ninth_at, sections_at, magic, sections_of}
+use Rattle.m3_image_sections.specs.declared.procs.ProcPart.{ProcPart}
+use Rattle.m3_image_sections.specs.Fields.{text_at, each}
+use Rattle.m3_image_sections.specs.Sections.{Sections, ninth_at, sections_at, magic, sections_of}
 use Rattle.m3_tables.specs.Numbers.{word_in}
 use Rattle.m3_tables.specs.Fields.{word_at}
-use Rattle.m3_table_writer.specs.Writing.{word_bytes, list_bytes}
-use Rattle.m3_sections.specs.Parts.{CellType, proc_in, procs_at, type_at, types_at, variables_at}
-use Rattle.m3_sections.specs.Ranges.{first_failing}
+use Rattle.m3_tables_writer.specs.Writing.{word_bytes, list_bytes}
+use Rattle.m3_image_sections.specs.Parts.{CellType, proc_in, procs_at, type_at, types_at, variables_at}
+use Rattle.m3_image_sections.specs.Ranges.{first_failing}
 use Rattle.m3_image.specs.Programs.{variable_fits}
-use Rattle.m3_sections.specs.Reading.{instruction_at, somes, code_of}
+use Rattle.m3_image_sections.specs.Reading.{instruction_at, somes, code_of}
 use Rattle.m3_image.specs.Images.{program_of, variables_of, read_of}
 use Rattle.m3_image_writer.specs.declared.parts.TypePart.{TypePart}
 use Rattle.m3_image_writer.specs.declared.parts.VarPart.{VarPart}

@@ -8,11 +8,11 @@ use Rattle.m3_tables.specs.declared.place.Location.{Location}
 use Rattle.m3_tables.specs.declared.place.Location.TheVariants.{Register, Slot}
 use Rattle.m3_tables.specs.Numbers.{word_in}
 use Rattle.m3_tables.specs.Fields.{word_at, list_at}
-use Rattle.m3_table_writer.specs.Writing.{word_bytes, list_bytes}
-use Rattle.m3_table_writer.specs.Plain.{place_number}
-use Rattle.m3_sections.specs.declared.procs.ProcPart.{ProcPart}
-use Rattle.m3_sections.specs.Fields.{long_in, text_at, counted_at}
-use Rattle.m3_sections.specs.Parts.{proc_in, type_at, globals_at, constants_at, pair_in, places_at, names_at, variable_at, variables_at}
+use Rattle.m3_tables_writer.specs.Writing.{word_bytes, list_bytes}
+use Rattle.m3_tables_writer.specs.Plain.{place_number}
+use Rattle.m3_image_sections.specs.declared.procs.ProcPart.{ProcPart}
+use Rattle.m3_image_sections.specs.Fields.{long_in, text_at, counted_at}
+use Rattle.m3_image_sections.specs.Parts.{proc_in, type_at, globals_at, constants_at, pair_in, places_at, names_at, variable_at, variables_at}
 use Rattle.m3_image_writer.specs.declared.parts.TypePart.{TypePart}
 use Rattle.m3_image_writer.specs.declared.parts.GlobalPart.{GlobalPart}
 use Rattle.m3_image_writer.specs.declared.parts.PlacePart.{PlacePart}

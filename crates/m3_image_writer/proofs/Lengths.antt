@@ -3,9 +3,9 @@
 use Rattle.std.proofs.Common.{◌≡◌, ℕ, ◌+◌, ◌^◌, ◌<◌, ◌≤◌, List, [], ◌∷◌, ◌++◌, length, Option, None, Some, refl, arith, length-append}
 use Rattle.std.specs.Global.{Vec}
 use Rattle.std.specs.List.{flat_map, AllByRecursion}
-use Rattle.m3_table_writer.specs.Writing.{word_bytes, list_bytes}
+use Rattle.m3_tables_writer.specs.Writing.{word_bytes, list_bytes}
 use Rattle.m3_tables.specs.declared.place.Location.{Location}
-use Rattle.m3_table_writer.specs.Plain.{place_number}
+use Rattle.m3_tables_writer.specs.Plain.{place_number}
 use Rattle.m3_image_writer.specs.declared.parts.TypePart.{TypePart}
 use Rattle.m3_image_writer.specs.declared.parts.PlacePart.{PlacePart}
 use Rattle.m3_image_writer.specs.declared.parts.VarPart.{VarPart}

@@ -5,8 +5,8 @@ use Rattle.std.specs.Global.{Vec}
 use Rattle.std.specs.List.{flat_map}
 use Rattle.std.proofs.lemmas.List.{length-map}
 use Rattle.m3_tables.specs.declared.place.Location.{Location}
-use Rattle.m3_table_writer.specs.Writing.{word_bytes, list_bytes}
-use Rattle.m3_sections.specs.Parts.{CellType, Program, Variable, Image}
+use Rattle.m3_tables_writer.specs.Writing.{word_bytes, list_bytes}
+use Rattle.m3_image_sections.specs.Parts.{CellType, Program, Variable, Image}
 use Rattle.m3_image_writer.specs.declared.parts.TypePart.{TypePart}
 use Rattle.m3_image_writer.specs.declared.parts.VarPart.{VarPart}
 use Rattle.m3_image_writer.specs.declared.parts.ImageParts.{ImageParts}

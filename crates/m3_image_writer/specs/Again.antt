@@ -1,7 +1,7 @@
 -- What it is that bytes are read again.
 use Rattle.std.specs.Prelude.{◌≡◌, ℕ, List, [], ◌++◌, length, map, Option, Some, Ok}
-use Rattle.m3_sections.specs.Parts.{procs_at, types_at, globals_at, constants_at, places_at, names_at}
-use Rattle.m3_sections.specs.Reading.{code_of}
+use Rattle.m3_image_sections.specs.Parts.{procs_at, types_at, globals_at, constants_at, places_at, names_at}
+use Rattle.m3_image_sections.specs.Reading.{code_of}
 use Rattle.m3_image_writer.specs.declared.parts.ImageParts.{ImageParts}
 use Rattle.m3_image_writer.specs.Sections.{code_bytes, procs_bytes, types_bytes, globals_bytes, constants_bytes, places_bytes, exceptions_bytes}
 use Rattle.m3_image_writer.specs.Views.{cell_type, globals_of, places_of}

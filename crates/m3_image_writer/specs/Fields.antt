@@ -1,7 +1,7 @@
 -- The fields of a section as bytes.
 use Rattle.std.specs.Prelude.{ℕ, List, ◌++◌, length}
 use Rattle.byteorder.specs.Endian.{little_bytes}
-use Rattle.m3_table_writer.specs.Writing.{word_bytes}
+use Rattle.m3_tables_writer.specs.Writing.{word_bytes}
 
 -- a number of eight bytes, the lowest first
 unfoldable pub long_bytes : ℕ → List ℕ

@@ -1,7 +1,7 @@
 -- The bytes of an image: four that say that it is one, the version, and the sections in their order.
 use Rattle.std.specs.Prelude.{ℕ, List, [], ◌∷◌, ◌++◌, Option, Some, None}
 use Rattle.std.specs.Global.{Vec}
-use Rattle.m3_table_writer.specs.Writing.{word_bytes}
+use Rattle.m3_tables_writer.specs.Writing.{word_bytes}
 use Rattle.m3_image_writer.specs.declared.parts.VarPart.{VarPart}
 use Rattle.m3_image_writer.specs.declared.parts.ImageParts.{ImageParts}
 use Rattle.m3_image_writer.specs.Fields.{text_bytes}

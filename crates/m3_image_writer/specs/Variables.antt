@@ -2,8 +2,8 @@
 use Rattle.std.specs.Prelude.{ℕ, List, ◌∷◌, ◌++◌, length}
 use Rattle.std.specs.List.{flat_map}
 use Rattle.m3_tables.specs.declared.place.Location.{Location}
-use Rattle.m3_table_writer.specs.Plain.{place_number}
-use Rattle.m3_table_writer.specs.Writing.{word_bytes}
+use Rattle.m3_tables_writer.specs.Plain.{place_number}
+use Rattle.m3_tables_writer.specs.Writing.{word_bytes}
 use Rattle.m3_image_writer.specs.declared.parts.VarPart.{VarPart}
 use Rattle.m3_image_writer.specs.Fields.{text_bytes}
 

@@ -2,8 +2,8 @@
 use Rattle.std.specs.Prelude.{ℕ, List, [], map, Option, Some, None}
 use Rattle.std.specs.Global.{Vec}
 use Rattle.m3_tables.specs.declared.place.Location.{Location}
-use Rattle.m3_table_writer.specs.Plain.{place_number}
-use Rattle.m3_sections.specs.Parts.{CellType, Globals, Places, Variable, Program, Image}
+use Rattle.m3_tables_writer.specs.Plain.{place_number}
+use Rattle.m3_image_sections.specs.Parts.{CellType, Globals, Places, Variable, Program, Image}
 use Rattle.m3_image_writer.specs.declared.parts.TypePart.{TypePart}
 use Rattle.m3_image_writer.specs.declared.parts.GlobalPart.{GlobalPart}
 use Rattle.m3_image_writer.specs.declared.parts.PlacePart.{PlacePart}

@@ -2,7 +2,7 @@
 //! counts.
 ghost use Rattle.std.specs.Prelude.{◌≡◌, ◌<◌, ◌^◌, ◌++◌, length, OnOk};
 ghost use Rattle.std.specs.List.{flat_map, AllByRecursion};
-ghost use Rattle.m3_table_writer.specs.Writing.{word_bytes, list_bytes};
+ghost use Rattle.m3_tables_writer.specs.Writing.{word_bytes, list_bytes};
 ghost use Rattle.m3_tables.specs.Fields.{list_at};
 ghost use Rattle.m3_image_writer.specs.Again.{Reads};
 ghost use Rattle.m3_image_writer.specs.Fields.{long_bytes, text_bytes};
@@ -10,7 +10,7 @@ ghost use Rattle.m3_image_writer.specs.Fields.{long_bytes, text_bytes};
 use byteorder::{ByteOrder, LittleEndian};
 use m3_base::{Bytes, NoMemory};
 
-#[tactic(auto, unfolding(m3_table_writer::specs::Writing::word_bytes))]
+#[tactic(auto, unfolding(m3_tables_writer::specs::Writing::word_bytes))]
 pub(crate) fn put_word(out: &mut Vec<u8>, word: u32) -> Result<(), NoMemory>
     ensures { OnOk result (out.new.items ≡ out.old.items ++ word_bytes word) }
 {
@@ -40,7 +40,7 @@ fn put_words(out: &mut Vec<u8>, words: &[u32]) -> Result<(), NoMemory>
 }
 
 /// A list of numbers behind its count.
-#[tactic(auto, unfolding(m3_table_writer::specs::Writing::list_bytes))]
+#[tactic(auto, unfolding(m3_tables_writer::specs::Writing::list_bytes))]
 pub(crate) fn put_list(out: &mut Vec<u8>, words: &[u32]) -> Result<(), NoMemory>
     requires { length (list_bytes words.now) < 2 ^ 32 }
     ensures again { OnOk result (Reads list_at (list_bytes words.now) words.now) }

@@ -3,9 +3,9 @@ ghost use Rattle.std.specs.Prelude.{◌≡◌, ◌<◌, ◌^◌, ◌++◌, lengt
 ghost use Rattle.std.specs.List.{flat_map, AllByRecursion};
 ghost use Rattle.m3_isa.specs.Instructions.{IsInstruction};
 ghost use Rattle.m3_isa.specs.CodeBytes.{bytes_of, instruction_in};
-ghost use Rattle.m3_sections.specs.Parts.{proc_in, procs_at, type_at, types_at, globals_at};
-ghost use Rattle.m3_sections.specs.Parts.{constants_at, pair_in, places_at, names_at};
-ghost use Rattle.m3_sections.specs.Reading.{code_of};
+ghost use Rattle.m3_image_sections.specs.Parts.{proc_in, procs_at, type_at, types_at, globals_at};
+ghost use Rattle.m3_image_sections.specs.Parts.{constants_at, pair_in, places_at, names_at};
+ghost use Rattle.m3_image_sections.specs.Reading.{code_of};
 ghost use Rattle.m3_image_writer.specs.Again.{Reads, ReadsAll, ReadsFixed};
 ghost use Rattle.m3_image_writer.specs.Views.{cell_type, globals_of, places_of};
 ghost use Rattle.m3_image_writer.specs.Fields.{place_bytes, text_bytes};

@@ -1,8 +1,8 @@
 //! The section of the variables.
 ghost use Rattle.std.specs.Prelude.{◌≡◌, ◌<◌, ◌^◌, ◌++◌, length, map, OnOk};
 ghost use Rattle.std.specs.List.{flat_map, AllByRecursion};
-ghost use Rattle.m3_table_writer.specs.Plain.{place_number};
-ghost use Rattle.m3_sections.specs.Parts.{pair_in, variable_at, variables_at};
+ghost use Rattle.m3_tables_writer.specs.Plain.{place_number};
+ghost use Rattle.m3_image_sections.specs.Parts.{pair_in, variable_at, variables_at};
 ghost use Rattle.m3_image_writer.specs.Again.{Reads, ReadsAll, ReadsFixed};
 ghost use Rattle.m3_image_writer.specs.Views.{span_of, variable_of};
 ghost use Rattle.m3_image_writer.specs.Fields.{text_bytes};

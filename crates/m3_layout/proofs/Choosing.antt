@@ -6,7 +6,7 @@ use Rattle.m3_types.specs.declared.nodes.TypeNode.{TypeNode}
 use Rattle.m3_types.specs.declared.nodes.TypeNode.TheVariants.{OpenArray, RefTo}
 use Rattle.m3_types.specs.declared.nodes.Reveal.{Reveal}
 use Rattle.m3_types.specs.Definitions.{node_at}
-use Rattle.m3_sizes.specs.Sizes.{HasSize, IsShallow}
+use Rattle.m3_types_sizes.specs.Sizes.{HasSize, IsShallow}
 use Rattle.m3_layout.specs.Cells.{Layout, array_element, IsTarget, ref_target, unveiled, IsCellIn, IsCell, HasCell}
 use Rattle.m3_layout.specs.Depths.{open_element, line_of, line_words, object_cell, target_cell, EndsWithin}
 use Rattle.m3_layout.proofs.Chains.{some_is}

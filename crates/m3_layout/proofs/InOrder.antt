@@ -9,7 +9,7 @@ use Rattle.m3_types.specs.declared.nodes.TypeNode.TheVariants.{Object, Opaque, M
 use Rattle.m3_types.specs.declared.nodes.Reveal.{Reveal}
 use Rattle.m3_types.specs.declared.nodes.Secret.TheVariants.{Revealed, Thread, Condition}
 use Rattle.m3_types.specs.Definitions.{node_at}
-use Rattle.m3_sizes.specs.Sizes.{most_words, words_to_depth, IsSized, HasSize, IsShallow}
+use Rattle.m3_types_sizes.specs.Sizes.{most_words, words_to_depth, IsSized, HasSize, IsShallow}
 use Rattle.m3_layout.specs.Pointers.{RisesWithin}
 use Rattle.m3_layout.specs.Depths.{value_words, value_pointers, CanStand, own_words, own_pointers, line_words, line_pointers}
 use Rattle.m3_layout.proofs.Depths.{each_field}

@@ -11,7 +11,7 @@ use Rattle.m3_types.specs.declared.nodes.TypeNode.TheVariants.{Object, Opaque, M
 use Rattle.m3_types.specs.declared.nodes.Secret.TheVariants.{Revealed, Thread, Condition}
 use Rattle.m3_types.specs.declared.nodes.Reveal.{Reveal}
 use Rattle.m3_types.specs.Definitions.{node_at}
-use Rattle.m3_sizes.specs.Sizes.{field_words, EachField, HasSize}
+use Rattle.m3_types_sizes.specs.Sizes.{field_words, EachField, HasSize}
 use Rattle.m3_layout.specs.Pointers.{field_pointers}
 use Rattle.m3_layout.specs.Cells.{parent_at}
 use Rattle.m3_layout.specs.Depths.{value_words, value_pointers, object_fields, is_thread, mutex_words, CanStand, OfParent, EndsWithin, line_to, line_of, line_words, line_pointers, own_words, own_pointers}

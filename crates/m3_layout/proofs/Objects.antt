@@ -12,7 +12,7 @@ use Rattle.m3_types.specs.declared.nodes.Secret.TheVariants.{Revealed, Thread, C
 use Rattle.m3_types.specs.declared.nodes.TypeNode.{TypeNode}
 use Rattle.m3_types.specs.declared.nodes.TypeNode.TheVariants.{Object, Opaque, Mutex, Root}
 use Rattle.m3_types.specs.Definitions.{node_at}
-use Rattle.m3_sizes.specs.Sizes.{field_words, EachField, HasSize, IsShallow}
+use Rattle.m3_types_sizes.specs.Sizes.{field_words, EachField, HasSize, IsShallow}
 use Rattle.m3_layout.specs.Pointers.{field_pointers}
 use Rattle.m3_layout.specs.Cells.{IsValue, AreInTurn, parent_at, LeadsTo, IsLine, AddsIn, Adds, IsObject}
 use Rattle.m3_layout.specs.Depths.{value_words, value_pointers, own_words, own_pointers, line_to, line_of, line_words, line_pointers, object_cell, CanStand, OfParent, EndsWithin}

@@ -8,7 +8,7 @@ use Rattle.m3_types.specs.declared.nodes.TypeNode.{TypeNode}
 use Rattle.m3_types.specs.declared.nodes.TypeNode.TheVariants.{Reserved, Integer, Boolean, Character, Enumeration, Subrange, FixedArray, OpenArray, Fields, SetOf, RefTo, Object, Procedure, Opaque, Null, RefAny, Text, Mutex, Root, Constant}
 use Rattle.m3_types.specs.Definitions.{node_at, head_at}
 use Rattle.m3_types.specs.Kinds.{size_of}
-use Rattle.m3_sizes.specs.Sizes.{field_words, set_words, words_of_node, words_to_depth, EachField, EachPart, HasParts, IsSized}
+use Rattle.m3_types_sizes.specs.Sizes.{field_words, set_words, words_of_node, words_to_depth, EachField, EachPart, HasParts, IsSized}
 use Rattle.m3_layout.specs.Pointers.{field_pointers, element_pointers, pointers_of_node, pointers_to_depth, RisesWithin}
 use Rattle.m3_layout.specs.Depths.{value_words, value_pointers}
 use Rattle.m3_layout.proofs.Depths.{has_parts}

@@ -7,7 +7,7 @@ use Rattle.m3_types.specs.declared.nodes.TypeNode.{TypeNode}
 use Rattle.m3_types.specs.declared.nodes.TypeNode.TheVariants.{FixedArray, Fields, RefTo, Object, Opaque, Null, RefAny, Text, Mutex, Root}
 use Rattle.m3_types.specs.Definitions.{node_at, head_at}
 use Rattle.m3_types.specs.Kinds.{size_of}
-use Rattle.m3_sizes.specs.Sizes.{words_to_depth}
+use Rattle.m3_types_sizes.specs.Sizes.{words_to_depth}
 use Rattle.m3_layout.specs.Pointers.{field_pointers, element_pointers, pointers_of_node, pointers_to_depth}
 use Rattle.m3_layout.specs.Depths.{value_pointers}
 

@@ -9,7 +9,7 @@ use Rattle.std.proofs.lemmas.Option.{slice_get_within}
 use Rattle.m3_types.specs.declared.nodes.TypeNode.{TypeNode}
 use Rattle.m3_types.specs.declared.nodes.TypeNode.TheVariants.{OpenArray}
 use Rattle.m3_types.specs.Definitions.{node_at}
-use Rattle.m3_sizes.specs.Sizes.{most_words, HasParts, IsSized, HasSize, IsShallow, AreWords}
+use Rattle.m3_types_sizes.specs.Sizes.{most_words, HasParts, IsSized, HasSize, IsShallow, AreWords}
 use Rattle.m3_layout.specs.Cells.{Layout, first_word, IsValue, array_element, IsBelow, IsTarget}
 use Rattle.m3_layout.specs.Depths.{value_words, value_pointers, most_dims, element_below, dims_below, open_element, open_dims, value_cell, target_cell}
 use Rattle.m3_layout.proofs.Depths.{words_told}

@@ -11,7 +11,7 @@ use Rattle.m3_types.specs.declared.nodes.TypeNode.{TypeNode}
 use Rattle.m3_types.specs.declared.nodes.TypeNode.TheVariants.{FixedArray, Fields, RefTo, Object, Opaque, Null, RefAny, Text, Mutex, Root}
 use Rattle.m3_types.specs.Definitions.{node_at, head_at, head_of, Missing}
 use Rattle.m3_types.specs.Kinds.{size_of, is_reference}
-use Rattle.m3_sizes.specs.Sizes.{field_words, words_to_depth, EachField, HasSize, IsSized}
+use Rattle.m3_types_sizes.specs.Sizes.{field_words, words_to_depth, EachField, HasSize, IsSized}
 use Rattle.m3_layout.specs.declared.walk.Run.{Run}
 use Rattle.m3_layout.specs.declared.walk.Whole.{Whole}
 use Rattle.m3_layout.specs.declared.walk.Task.{Task}

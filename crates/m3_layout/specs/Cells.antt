@@ -7,7 +7,7 @@ use Rattle.m3_types.specs.declared.nodes.TypeNode.{TypeNode}
 use Rattle.m3_types.specs.declared.nodes.TypeNode.TheVariants.{OpenArray, RefTo, Object, Opaque, Mutex, Root}
 use Rattle.m3_types.specs.Definitions.{node_at}
 use Rattle.m3_types.specs.Reveals.{full_reveal}
-use Rattle.m3_sizes.specs.Sizes.{AreWords}
+use Rattle.m3_types_sizes.specs.Sizes.{AreWords}
 use Rattle.m3_layout.specs.Pointers.{ArePointers}
 
 -- The words of a cell that isn't open, its header counted, or of an element of an open one; the number

@@ -9,7 +9,7 @@ use Rattle.m3_types.specs.declared.nodes.TypeNode.{TypeNode}
 use Rattle.m3_types.specs.declared.nodes.TypeNode.TheVariants.{OpenArray, Object, Opaque, Mutex, Root}
 use Rattle.m3_types.specs.Definitions.{node_at}
 use Rattle.m3_types.specs.Reveals.{full_reveal}
-use Rattle.m3_sizes.specs.Sizes.{words_to_depth, field_words, EachField, HasSize}
+use Rattle.m3_types_sizes.specs.Sizes.{words_to_depth, field_words, EachField, HasSize}
 use Rattle.m3_layout.specs.Pointers.{field_pointers, pointers_to_depth}
 use Rattle.m3_layout.specs.Cells.{Layout, array_element, parent_at}
 

@@ -6,7 +6,7 @@ use Rattle.m3_types.specs.declared.nodes.TypeNode.{TypeNode}
 use Rattle.m3_types.specs.declared.nodes.TypeNode.TheVariants.{FixedArray, Fields, RefTo, Object, Opaque, Null, RefAny, Text, Mutex, Root}
 use Rattle.m3_types.specs.Definitions.{node_at, head_at}
 use Rattle.m3_types.specs.Kinds.{size_of}
-use Rattle.m3_sizes.specs.Sizes.{words_to_depth, IsSized}
+use Rattle.m3_types_sizes.specs.Sizes.{words_to_depth, IsSized}
 
 -- The pointers of fields that follow one another from a word on, where w has the words of their types
 -- and p the pointers of a value that begins at a word.

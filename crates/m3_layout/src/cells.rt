@@ -5,14 +5,14 @@ ghost use Rattle.m3_layout.specs.Shapes.{layout_of, AreInOrder};
 ghost use Rattle.m3_layout.specs.Depths.{value_cell, EndsWithin, open_element, target_cell, object_cell, line_of, line_words};
 ghost use Rattle.std.specs.Option.{option_map};
 ghost use Rattle.m3_types.specs.Definitions.{node_at};
-ghost use Rattle.m3_sizes.specs.Sizes.{HasSize};
+ghost use Rattle.m3_types_sizes.specs.Sizes.{HasSize};
 
 use crate::lines::{line_of, object_words};
 use crate::open::{array_element, open_element};
 use crate::walk::Walk;
 use m3_base::NoMemory;
-use m3_sizes::SizedTypes;
 use m3_types::{Secret, TypeId, TypeNode};
+use m3_types_sizes::SizedTypes;
 use std::alloc::Global;
 
 /// The layout of the cells of a type. A cell that isn't open has `dims` 0, its `words` count its

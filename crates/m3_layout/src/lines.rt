@@ -1,15 +1,15 @@
 ghost use Rattle.std.specs.Prelude.{◌≡◌, ◌+◌, ◌<◌, ◌^◌, ◌++◌, [], ℕ, length, OnOk, IfOk, IfSome, IfNone, All, map};
 ghost use Rattle.std.specs.Option.{option_map, option_copied};
 ghost use Rattle.m3_types.specs.Definitions.{node_at};
-ghost use Rattle.m3_sizes.specs.Sizes.{HasSize, EachField, field_words};
+ghost use Rattle.m3_types_sizes.specs.Sizes.{HasSize, EachField, field_words};
 ghost use Rattle.m3_layout.specs.Cells.{parent_at};
 ghost use Rattle.m3_layout.specs.Depths.{value_words, CanStand, object_fields, is_thread, mutex_words, EndsWithin, line_of, line_words, line_pointers, own_words, own_pointers};
 ghost use Rattle.m3_layout.specs.Walking.{AreRuns};
 
 use crate::walk::Walk;
 use m3_base::NoMemory;
-use m3_sizes::SizedTypes;
 use m3_types::{Field, Secret, TypeId, TypeNode, node_at};
+use m3_types_sizes::SizedTypes;
 use std::alloc::Global;
 
 /// What an object type adds its fields to: its parent, or the type that fully reveals an opaque

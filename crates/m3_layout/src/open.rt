@@ -4,8 +4,8 @@ ghost use Rattle.m3_types.specs.Definitions.{node_at};
 ghost use Rattle.m3_layout.specs.Cells.{array_element};
 ghost use Rattle.m3_layout.specs.Depths.{open_element, open_dims};
 
-use m3_sizes::SizedTypes;
 use m3_types::{TypeId, TypeNode};
+use m3_types_sizes::SizedTypes;
 
 /// No array that doesn't contain itself has more open dimensions, since places have 32 bits.
 const MOST_DIMS: usize = 4_294_967_295;

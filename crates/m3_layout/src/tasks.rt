@@ -6,8 +6,8 @@ use crate::copies::copy_run;
 use crate::values::{array_parts, field_at, is_record, is_reference};
 use crate::walk::{Task, Walk, Whole};
 use m3_base::NoMemory;
-use m3_sizes::SizedTypes;
 use m3_types::TypeId;
+use m3_types_sizes::SizedTypes;
 
 impl Walk {
     /// Tells the pointers of a value, or begins with its parts.

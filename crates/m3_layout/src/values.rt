@@ -1,7 +1,7 @@
 ghost use Rattle.std.specs.Prelude.{◌≡◌, ◌+◌, ◌<◌, ◌≤◌, ◌^◌, ◌++◌, ◌∷◌, [], ℕ, OnOk, IfOk, MatchOption, List, Some, drop, length};
 ghost use Rattle.m3_types.specs.declared.nodes.Field.{Field as AField};
 ghost use Rattle.m3_types.specs.declared.nodes.TypeNode.{TypeNode as ANode};
-ghost use Rattle.m3_sizes.specs.Sizes.{HasSize, EachField, field_words};
+ghost use Rattle.m3_types_sizes.specs.Sizes.{HasSize, EachField, field_words};
 ghost use Rattle.m3_layout.specs.Pointers.{field_pointers};
 ghost use Rattle.m3_layout.specs.Depths.{value_words, value_pointers};
 ghost use Rattle.m3_layout.specs.Walking.{fields_in, fields_at, is_record, array_parts, IsOpen, AreRuns};
@@ -11,8 +11,8 @@ ghost use Rattle.m3_types.specs.Kinds.{is_reference};
 
 use crate::walk::{Run, Task, Walk, Whole};
 use m3_base::NoMemory;
-use m3_sizes::SizedTypes;
 use m3_types::{Field, TypeId, TypeNode, is_reference_at, node_at};
+use m3_types_sizes::SizedTypes;
 use std::alloc::Global;
 use std::collections::BTreeMap;
 

@@ -5,7 +5,7 @@ ghost use Rattle.m3_lexer.specs.Reading.{escape_at, character_at, body_len, is_w
 use crate::fronts::Front;
 use crate::marks::begins;
 use crate::numbers::digit_value;
-use crate::rules::{BAD_CHARACTER, BAD_ESCAPE, OPEN_TEXT};
+use m3_base::rules::{BAD_CHARACTER_LITERAL, BAD_ESCAPE, OPEN_TEXT};
 use m3_syntax::TokenKind;
 
 /// Whether a byte stands for itself between two marks.
@@ -71,18 +71,18 @@ pub fn character(rest: &[u8]) -> Result<Front, u16>
     ensures { result ≡ character_at rest.now }
 {
     match rest {
-        [] => Err(BAD_CHARACTER),
+        [] => Err(BAD_CHARACTER_LITERAL),
         [b'\\', after @ ..] => match escape(after) {
             None => Err(BAD_ESCAPE),
             Some((byte, len)) if begins(b'\'', &after[len..]) => {
                 Ok(Front::Spelled(TokenKind::CharLit(byte), len + 3))
             }
-            Some(_) => Err(BAD_CHARACTER),
+            Some(_) => Err(BAD_CHARACTER_LITERAL),
         },
         [byte, after @ ..] if is_plain(b'\'', *byte) && begins(b'\'', after) => {
             Ok(Front::Spelled(TokenKind::CharLit(*byte), 3))
         }
-        _ => Err(BAD_CHARACTER),
+        _ => Err(BAD_CHARACTER_LITERAL),
     }
 }
 

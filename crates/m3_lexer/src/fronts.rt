@@ -7,12 +7,12 @@ use crate::characters::{character, text};
 use crate::marks::{begins, closed_len};
 use crate::names::{kind_of_name, name_len};
 use crate::numbers::number;
-use crate::rules::{BAD_BYTE, OPEN_COMMENT, OPEN_PRAGMA};
 use crate::signs::sign;
+use m3_base::rules::{BAD_BYTE, OPEN_COMMENT, OPEN_PRAGMA};
 use m3_syntax::TokenKind;
 
 /// What a text begins with, and its number of bytes: something to skip, or a token of a kind.
-#[derive(Clone, Copy, Debug)]
+#[derive(Clone, Copy)]
 pub enum Front {
     Skipped(usize),
     Spelled(TokenKind, usize),

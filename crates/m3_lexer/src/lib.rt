@@ -8,7 +8,6 @@ mod marks;
 mod names;
 mod numbers;
 mod places;
-mod rules;
 mod signs;
 mod tokens;
 

@@ -5,7 +5,7 @@ ghost use Rattle.m3_syntax.specs.Lexis.{value, is_well_based};
 ghost use Rattle.m3_lexer.specs.Reading.{decimal_of, based_of, number_at};
 
 use crate::fronts::Front;
-use crate::rules::{BAD_BASE, LARGE_NUMBER, REAL_LITERAL};
+use m3_base::rules::{BAD_BASE, NUMBER_TOO_LARGE, REAL_LITERAL};
 use m3_syntax::TokenKind;
 
 /// The value of a digit in a base up to 36, of either case; 36 for what is no digit.
@@ -75,7 +75,7 @@ fn decimal(digits: &[u8]) -> Result<i64, u16>
 {
     match value(10, digits) {
         Some(number) if number <= i64::MAX as u64 => Ok(number as i64),
-        _ => Err(LARGE_NUMBER),
+        _ => Err(NUMBER_TOO_LARGE),
     }
 }
 
@@ -91,7 +91,7 @@ fn based(base_digits: &[u8], text: &[u8]) -> Result<(i64, usize), u16>
     match value(10, base_digits) {
         Some(base) if is_well_based(base, digits) => match value(base, digits) {
             Some(number) => Ok((number.cast_signed(), len)),
-            None => Err(LARGE_NUMBER),
+            None => Err(NUMBER_TOO_LARGE),
         },
         _ => Err(BAD_BASE),
     }

@@ -1,6 +1,7 @@
-use m3_base::{NoMemory, Pos};
-use m3_phrase_names::{walk_expression, walk_init, walk_type};
-use m3_scopes::{Declaration, Entity, EntityId, EntityKind, Linker, Revealed};
+use crate::expressions::walk_expression;
+use crate::types::{walk_init, walk_type};
+use m3_base::{NoMemory, Pos, rules};
+use m3_link_scopes::{Declaration, Entity, EntityId, EntityKind, Linker, Revealed};
 use m3_syntax::{ConstDecl, Decl, ExceptionDecl, Name, Revelation, Signature, TypeDecl, VarDecl};
 
 /// Declares the names of declarations in the innermost scope, which is that of a unit itself where
@@ -241,7 +242,7 @@ pub fn walk_reveals<'a>(
                 pos,
             })?;
         } else {
-            linker.note(pos, 34);
+            linker.note(pos, rules::BODY_IN_INTERFACE);
         }
     }
     Ok(())

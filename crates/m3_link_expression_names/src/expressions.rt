@@ -1,6 +1,6 @@
 use crate::types::walk_type;
 use m3_base::NoMemory;
-use m3_scopes::Linker;
+use m3_link_scopes::Linker;
 use m3_syntax::{Actual, Element, Expr, Name, Selector};
 
 /// The names in an expression.

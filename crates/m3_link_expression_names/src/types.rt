@@ -1,6 +1,6 @@
 use crate::expressions::walk_expression;
-use m3_base::NoMemory;
-use m3_scopes::{EntityId, Linker};
+use m3_base::{NoMemory, rules};
+use m3_link_scopes::{EntityId, Linker};
 use m3_syntax::{
     Brand, Field, Formal, Init, Name, ObjectPart, Raises, Signature, TypeExp, TypeName,
 };
@@ -8,7 +8,7 @@ use m3_syntax::{
 /// Refuses the later of two equal names of one row (rule 24). The names are declared in no scope.
 fn judge_distinct<'a>(linker: &mut Linker<'a>, name: Name<'a>) -> Result<(), NoMemory> {
     if linker.scopes.look_up_here(name.text).is_some() {
-        linker.note(name.pos, 24);
+        linker.note(name.pos, rules::DUPLICATE_NAME);
         return Ok(());
     }
     linker
@@ -145,7 +145,7 @@ fn walk_type_name<'a>(linker: &mut Linker<'a>, name: &TypeName<'a>) -> Result<()
         TypeName::Named(qualid) => linker.qualid(qualid),
         TypeName::Root(_) => Ok(()),
         TypeName::UntracedRoot(pos) => {
-            linker.note(*pos, 29);
+            linker.note(*pos, rules::UNSAFE_OR_LEFT_OUT);
             Ok(())
         }
     }
@@ -169,7 +169,7 @@ pub fn walk_type<'a>(linker: &mut Linker<'a>, kind: &TypeExp<'a>) -> Result<(), 
             walk_type(linker, element)
         }
         TypeExp::Bits { pos, width, target } => {
-            linker.note(*pos, 29);
+            linker.note(*pos, rules::UNSAFE_OR_LEFT_OUT);
             walk_expression(linker, width)?;
             walk_type(linker, target)
         }
@@ -195,7 +195,7 @@ pub fn walk_type<'a>(linker: &mut Linker<'a>, kind: &TypeExp<'a>) -> Result<(), 
             target,
         } => {
             if *is_untraced {
-                linker.note(*pos, 29);
+                linker.note(*pos, rules::UNSAFE_OR_LEFT_OUT);
             }
             if let Some(brand) = brand {
                 walk_brand(linker, brand)?;

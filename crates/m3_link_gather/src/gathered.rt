@@ -1,5 +1,5 @@
 use m3_base::Pos;
-use m3_scopes::{EntityId, Program};
+use m3_link_scopes::{EntityId, Program};
 use m3_syntax::{Expr, Name, Qualid, TypeExp};
 use std::alloc::Global;
 use std::collections::HashMap;

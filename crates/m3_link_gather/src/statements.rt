@@ -1,10 +1,11 @@
-use m3_base::{NoMemory, place_number};
-use m3_gathered::{
-    Bound, Gathered, Gatherer, gather_actuals, gather_constants, gather_exceptions,
-    gather_expression, gather_reveals, gather_signature, gather_type, gather_types,
-    gather_variables,
+use crate::declarations::{
+    gather_constants, gather_exceptions, gather_reveals, gather_types, gather_variables,
 };
-use m3_scopes::Linked;
+use crate::expressions::{gather_actuals, gather_expression};
+use crate::gathered::{Bound, Gathered, Gatherer};
+use crate::types::{gather_signature, gather_type};
+use m3_base::{NoMemory, place_number};
+use m3_link_scopes::Linked;
 use m3_syntax::{Binding, Block, Decl, Handler, Label, Stmt, TypeBranch};
 use std::alloc::Global;
 

@@ -5,9 +5,9 @@ use bumpalo::Bump;
 use m3_base::{Least, NoMemory, Refused, Source, place_number};
 use m3_generics::expand;
 use m3_lexer::lex;
+use m3_link_scopes::Linked;
 use m3_modules::link;
 use m3_parser::parse;
-use m3_scopes::Linked;
 use m3_syntax::{Lexed, Unit};
 use std::alloc::Global;
 

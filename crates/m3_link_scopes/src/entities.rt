@@ -2,7 +2,7 @@ use crate::predeclared::Predeclared;
 use m3_base::Pos;
 
 /// What a name stands for, by its place in the program's list.
-#[derive(Clone, Copy, Debug, PartialEq, Eq, PartialOrd, Ord, Hash)]
+#[derive(Clone, Copy, PartialEq, Eq, PartialOrd, Ord, Hash)]
 pub struct EntityId(pub u32);
 
 /// What a name stands for.
@@ -29,7 +29,7 @@ pub struct Entity<'a> {
     pub revealed: Option<u32>,
 }
 
-#[derive(Clone, Copy, Debug, PartialEq, Eq)]
+#[derive(Clone, Copy, PartialEq, Eq)]
 pub enum EntityKind {
     Constant,
     Type,

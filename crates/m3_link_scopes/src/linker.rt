@@ -3,7 +3,7 @@ use crate::entities::{Entity, EntityId, EntityKind};
 use crate::predeclared::{Predeclared, predeclared_names};
 use crate::program::{Binds, Revealed, UnitInfo};
 use crate::scopes::{Scopes, Visible};
-use m3_base::{Least, NoMemory, Pos, Refusal, place_number};
+use m3_base::{Least, NoMemory, Pos, Refusal, place_number, rules};
 use m3_syntax::{Name, Qualid};
 use std::alloc::Global;
 use std::collections::{HashMap, HashSet};
@@ -117,10 +117,10 @@ impl<'a> Linker<'a> {
     /// Makes an entity visible under a name in the innermost scope, by rules 24 and 25 as `declare`.
     pub fn make_visible(&mut self, name: Name<'a>, id: EntityId) -> Result<(), NoMemory> {
         if self.is_predeclared(name.text) {
-            self.note(name.pos, 25);
+            self.note(name.pos, rules::PREDECLARED_NAME);
         }
         if self.scopes.look_up_here(name.text).is_some() {
-            self.note(name.pos, 24);
+            self.note(name.pos, rules::DUPLICATE_NAME);
             return Ok(());
         }
         self.scopes.declare(name.text, id, Some(name.pos))
@@ -146,15 +146,21 @@ impl<'a> Linker<'a> {
     /// ones (rule 23).
     pub fn name(&mut self, name: Name<'a>) -> Result<Option<Entity<'a>>, NoMemory> {
         let Some(Visible { entity, .. }) = self.scopes.look_up(name.text) else {
-            self.note(name.pos, 23);
+            self.note(name.pos, rules::UNKNOWN_NAME);
             return Ok(None);
         };
         let Some(found) = self.entity_of(entity) else {
             return Ok(None);
         };
         match found.kind {
-            EntityKind::Predeclared(Predeclared::Floating) => self.note(name.pos, 28),
-            EntityKind::Predeclared(Predeclared::LeftOut) => self.note(name.pos, 29),
+            EntityKind::Predeclared(Predeclared::Floating) => self.note(
+                name.pos,
+                rules::FLOATING_NAME,
+            ),
+            EntityKind::Predeclared(Predeclared::LeftOut) => self.note(
+                name.pos,
+                rules::UNSAFE_OR_LEFT_OUT,
+            ),
             _ => self.binds.bind(self.unit, name.pos, entity)?,
         }
         Ok(Some(found))
@@ -177,7 +183,7 @@ impl<'a> Linker<'a> {
         };
         match self.own.get(&(unit, name.text)).copied() {
             Some(id) => self.binds.bind(self.unit, name.pos, id)?,
-            None => self.note(name.pos, 23),
+            None => self.note(name.pos, rules::UNKNOWN_NAME),
         }
         Ok(())
     }

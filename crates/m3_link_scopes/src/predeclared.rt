@@ -1,6 +1,6 @@
 /// The names that every program has and none can declare, with those of the language that this
 /// profile leaves out.
-#[derive(Clone, Copy, Debug, PartialEq, Eq)]
+#[derive(Clone, Copy, PartialEq, Eq)]
 pub enum Predeclared {
     Abs,
     Boolean,

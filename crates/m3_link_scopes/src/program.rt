@@ -42,7 +42,7 @@ pub struct UnitInfo<'a> {
 
 /// A revelation of an opaque type: the unit that contains it, its place in the program's list of
 /// declarations, and the opaque type.
-#[derive(Clone, Copy, Debug)]
+#[derive(Clone, Copy)]
 pub struct Revealed {
     pub unit: u32,
     pub declaration: u32,

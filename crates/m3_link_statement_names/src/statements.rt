@@ -1,10 +1,9 @@
-use m3_base::NoMemory;
-use m3_declaration_names::{
-    declare_all, declare_formals, walk_constants, walk_exceptions, walk_reveals, walk_types,
-    walk_variables,
+use m3_base::{NoMemory, rules};
+use m3_link_expression_names::{
+    declare_all, declare_formals, walk_actuals, walk_constants, walk_exceptions, walk_expression,
+    walk_reveals, walk_signature, walk_type, walk_types, walk_variables,
 };
-use m3_phrase_names::{walk_actuals, walk_expression, walk_signature, walk_type};
-use m3_scopes::{EntityKind, Linker};
+use m3_link_scopes::{EntityKind, Linker};
 use m3_syntax::{
     Binding, Block, Decl, Handler, Label, Name, ProcedureBody, Signature, Stmt, TypeBranch,
 };
@@ -49,10 +48,10 @@ fn judge_place_of_body<'a>(
 ) {
     let is_head = is_outermost && linker.is_in_interface();
     if is_head && has_body {
-        linker.note(name.pos, 34);
+        linker.note(name.pos, rules::BODY_IN_INTERFACE);
     }
     if !is_head && !has_body {
-        linker.note(name.pos, 32);
+        linker.note(name.pos, rules::PROCEDURE_WITHOUT_BODY);
     }
 }
 

@@ -1,8 +1,8 @@
 use crate::bodies::join_body;
-use m3_base::{NoMemory, Refusal, place_number};
-use m3_declaration_names::declare_all;
-use m3_names::{walk_declarations, walk_statements};
-use m3_scopes::{EntityId, EntityKind, Linker, UnitInfo};
+use m3_base::{NoMemory, Refusal, place_number, rules};
+use m3_link_expression_names::declare_all;
+use m3_link_scopes::{EntityId, EntityKind, Linker, UnitInfo};
+use m3_link_statement_names::{walk_declarations, walk_statements};
 use m3_syntax::{Import, ImportItem, Name, Unit, UnitKind};
 use std::alloc::Global;
 use std::collections::HashSet;
@@ -45,7 +45,7 @@ pub fn judge_units<'a>(
                 phase: 4,
                 unit: unit.pos.file,
                 pos: unit.name.pos,
-                rule: 21,
+                rule: rules::DUPLICATE_UNIT,
             });
         }
     }
@@ -128,7 +128,7 @@ fn walk_unit<'a>(linker: &mut Linker<'a>, unit: &Unit<'a>, place: usize) -> Resu
     linker.unit = place_number(place)?;
     linker.procedure = None;
     if unit.is_unsafe {
-        linker.note(unit.pos, 29);
+        linker.note(unit.pos, rules::UNSAFE_OR_LEFT_OUT);
     }
     linker.scopes.enter()?;
     for import in unit.imports {
@@ -155,7 +155,7 @@ fn add_once(list: &mut Vec<u32>, unit: u32) -> Result<(), NoMemory> {
 fn imported<'a>(linker: &mut Linker<'a>, name: Name<'a>) -> Result<Option<u32>, NoMemory> {
     let found = linker.interfaces.get(&name.text).copied();
     match found {
-        None => linker.note(name.pos, 20),
+        None => linker.note(name.pos, rules::UNKNOWN_UNIT),
         Some(target) => {
             if let Some(info) = linker.infos.get_mut(linker.unit as usize) {
                 add_once(&mut info.imports, target)?;
@@ -214,7 +214,7 @@ fn import_name<'a>(
         }
         None => {
             if target.is_some() {
-                linker.note(name.pos, 23);
+                linker.note(name.pos, rules::UNKNOWN_NAME);
             }
             let entity = linker.entity(name, EntityKind::Unknown);
             linker.declare(name, entity)
@@ -267,7 +267,7 @@ fn read_export<'a>(linker: &mut Linker<'a>, name: Name<'a>) -> Result<(), NoMemo
     let target = match linker.interfaces.get(&name.text).copied() {
         Some(target) if is_exportable(linker, target, name.text) => target,
         _ => {
-            linker.note(name.pos, 20);
+            linker.note(name.pos, rules::UNKNOWN_UNIT);
             return Ok(());
         }
     };
@@ -319,11 +319,11 @@ fn show_exported<'a>(
     };
     let is_own = mine.unit == linker.unit && mine.kind == EntityKind::Procedure;
     match here.pos {
-        None => linker.note(exported.pos, 24),
+        None => linker.note(exported.pos, rules::DUPLICATE_NAME),
         Some(_) if is_own && head.kind == EntityKind::Procedure => {
             join_body(linker, id, here.entity, &mine);
         }
-        Some(pos) => linker.note(pos, 24),
+        Some(pos) => linker.note(pos, rules::DUPLICATE_NAME),
     }
     Ok(())
 }

@@ -1,11 +1,11 @@
 use crate::chains::{plan_chain, plan_structure, plan_value};
-use m3_builder::{
+use m3_core::{Actual as CoreActual, CoreExpr};
+use m3_lower_arrays::fitted;
+use m3_lower_state::{
     Builder, Pending, Place, Value, address_kind, cleared_value, kind_of, slots_of, take_address,
 };
-use m3_core::{Actual as CoreActual, CoreExpr};
+use m3_lower_storage::{Form, number_of, word_number};
 use m3_mid::{Actual, Kind, Operand};
-use m3_shapes::fitted;
-use m3_storage::{Form, number_of, word_number};
 use m3_types::{Formal, Mode, TypeId};
 
 /// How an actual is passed, before its code is made.
@@ -19,8 +19,10 @@ pub enum PlannedActual {
         words: u32,
         is_made: bool,
     },
-    /// An open array that is copied into a new cell once all actuals are evaluated.
+    /// An open array that is copied into a new cell once all actuals are evaluated: where it is
+    /// made, and that place with the sizes that the formal gets.
     NewCell {
+        made: Place,
         from: Place,
         cell: u32,
     },
@@ -29,8 +31,10 @@ pub enum PlannedActual {
         place: Place,
         address: u32,
     },
-    /// A place that holds a new variable.
+    /// A place that holds a new variable: where it is made, and that place with the sizes that the
+    /// formal gets.
     NewVariable {
+        made: Place,
         place: Place,
         address: u32,
     },
@@ -64,7 +68,7 @@ impl Passed {
         let mut code = rest;
         for planned in &self.planned {
             if let PlannedActual::Reference { place, address }
-            | PlannedActual::NewVariable { place, address } = planned
+            | PlannedActual::NewVariable { place, address, .. } = planned
             {
                 code = take_address(*address, *place, code);
             }
@@ -152,10 +156,10 @@ fn plan_by_value<'m>(b: &mut Builder<'m, '_>, kind: TypeId, value: &CoreExpr) ->
             }
         }
         Form::Open => {
-            let from = plan_structure(b, value);
-            let from = fitted(b, from, kind_of(value), kind);
+            let made = plan_structure(b, value);
             PlannedActual::NewCell {
-                from,
+                made,
+                from: fitted(b, made, kind_of(value), kind),
                 cell: b.temp(Kind::Tidy),
             }
         }
@@ -168,15 +172,19 @@ fn is_constructor(e: &CoreExpr) -> bool {
 }
 
 fn plan_new_variable<'m>(b: &mut Builder<'m, '_>, kind: TypeId, value: &CoreExpr) -> PlannedActual {
-    let place = match b.storage.form(kind) {
+    let (made, place) = match b.storage.form(kind) {
         Form::Open => {
-            let from = plan_structure(b, value);
-            fitted(b, from, kind_of(value), kind)
+            let made = plan_structure(b, value);
+            (made, fitted(b, made, kind_of(value), kind))
         }
-        _ => b.buffer(kind),
+        _ => {
+            let buffer = b.buffer(kind);
+            (buffer, buffer)
+        }
     };
     let of_address = address_kind(b, place);
     PlannedActual::NewVariable {
+        made,
         place,
         address: b.temp(of_address),
     }
@@ -252,7 +260,7 @@ fn push_words(b: &mut Builder, row: &mut Vec<Actual>, planned: &PlannedActual) {
         }
         PlannedActual::NewCell { cell, .. } => push(b, row, Actual::Word(Operand::Temp(*cell))),
         PlannedActual::Reference { place, address }
-        | PlannedActual::NewVariable { place, address } => {
+        | PlannedActual::NewVariable { place, address, .. } => {
             push_reference(b, row, *place, *address);
         }
     }

@@ -1,13 +1,13 @@
 use crate::chains::plan_value;
-use m3_builder::{
+use m3_core::Binding;
+use m3_lower_places::move_words;
+use m3_lower_state::{
     Builder, Location, Pending, Place, Value, cleared_value, copy_words, form_of, kind_of,
     store_word, store_words,
 };
-use m3_core::Binding;
+use m3_lower_storage::Form;
 use m3_mid::{Kind, Operand};
-use m3_storage::Form;
 use m3_types::{TypeId, TypeNode};
-use m3_variables::move_words;
 
 /// The values of the bindings; a record or array goes into slots of its own, since it is read now.
 pub fn plan_bindings<'m>(b: &mut Builder<'m, '_>, bindings: &[Binding]) -> Vec<Value> {

@@ -1,6 +1,8 @@
 use crate::actuals::Passed;
 use m3_base::Pos;
-use m3_builder::{Around, Builder, Location, Pending, Place, Value, choice, load_words, not_nil};
+use m3_lower_state::{
+    Around, Builder, Location, Pending, Place, Value, choice, load_words, not_nil,
+};
 use m3_mid::{Actual, Callee, Kind, MemoryWord, MidOp, Operand, Raised, Relation};
 use m3_types::{Formal, Raises, TypeId, TypeNode};
 

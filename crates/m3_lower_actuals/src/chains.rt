@@ -1,10 +1,10 @@
-use m3_builder::{Builder, Location, Place, Value, address_kind, form_of, kind_of};
 use m3_core::{Base, Chain, CoreExpr};
+use m3_lower_arrays::{dims_of, plan_constant, plan_open, shape_of};
+use m3_lower_places::{kind_of_base, kind_of_step, plan_alias, plan_local, plan_step, source};
+use m3_lower_state::{Builder, Location, Place, Value, address_kind, form_of, kind_of};
+use m3_lower_storage::Form;
 use m3_mid::{Kind, Operand};
-use m3_shapes::{dims_of, plan_constant, plan_open, shape_of};
-use m3_storage::Form;
 use m3_types::{TypeId, TypeNode};
-use m3_variables::{kind_of_base, kind_of_step, plan_alias, plan_local, plan_step, source};
 
 /// Where what a chain gives will be. What each stage gives is kept until `emit_chain` takes it.
 #[cycle(plans)]
@@ -132,7 +132,7 @@ pub fn plan_structure<'m>(b: &mut Builder<'m, '_>, e: &CoreExpr) -> Place {
         CoreExpr::Constant { kind, value, .. } => plan_constant(b, *kind, *value),
         CoreExpr::Convert { operand, .. } => plan_structure(b, operand),
         CoreExpr::ArrayOf { kind, elements, .. } => match b.storage.node(*kind) {
-            TypeNode::OpenArray(element) => plan_open(b, element, elements),
+            TypeNode::OpenArray(_) => plan_open(b, *kind, elements),
             _ => b.buffer(*kind),
         },
         _ => match kind_of(e) {

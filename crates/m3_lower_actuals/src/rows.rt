@@ -1,9 +1,9 @@
 use crate::chains::plan_value;
-use m3_builder::{Builder, Value};
 use m3_core::{CoreExpr, Operation, SetElement};
+use m3_lower_operators::{PlannedElement, result_of, value_at};
+use m3_lower_places::source;
+use m3_lower_state::{Builder, Value};
 use m3_mid::Operand;
-use m3_operators::{PlannedElement, result_of, value_at};
-use m3_variables::source;
 
 /// What the operands of a row and its results will be: first the leftmost operand, and then for
 /// each operation its right operand and its result.

@@ -1,10 +1,10 @@
 use crate::defaults::{store_default, store_object_defaults};
 use crate::shapes::{element_words, inner_element, shape_of, total_words};
-use m3_builder::{
+use m3_lower_state::{
     Around, Builder, Location, Pending, Place, arith, choice, copy_row, take_address,
 };
+use m3_lower_storage::number_of;
 use m3_mid::{Kind, MemoryWord, MidOp, Operand, Relation};
-use m3_storage::number_of;
 use m3_types::{TypeId, TypeNode};
 
 /// The point at which a cell is made, with the sizes of its open dimensions in slots in a row.

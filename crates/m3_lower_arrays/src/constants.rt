@@ -1,7 +1,7 @@
-use m3_builder::{Builder, Pending};
 use m3_core::{Value as Constant, ValueId};
+use m3_lower_state::{Builder, Pending};
+use m3_lower_storage::Form;
 use m3_mid::MidOp;
-use m3_storage::Form;
 use m3_types::{TypeId, TypeNode};
 
 /// A word of a constant set: the bits of its members from 64 times the word on.

@@ -1,7 +1,8 @@
 use crate::shapes::{dims_of, element_words, inner_element};
-use m3_builder::{Builder, Location, Pending, Place, address_kind, kind_of, take_address};
-use m3_core::{CoreExpr, Value as Constant, ValueId};
+use m3_core::{CoreExpr, ValueId};
+use m3_lower_state::{Builder, Location, Pending, Place, address_kind, take_address};
 use m3_mid::{Kind, MidOp, Operand};
+use m3_source::KnownShape;
 use m3_types::{TypeId, TypeNode};
 
 /// The place of a constant record or array of the program, with its sizes.
@@ -9,18 +10,7 @@ pub fn plan_constant(b: &mut Builder, kind: TypeId, value: ValueId) -> Place {
     let temp = b.temp(Kind::Number);
     let dims = dims_of(b, kind);
     let sizes = b.next_size();
-    let mut at = Some(value);
-    for _ in 0..dims {
-        let (count, next) = match at {
-            Some(value) => match b.storage.values.get(value.0 as usize) {
-                Some(Constant::Array(elements, count)) => (*count, elements.first().copied()),
-                _ => (0, None),
-            },
-            None => (0, None),
-        };
-        b.size(Operand::Number(count.cast_signed()));
-        at = next;
-    }
+    plan_sizes(b, KnownShape::Constant { kind, value }, dims);
     Place {
         at: Location::Address { temp, offset: 0 },
         base: Operand::Number(0),
@@ -29,55 +19,39 @@ pub fn plan_constant(b: &mut Builder, kind: TypeId, value: ValueId) -> Place {
     }
 }
 
-/// Slots for an open array of some elements. Rows that are open arrays have the shape of the first
-/// one.
-pub fn plan_open<'m>(b: &mut Builder<'m, '_>, element: TypeId, elements: &[CoreExpr]) -> Place {
+/// Slots for an open array whose elements are written out. Rows that are open arrays have the shape
+/// of the first one, which constants fix.
+pub fn plan_open<'m>(b: &mut Builder<'m, '_>, kind: TypeId, elements: &[CoreExpr]) -> Place {
+    let dims = dims_of(b, kind);
     let sizes = b.next_size();
-    let count = elements.len() as u64;
-    b.size(Operand::Number(count.cast_signed()));
-    let dims = dims_of(b, element);
-    let values = plan_rows(b, elements.first(), dims, count);
-    let inner = inner_element(b, element, dims);
+    let values = plan_sizes(b, KnownShape::Written { kind, elements }, dims);
+    let inner = inner_element(b, kind, dims);
     let first = b.slot_count();
-    for _ in 0..values {
-        b.add_value(inner);
+    if b.storage.words(inner) > 0 {
+        for _ in 0..values {
+            b.add_value(inner);
+        }
     }
     b.hold(first);
     Place {
         at: Location::Slots(first),
         base: Operand::Number(0),
         sizes,
-        dims: dims.saturating_add(1),
+        dims,
     }
 }
 
-/// Keeps the sizes of the rows of a constructor, and tells how many values all rows have.
-fn plan_rows(b: &mut Builder, first: Option<&CoreExpr>, dims: u32, count: u64) -> u64 {
-    let mut values = count;
-    let mut row = first;
+/// Keeps the sizes of so many dimensions, and tells how many elements there are below them.
+fn plan_sizes(b: &mut Builder, array: KnownShape, dims: u32) -> u64 {
+    let mut values = 1u64;
+    let mut shape = array;
     for _ in 0..dims {
-        let (count, next) = row_size(b, row);
+        let (count, row) = shape.outermost(&b.storage.types.graph, b.storage.values);
         b.size(Operand::Number(count.cast_signed()));
         values = values.saturating_mul(count);
-        row = next;
+        shape = row;
     }
     values
-}
-
-/// The number of elements of a row that is an array constructor or a fixed array, and its first
-/// element.
-fn row_size<'e>(b: &Builder, row: Option<&'e CoreExpr<'e>>) -> (u64, Option<&'e CoreExpr<'e>>) {
-    match row {
-        Some(CoreExpr::ArrayOf { elements, .. }) => (elements.len() as u64, elements.first()),
-        Some(e) => match kind_of(e) {
-            Some(kind) => match b.storage.node(kind) {
-                TypeNode::FixedArray(index, _) => (b.storage.members(index), None),
-                _ => (0, None),
-            },
-            None => (0, None),
-        },
-        None => (0, None),
-    }
 }
 
 /// The words of an element of a constructor, whose sizes are known.

@@ -1,12 +1,12 @@
 use crate::constants::{code_of, set_word};
 use m3_base::{NoMemory, gap};
-use m3_builder::{
+use m3_core::{Value as Constant, ValueId};
+use m3_lower_state::{
     Builder, Location, Pending, Place, address_kind, copy_words, store_word, take_address,
     zero_words,
 };
-use m3_core::{Value as Constant, ValueId};
+use m3_lower_storage::{Form, number_of, parent_of, word_number};
 use m3_mid::{Kind, MidOp, Operand};
-use m3_storage::{Form, number_of, parent_of, word_number};
 use m3_types::{Field, TypeId, TypeNode};
 
 /// What is still to be given a default, by the word from the start of the place.

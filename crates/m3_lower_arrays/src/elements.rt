@@ -1,10 +1,10 @@
 use crate::shapes::{element_words, shape_of, total_words};
 use m3_base::{FaultKind, Pos};
-use m3_builder::{
+use m3_core::{ArrayLimit, CoreExpr};
+use m3_lower_state::{
     Builder, Location, Pending, Place, added, address_kind, address_of, arith, check, kind_of, set,
     take_address,
 };
-use m3_core::{ArrayLimit, CoreExpr};
 use m3_mid::{Kind, MidOp, Operand, Relation, WordOperator};
 use m3_types::{TypeId, TypeNode};
 

@@ -1,11 +1,11 @@
 use m3_base::{FaultKind, Pos};
-use m3_builder::{Builder, Pending, Place, arith, check};
+use m3_lower_state::{Builder, Pending, Place, arith, check};
 use m3_mid::{Kind, MidOp, Operand, Relation, WordOperator};
 use m3_types::{TypeId, TypeNode};
 
 /// The open dimensions of a type.
 pub fn dims_of(b: &Builder, kind: TypeId) -> u32 {
-    m3_storage::open_dims(b.storage.types, kind)
+    m3_lower_storage::open_dims(b.storage.types, kind)
 }
 
 /// New temporaries for so many sizes, kept in a row.

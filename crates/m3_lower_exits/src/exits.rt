@@ -1,4 +1,4 @@
-use m3_builder::Around;
+use m3_lower_state::Around;
 use m3_types::TypeId;
 
 /// Where the result of a procedure goes.

@@ -1,5 +1,5 @@
 use crate::exits::{Exits, Outcome, Returning};
-use m3_builder::{Around, Builder, Location, Pending, Place, choice, store_word};
+use m3_lower_state::{Around, Builder, Location, Pending, Place, choice, store_word};
 use m3_mid::{End, Kind, MemoryWord, MidOp, Operand, Raised, Relation};
 
 /// How the body of a TRY FINALLY was left, as its number.
@@ -35,6 +35,22 @@ pub fn move_raised<'m>(from: Raised, to: Raised, rest: Pending<'m>) -> Pending<'
     .after(MidOp::Move {
         to: to.exception,
         from: from.exception,
+    })
+}
+
+/// Makes the temporaries 0 that keep an exception where there is none.
+pub fn forget_raised<'m>(kept: Raised, rest: Pending<'m>) -> Pending<'m> {
+    rest.after(MidOp::Number {
+        to: kept.tidy,
+        value: 0,
+    })
+    .after(MidOp::Number {
+        to: kept.number,
+        value: 0,
+    })
+    .after(MidOp::Number {
+        to: kept.exception,
+        value: 0,
     })
 }
 

@@ -1,6 +1,6 @@
-use m3_builder::{Builder, Pending, clear};
 use m3_core::{Arm, CaseBranch, CoreStmt, Handler, TypeBranch, WithBinding};
-use m3_storage::{VarPlace, word_number, words_of_variable};
+use m3_lower_state::{Builder, Pending, clear};
+use m3_lower_storage::{VarPlace, word_number, words_of_variable};
 
 /// The slots of variables: from the first to before the last.
 #[derive(Clone, Copy)]

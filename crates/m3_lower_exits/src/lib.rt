@@ -10,7 +10,7 @@ mod scopes;
 
 pub use exits::{Exits, Outcome, Returning};
 pub use finishing::{
-    EXITED, NORMALLY, RAISED, RETURNED, dispatch, left_as, move_raised, overriding,
+    EXITED, NORMALLY, RAISED, RETURNED, dispatch, forget_raised, left_as, move_raised, overriding,
 };
 pub use landings::{SlotRange, clear_inside, clear_range, clear_variables, slots_inside};
 pub use procs::{declare, ending, exits_of, first_moves, global_place, is_reference_word};

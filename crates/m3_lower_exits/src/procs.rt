@@ -1,13 +1,13 @@
 use crate::exits::{Exits, Outcome, Returning};
 use crate::scopes::showing;
 use m3_base::FaultKind;
-use m3_builder::{Around, Builder, Location, Pending, Place, choice, kind_of_form};
 use m3_core::VarKind;
-use m3_mid::{End, Kind, MemoryWord, MidOp, Operand, Raised, Relation};
-use m3_shapes::dims_of;
-use m3_storage::{
+use m3_lower_arrays::dims_of;
+use m3_lower_state::{Around, Builder, Location, Pending, Place, choice, kind_of_form};
+use m3_lower_storage::{
     Form, Head, VarPlace, stores_result, type_of_variable, word_number, words_of_variable,
 };
+use m3_mid::{End, Kind, MemoryWord, MidOp, Operand, Raised, Relation};
 use m3_types::TypeId;
 
 /// Whether the one word of a record or array is a reference.

@@ -1,8 +1,8 @@
 use crate::exits::Exits;
-use m3_builder::{Builder, Location, Pending, Place};
+use m3_lower_arrays::store_default;
+use m3_lower_state::{Builder, Location, Pending, Place};
+use m3_lower_storage::{VarPlace, type_of_variable};
 use m3_mid::{Held, Shown};
-use m3_shapes::store_default;
-use m3_storage::{VarPlace, type_of_variable};
 use m3_types::TypeId;
 
 /// The exits of a scope in which more variables are shown.

@@ -2,15 +2,15 @@ use crate::chains::emit_chain;
 use crate::exprs::emit_value;
 use crate::structures::{emit_structure, structure_into, value_into};
 use m3_base::Pos;
-use m3_builder::{Around, Builder, Pending, Value, cleared_value, form_of, not_nil};
 use m3_core::{Actual as CoreActual, Chain};
-use m3_mid::Callee;
-use m3_plans::{
+use m3_lower_actuals::{
     Passed, PlannedActual, call_with, callee_of, check_method, kind_of_actual, places_of,
     plan_actuals, signature_of, signature_of_method,
 };
-use m3_shapes::{check_shape, copy_into_cell};
-use m3_storage::Form;
+use m3_lower_arrays::{check_shape, copy_into_cell};
+use m3_lower_state::{Around, Builder, Pending, Value, cleared_value, not_nil};
+use m3_lower_storage::Form;
+use m3_mid::Callee;
 use m3_types::{Formal, TypeId};
 
 /// Code for the call of a procedure value, which is evaluated already.
@@ -97,7 +97,7 @@ fn emit_actuals<'m>(
     let places = places_of(b, formals.len(), actuals);
     for place in places.iter().rev() {
         if let Some(actual) = actuals.get(*place as usize) {
-            if let Some(PlannedActual::NewCell { from, cell }) = passed
+            if let Some(PlannedActual::NewCell { from, cell, .. }) = passed
                 .planned
                 .get(*place as usize)
             {
@@ -138,14 +138,12 @@ fn emit_actual<'m>(
                     structure_into(b, around, value, *kind, at, rest)
                 }
             }
-            PlannedActual::NewCell { from, .. } => emit_structure(b, around, value, from, rest),
-            PlannedActual::Reference { place, .. } | PlannedActual::NewVariable { place, .. } => {
-                match form_of(b, value) {
-                    Form::Open => emit_structure(b, around, value, place, rest),
-                    _ if place.dims > 0 => emit_structure(b, around, value, place, rest),
-                    _ => value_into(b, around, value, *kind, place, rest),
-                }
-            }
+            PlannedActual::NewCell { made, .. } => emit_structure(b, around, value, made, rest),
+            PlannedActual::Reference { place: made, .. }
+            | PlannedActual::NewVariable { made, .. } => match b.storage.form(*kind) {
+                Form::Open => emit_structure(b, around, value, made, rest),
+                _ => value_into(b, around, value, *kind, made, rest),
+            },
         },
     }
 }

@@ -1,16 +1,16 @@
 use crate::calls::{emit_call, emit_method};
 use crate::exprs::{emit_value, fetch};
 use m3_base::Pos;
-use m3_builder::{Around, Builder, Pending, Place, Value, cleared_value};
 use m3_core::{ArrayLimit, Base, Chain, CoreExpr, Step};
-use m3_plans::plan_chain;
-use m3_shapes::{
+use m3_lower_actuals::plan_chain;
+use m3_lower_arrays::{
     check_index, check_subarray, index_of, indexed, known_distance, limit_of, subarray_address,
 };
-use m3_types::TypeId;
-use m3_variables::{
+use m3_lower_places::{
     emit_alias, emit_keep, emit_local, emit_read, emit_reference, kind_before, source,
 };
+use m3_lower_state::{Around, Builder, Pending, Place, Value, cleared_value};
+use m3_types::TypeId;
 
 /// Code for a chain that was planned, with what follows it.
 #[cycle(expressions)]

@@ -1,11 +1,11 @@
 use crate::exprs::fetch;
 use crate::rows::{emit_before, operations_into};
-use m3_builder::{Around, Builder, Pending, Value, choice};
 use m3_core::{Compared, CoreExpr, Operator};
+use m3_lower_actuals::fold_before;
+use m3_lower_operators::{is_short, is_turned, ordered, tested};
+use m3_lower_places::source;
+use m3_lower_state::{Around, Builder, Pending, Value, choice};
 use m3_mid::{Kind, Operand, Relation};
-use m3_operators::{is_short, is_turned, ordered, tested};
-use m3_plans::fold_before;
-use m3_variables::source;
 
 /// Code that evaluates a BOOLEAN expression and goes on at one block where it is TRUE, else at
 /// another.

@@ -4,14 +4,14 @@ use crate::new_cells::new_into;
 use crate::rows::{builtin_into, operations_into, prefixed_into, set_into};
 use crate::structures::emit_structure;
 use m3_base::Pos;
-use m3_builder::{Around, Builder, Pending, Value, cleared_value, load_word, set};
 use m3_core::{Chain, Conversion, CoreExpr, Step};
+use m3_lower_actuals::plan_chain;
+use m3_lower_arrays::{code_of, constant_words, set_word};
+use m3_lower_operators::{checked, is_short, not_nested, tested, zero_temps};
+use m3_lower_places::{environment_of, move_words, ready, source, words_in};
+use m3_lower_state::{Around, Builder, Pending, Value, cleared_value, load_word, set};
 use m3_mid::{MidOp, Operand};
-use m3_operators::{checked, is_short, not_nested, tested, zero_temps};
-use m3_plans::plan_chain;
-use m3_shapes::{code_of, constant_words, set_word};
 use m3_types::TypeId;
-use m3_variables::{environment_of, move_words, ready, source, words_in};
 
 /// Code that gives an expression's value to the operand that was chosen for it.
 #[cycle(expressions)]

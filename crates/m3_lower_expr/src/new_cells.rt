@@ -1,11 +1,11 @@
 use crate::exprs::{emit_value, fetch};
 use crate::structures::structure_into;
 use m3_base::FaultKind;
-use m3_builder::{Around, Builder, Pending, Value, check, kind_of, set};
 use m3_core::{Binding, CoreExpr};
+use m3_lower_actuals::{plan_bindings, plan_sizes, store_bindings};
+use m3_lower_arrays::{cell_defaults, make};
+use m3_lower_state::{Around, Builder, Pending, Value, check, kind_of, set};
 use m3_mid::{Kind, Operand, Relation};
-use m3_plans::{plan_bindings, plan_sizes, store_bindings};
-use m3_shapes::{cell_defaults, make};
 
 /// Code for NEW: sizes or bindings, the point, the cell with its defaults, and the bindings
 /// stored.

@@ -1,15 +1,15 @@
 use crate::exprs::{emit_value, fetch};
-use m3_builder::{Around, Builder, Pending, Value, temp_in};
 use m3_core::{BuiltinCall, CoreExpr, Prefix, SetElement};
-use m3_mid::{Kind, Operand};
-use m3_operators::{
+use m3_lower_actuals::{Row, plan_operands, plan_row, plan_set_element};
+use m3_lower_arrays::first_member;
+use m3_lower_operators::{
     PlannedElement, action, add_bits, check_operand, check_text, kinds_at, move_row, operand_at,
     operate, prefix_into, value_at, zero_temps,
 };
-use m3_plans::{Row, plan_operands, plan_row, plan_set_element};
-use m3_shapes::first_member;
+use m3_lower_places::source;
+use m3_lower_state::{Around, Builder, Pending, Value, temp_in};
+use m3_mid::{Kind, Operand};
 use m3_types::TypeId;
-use m3_variables::source;
 
 /// Code that puts the result of a row of operations where it is wanted; that is set last of all.
 #[cycle(expressions)]

@@ -1,18 +1,18 @@
 use crate::chains::emit_chain;
 use crate::exprs::{fetch, into_temps};
-use m3_builder::{
+use m3_core::{Conversion, CoreExpr, FieldValue};
+use m3_lower_actuals::plan_structure;
+use m3_lower_arrays::{
+    check_equal, check_shape, dims_of, field_type, filled, inner_element, row_words, shape_of,
+};
+use m3_lower_places::source;
+use m3_lower_state::{
     Around, Builder, Location, Pending, Place, cleared_value, copy_words, form_of, kind_of,
     store_word, store_words,
 };
-use m3_core::{Conversion, CoreExpr, FieldValue};
+use m3_lower_storage::Form;
 use m3_mid::{Kind, MidOp};
-use m3_plans::plan_structure;
-use m3_shapes::{
-    check_equal, check_shape, dims_of, field_type, filled, inner_element, row_words, shape_of,
-};
-use m3_storage::Form;
 use m3_types::{TypeId, TypeNode};
-use m3_variables::source;
 
 /// Code that makes the value of a record or array at the place that was planned for it.
 #[cycle(expressions)]

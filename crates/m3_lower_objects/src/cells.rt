@@ -1,9 +1,9 @@
 use crate::forms::node_of;
 use crate::objects::{Objects, parent_of, unveiled};
 use m3_base::{NoMemory, place_number};
-use m3_classes::Classes;
-use m3_sizes::SizedTypes;
 use m3_types::{Secret, TypeId, TypeNode};
+use m3_types_partition::Classes;
+use m3_types_sizes::SizedTypes;
 use std::alloc::Global;
 
 /// The number of the types of heap cells: 0 is a text and 1 a thread, and types that are the same
@@ -36,7 +36,7 @@ fn has_number(node: TypeNode) -> bool {
 }
 
 /// A type with what it is sorted by: how many types are above it, and then its place.
-#[derive(Clone, Copy, Debug, PartialEq, Eq, PartialOrd, Ord)]
+#[derive(Clone, Copy, PartialEq, Eq, PartialOrd, Ord)]
 struct Candidate {
     depth: u32,
     place: u32,

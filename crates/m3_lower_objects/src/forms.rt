@@ -1,8 +1,8 @@
-use m3_sizes::SizedTypes;
 use m3_types::{TypeId, TypeNode, span};
+use m3_types_sizes::SizedTypes;
 
 /// How a value of a type is kept.
-#[derive(Clone, Copy, Debug, PartialEq, Eq)]
+#[derive(Clone, Copy, PartialEq, Eq)]
 pub enum Form {
     /// One word that is no pointer: an ordinal, or a set of at most 64 members.
     Number,

@@ -1,11 +1,11 @@
 use crate::forms::{node_of, number_of, words_of};
 use m3_base::{NoMemory, place_number};
-use m3_sizes::SizedTypes;
 use m3_types::{Field, Secret, TypeId, TypeNode};
+use m3_types_sizes::SizedTypes;
 use std::alloc::Global;
 
 /// Where the part that a type adds begins in its cells and in its table of methods.
-#[derive(Clone, Copy, Debug, PartialEq, Eq)]
+#[derive(Clone, Copy, PartialEq, Eq)]
 struct Part {
     /// The first word of its fields in a cell, the header counted.
     fields: u64,

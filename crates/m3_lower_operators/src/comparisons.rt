@@ -1,10 +1,10 @@
-use m3_builder::{
+use m3_core::{Compared, Relation as Comparison};
+use m3_lower_arrays::{element_words, shape_of, total_words};
+use m3_lower_state::{
     Builder, Pending, Place, Value, address_kind, arith, choice, cleared_value, compare,
     take_address,
 };
-use m3_core::{Compared, Relation as Comparison};
 use m3_mid::{Kind, MidOp, Operand, Relation, WordOperator};
-use m3_shapes::{element_words, shape_of, total_words};
 use m3_types::TypeId;
 
 /// A comparison of numbers as a relation, with its operands in their order.

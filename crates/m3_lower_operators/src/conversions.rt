@@ -1,6 +1,6 @@
 use m3_base::{FaultKind, Pos};
-use m3_builder::{Builder, Pending, choice, kind_of};
 use m3_core::{Conversion, CoreExpr};
+use m3_lower_state::{Builder, Pending, choice, kind_of};
 use m3_mid::{Kind, MidOp, Operand, Relation};
 use m3_types::{TypeId, TypeNode};
 
@@ -121,7 +121,7 @@ fn of_type<'m>(b: &mut Builder<'m, '_>, kind: TypeId, cell: u32, yes: u32, no: u
         TypeNode::RefAny => b.goto(yes),
         TypeNode::Null => b.goto(no),
         TypeNode::Root => {
-            let other = of_cell(b, cell, m3_storage::THREAD_CELL, yes, no);
+            let other = of_cell(b, cell, m3_lower_storage::THREAD_CELL, yes, no);
             let other = b.seal(other);
             of_number(b, kind, cell, yes, other)
         }

@@ -1,12 +1,12 @@
 use crate::comparisons::compare_into;
 use crate::sets::{combine_words, member_into};
 use m3_base::Pos;
-use m3_builder::{
+use m3_core::{CoreExpr, Operation, Operator, Prefix, PrefixOperator};
+use m3_lower_state::{
     Around, Builder, Pending, Value, choice, kind_of, kind_of_form, not_nil, set_temp, temp_in,
 };
-use m3_core::{CoreExpr, Operation, Operator, Prefix, PrefixOperator};
+use m3_lower_storage::Form;
 use m3_mid::{CheckedOperator, Kind, MidOp, Operand, Relation, Service};
-use m3_storage::Form;
 use m3_types::TypeId;
 
 /// Code that puts the result of an operation on two values where it is wanted.

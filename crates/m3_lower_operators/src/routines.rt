@@ -2,10 +2,10 @@ use crate::conversions::in_range;
 use crate::operators::is_made_text;
 use crate::services::{serve, service_of};
 use m3_base::{FaultKind, Pos};
-use m3_builder::{
+use m3_core::{BuiltinCall, CoreExpr, Routine};
+use m3_lower_state::{
     Around, Builder, Pending, arith, check, choice, kind_of, load_at, not_nil, set, temp_in,
 };
-use m3_core::{BuiltinCall, CoreExpr, Routine};
 use m3_mid::{CheckedOperator, Kind, MidOp, Operand, Relation, WordOperator};
 
 /// The operand at a place of a row.

@@ -1,6 +1,6 @@
 use m3_base::Pos;
-use m3_builder::{Around, Builder, Pending, choice, set};
 use m3_core::Routine;
+use m3_lower_state::{Around, Builder, Pending, choice, set};
 use m3_mid::{Kind, MidOp, Operand, Relation, Service};
 
 /// The service of the machine that a routine is.

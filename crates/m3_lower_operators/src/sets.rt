@@ -1,8 +1,8 @@
 use crate::comparisons::{count_of, word_at};
-use m3_builder::{Builder, Pending, Value, arith};
 use m3_core::Operator;
+use m3_lower_arrays::first_member;
+use m3_lower_state::{Builder, Pending, Value, arith};
 use m3_mid::{Kind, MidOp, Operand, Relation, WordOperator};
-use m3_shapes::first_member;
 use m3_types::TypeId;
 
 /// What the elements of a set constructor will be: one operand each, or two of a range.

@@ -1,9 +1,9 @@
 use crate::frames::frame_of;
-use m3_builder::{Builder, Location, Pending, Place, load_at, load_word};
 use m3_core::VarKind;
+use m3_lower_arrays::{dims_of, new_sizes};
+use m3_lower_state::{Builder, Location, Pending, Place, load_at, load_word};
+use m3_lower_storage::VarPlace;
 use m3_mid::{Kind, MemoryWord, MidOp, Operand, WordOperator};
-use m3_shapes::{dims_of, new_sizes};
-use m3_storage::VarPlace;
 use m3_types::TypeId;
 
 /// What an alias stands for: an address, its base, and sizes.

@@ -1,6 +1,6 @@
-use m3_builder::{Builder, Pending};
+use m3_lower_state::{Builder, Pending};
+use m3_lower_storage::VarPlace;
 use m3_mid::{MemoryWord, MidOp};
-use m3_storage::VarPlace;
 
 /// Puts the address of the frame of the activation at a level around the own one into a temporary.
 pub fn frame_of<'m>(

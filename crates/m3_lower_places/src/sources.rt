@@ -1,9 +1,9 @@
 use crate::variables::read_variable;
-use m3_builder::{Builder, Pending, Value, form_of, kind_of_form, set};
 use m3_core::CoreExpr;
+use m3_lower_arrays::code_of;
+use m3_lower_state::{Builder, Pending, Value, form_of, kind_of_form, set};
+use m3_lower_storage::Form;
 use m3_mid::{MidOp, Operand};
-use m3_shapes::code_of;
-use m3_storage::Form;
 
 /// The operand that has the value of an expression without any code: a number, or a variable of
 /// the own procedure in a temporary, which no expression sets.

@@ -1,14 +1,14 @@
 use crate::aliases::load_sizes;
 use crate::sources::move_words;
 use m3_base::Pos;
-use m3_builder::{
+use m3_core::{Base, Chain, Step};
+use m3_lower_arrays::{dims_of, index_of, new_sizes, plan_element};
+use m3_lower_state::{
     Builder, Location, Pending, Place, Value, cleared_value, copy_words, kind_of, load_word,
     load_words, not_nil, set_temp, store_word, store_words,
 };
-use m3_core::{Base, Chain, Step};
+use m3_lower_storage::Form;
 use m3_mid::{Kind, Operand};
-use m3_shapes::{dims_of, index_of, new_sizes, plan_element};
-use m3_storage::Form;
 use m3_types::TypeId;
 
 /// The type of what a step gives.

@@ -1,10 +1,10 @@
 use crate::aliases::{emit_alias, load_sizes, plan_alias};
 use crate::frames::{frame_of, outer_word};
-use m3_builder::{Builder, Location, Pending, Place, load_at};
 use m3_core::{Base, Chain, Step, VarKind};
+use m3_lower_arrays::{dims_of, new_sizes};
+use m3_lower_state::{Builder, Location, Pending, Place, load_at};
+use m3_lower_storage::{Form, VarPlace};
 use m3_mid::{Kind, MemoryWord, MidOp, Operand};
-use m3_shapes::{dims_of, new_sizes};
-use m3_storage::{Form, VarPlace};
 use m3_types::TypeId;
 
 /// The variable of the own procedure that a chain reads and does no more: its temporary.

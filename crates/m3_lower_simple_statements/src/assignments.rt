@@ -1,18 +1,18 @@
 use m3_base::Pos;
-use m3_builder::{
+use m3_core::{Chain, CoreExpr};
+use m3_lower_actuals::{plan_chain, plan_structure, plan_value};
+use m3_lower_arrays::{check_equal, check_shape, element_words, shape_of, total_words};
+use m3_lower_exits::Exits;
+use m3_lower_expr::{emit_chain, emit_structure, emit_value, fetch, into_temp, into_temps};
+use m3_lower_operators::in_range;
+use m3_lower_places::{ready, source};
+use m3_lower_state::{
     Builder, Location, Pending, Place, Value, cleared_value, copy_row, copy_words, kind_of,
     load_word, set, store_word, store_words,
 };
-use m3_core::{Chain, CoreExpr};
-use m3_exits::Exits;
-use m3_lower_expr::{emit_chain, emit_structure, emit_value, fetch, into_temp, into_temps};
+use m3_lower_storage::Form;
 use m3_mid::{CheckedOperator, Kind, MidOp, Operand};
-use m3_operators::in_range;
-use m3_plans::{plan_chain, plan_structure, plan_value};
-use m3_shapes::{check_equal, check_shape, element_words, shape_of, total_words};
-use m3_storage::Form;
 use m3_types::TypeId;
-use m3_variables::{ready, source};
 
 /// An assignment: the target's place, the value with its checks, and the write.
 pub fn assign<'m>(

@@ -1,16 +1,16 @@
 use crate::assignments::word_into;
-use m3_builder::{
+use m3_core::{Bound, Chain, CoreExpr, WithBinding};
+use m3_lower_actuals::{plan_chain, plan_structure};
+use m3_lower_arrays::fitted;
+use m3_lower_exits::{Exits, clear_variables, place_of, showing, type_of};
+use m3_lower_expr::{emit_chain, emit_structure, fetch, into_temps, structure_into};
+use m3_lower_places::{alias_in_temps, source};
+use m3_lower_state::{
     Builder, Location, Pending, Place, address_kind, arith, kind_of, set, store_word, store_words,
     take_address,
 };
-use m3_core::{Bound, Chain, CoreExpr, WithBinding};
-use m3_exits::{Exits, clear_variables, place_of, showing, type_of};
-use m3_lower_expr::{emit_chain, emit_structure, fetch, into_temps, structure_into};
+use m3_lower_storage::{Form, VarPlace};
 use m3_mid::{Kind, Operand, WordOperator};
-use m3_plans::{plan_chain, plan_structure};
-use m3_shapes::fitted;
-use m3_storage::{Form, VarPlace};
-use m3_variables::{alias_in_temps, source};
 
 /// The exits of the scope in which each name of WITH is bound, and those inside all of them.
 pub fn scopes_of<'m>(

@@ -1,10 +1,10 @@
-use m3_builder::{Around, Builder, Location, Pending, Place, kind_of};
 use m3_core::{Chain, CoreExpr, VarDef};
-use m3_exits::{Exits, global_place};
+use m3_lower_actuals::{plan_chain, plan_value, store_value};
+use m3_lower_arrays::store_default;
+use m3_lower_exits::{Exits, global_place};
 use m3_lower_expr::{emit_chain, emit_value};
-use m3_plans::{plan_chain, plan_value, store_value};
-use m3_shapes::store_default;
-use m3_storage::number_of;
+use m3_lower_state::{Around, Builder, Location, Pending, Place, kind_of};
+use m3_lower_storage::number_of;
 
 /// Gives all global variables their defaults, and interface variables their constants.
 pub fn init_globals<'m>(

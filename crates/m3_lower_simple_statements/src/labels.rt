@@ -1,11 +1,11 @@
-use m3_builder::{Builder, Pending, choice};
 use m3_core::LabelRange;
+use m3_lower_operators::tested;
+use m3_lower_state::{Builder, Pending, choice};
 use m3_mid::{Operand, Relation};
-use m3_operators::tested;
 use m3_types::TypeId;
 
 /// The numbers of a branch of CASE, and its block.
-#[derive(Clone, Copy, Debug, PartialEq, Eq, PartialOrd, Ord)]
+#[derive(Clone, Copy, PartialEq, Eq, PartialOrd, Ord)]
 pub struct Label {
     pub first: i64,
     pub last: i64,

@@ -1,9 +1,9 @@
-use m3_builder::{Builder, Pending, arith, choice, set};
 use m3_core::CoreExpr;
-use m3_exits::Exits;
+use m3_lower_exits::Exits;
 use m3_lower_expr::into_temp;
+use m3_lower_places::ready;
+use m3_lower_state::{Builder, Pending, arith, choice, set};
 use m3_mid::{Kind, Operand, Relation, WordOperator};
-use m3_variables::ready;
 
 /// A step of FOR, as far as it is known.
 #[derive(Clone, Copy)]

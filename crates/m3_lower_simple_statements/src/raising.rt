@@ -1,15 +1,15 @@
-use m3_builder::{
+use m3_core::CoreExpr;
+use m3_lower_actuals::plan_value;
+use m3_lower_exits::{Exits, Outcome, Returning, is_reference_word};
+use m3_lower_expr::{emit_value, fetch, into_temps};
+use m3_lower_places::source;
+use m3_lower_state::{
     Builder, Location, Pending, Place, cleared_value, copy_words, form_of, kind_of, load_word, set,
     set_temp, store_words,
 };
-use m3_core::CoreExpr;
-use m3_exits::{Exits, Outcome, Returning, is_reference_word};
-use m3_lower_expr::{emit_value, fetch, into_temps};
+use m3_lower_storage::Form;
 use m3_mid::{End, Kind, MemoryWord, MidOp, Operand};
-use m3_plans::plan_value;
-use m3_storage::Form;
 use m3_types::TypeId;
-use m3_variables::source;
 
 /// RAISE: the argument, and then the exception travels.
 pub fn raise<'m>(

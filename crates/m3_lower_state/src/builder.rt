@@ -3,8 +3,8 @@ use crate::places::{Location, Place};
 use crate::values::Value;
 use bumpalo::Bump;
 use m3_base::{FaultKind, NoMemory, Pos};
+use m3_lower_storage::{Storage, number_of};
 use m3_mid::{Actual, Block, End, Kind, Operand, Proc, Raised, Shown, Slot};
-use m3_storage::{Storage, number_of};
 use m3_types::TypeId;
 use std::alloc::Global;
 
@@ -225,8 +225,12 @@ impl<'m, 's> Builder<'m, 's> {
         Place::plain(Location::Slots(first))
     }
 
-    /// The slots from one on hold one value for a while.
+    /// The slots from one on hold one value for a while. A value without words gets a slot too, so
+    /// that no other value begins at the same one.
     pub fn hold(&mut self, first: u32) {
+        if self.slot_count() == first {
+            self.slot(Kind::Number, true);
+        }
         let buffer = Buffer {
             first,
             end: self.slot_count(),

@@ -1,8 +1,8 @@
 use crate::builder::Builder;
 use crate::pending::Pending;
 use crate::places::{Location, Place, address_kind, load_word, set_temp, store_word, take_address};
+use m3_lower_storage::word_number;
 use m3_mid::{Kind, MemoryWord, MidOp, Operand};
-use m3_storage::word_number;
 
 /// How many words are copied one by one; more are copied as a row.
 const ONE_BY_ONE: u64 = 4;

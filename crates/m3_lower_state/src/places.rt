@@ -1,10 +1,10 @@
 use crate::builder::Builder;
 use crate::pending::Pending;
+use m3_lower_storage::word_number;
 use m3_mid::{Kind, MemoryWord, MidOp, Operand, WordOperator};
-use m3_storage::word_number;
 
 /// Where words are, as far as it is known before the program runs.
-#[derive(Clone, Copy, Debug, PartialEq, Eq)]
+#[derive(Clone, Copy, PartialEq, Eq)]
 pub enum Location {
     /// In temporaries in a row.
     Temps(u32),
@@ -18,7 +18,7 @@ pub enum Location {
 
 /// A place: a variable or a part of one, with what its address was made from, and the sizes of an
 /// open array.
-#[derive(Clone, Copy, Debug, PartialEq, Eq)]
+#[derive(Clone, Copy, PartialEq, Eq)]
 pub struct Place {
     pub at: Location,
     /// The tidy pointer from which an address in the heap is made, or 0.

@@ -1,12 +1,12 @@
 use crate::builder::Builder;
 use crate::places::{Location, Place};
 use m3_core::CoreExpr;
+use m3_lower_storage::Form;
 use m3_mid::{Kind, Operand};
-use m3_storage::Form;
 use m3_types::TypeId;
 
 /// A value that code has made.
-#[derive(Clone, Copy, Debug, PartialEq, Eq)]
+#[derive(Clone, Copy, PartialEq, Eq)]
 pub enum Value {
     /// The call of a procedure without result.
     Nothing,

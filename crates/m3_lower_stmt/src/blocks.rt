@@ -1,8 +1,8 @@
 use crate::statements::statements;
-use m3_builder::{Builder, Pending};
 use m3_core::CoreStmt;
-use m3_exits::{Exits, clear_variables, defaults, showing};
-use m3_simple_stmts::{bind_all, clear_bindings, scopes_of};
+use m3_lower_exits::{Exits, clear_variables, defaults, showing};
+use m3_lower_simple_statements::{bind_all, clear_bindings, scopes_of};
+use m3_lower_state::{Builder, Pending};
 
 /// A block: its variables with their defaults, their initial values, and its body.
 #[cycle(statements)]

@@ -1,12 +1,12 @@
 use crate::statements::statements;
 use m3_base::FaultKind;
-use m3_builder::{Builder, Pending, store_word};
 use m3_core::{CaseBranch, CoreStmt, TypeBranch};
-use m3_exits::{Exits, clear_variables, place_of, showing};
+use m3_lower_exits::{Exits, clear_variables, place_of, showing};
 use m3_lower_expr::{condition, fetch};
+use m3_lower_places::source;
+use m3_lower_simple_statements::{Label, add_labels, search, test_types};
+use m3_lower_state::{Builder, Pending, store_word};
 use m3_mid::Operand;
-use m3_simple_stmts::{Label, add_labels, search, test_types};
-use m3_variables::source;
 
 /// IF with its ELSIFs.
 #[cycle(statements)]

@@ -1,13 +1,13 @@
 use crate::statements::statements;
-use m3_builder::{Around, Builder, Pending, clear, store_word};
 use m3_core::{CoreStmt, Handler};
-use m3_exits::{
+use m3_lower_exits::{
     EXITED, Exits, NORMALLY, RAISED, RETURNED, Returning, SlotRange, clear_range, clear_variables,
-    dispatch, is_reference_word, left_as, move_raised, overriding, place_of, showing, slots_inside,
-    type_of,
+    dispatch, forget_raised, is_reference_word, left_as, move_raised, overriding, place_of,
+    showing, slots_inside, type_of,
 };
+use m3_lower_simple_statements::test_exceptions;
+use m3_lower_state::{Around, Builder, Pending, clear, store_word};
 use m3_mid::{Kind, Operand, Raised};
-use m3_simple_stmts::test_exceptions;
 
 /// TRY EXCEPT: the body, with the handlers and the ELSE behind its exits.
 #[cycle(statements)]
@@ -152,7 +152,7 @@ pub fn try_finally<'m>(
     let finish = b.seal(code);
     let (inside, caught) = ways_out(b, exits, left, slots, finish);
     let first = b.slot_count();
-    let normal = left_as(b, left.way, NORMALLY, finish);
+    let normal = left_unraised(b, left, NORMALLY, finish);
     let code = statements(b, inside, body, normal);
     land(b, inside.around.raised, first, caught);
     code
@@ -177,6 +177,13 @@ fn left_by(b: &mut Builder) -> Left {
     }
 }
 
+/// Notes how a body was left without an exception. What keeps one is 0 then, so that it isn't live
+/// before: else each point of the procedure would list it.
+fn left_unraised<'m>(b: &mut Builder<'m, '_>, left: Left, number: i64, finish: u32) -> Pending<'m> {
+    let code = left_as(b, left.way, number, finish);
+    forget_raised(left.kept, code)
+}
+
 /// The exits of the body of a TRY FINALLY: each notes its way, clears the slots of the body's
 /// variables, and goes on at a block. Beside them the code where exceptions arrive.
 fn ways_out<'m>(
@@ -192,13 +199,13 @@ fn ways_out<'m>(
     let raised = b.reserve();
     let exit = match exits.exit {
         Some(_) => {
-            let code = left_as(b, left.way, EXITED, finish);
+            let code = left_unraised(b, left, EXITED, finish);
             let code = clear_range(b, slots, code);
             Some(b.seal(code))
         }
         None => None,
     };
-    let code = left_as(b, left.way, RETURNED, finish);
+    let code = left_unraised(b, left, RETURNED, finish);
     let code = clear_range(b, slots, code);
     let returned = b.seal(code);
     let inside = Exits {

@@ -1,10 +1,10 @@
 use crate::statements::statements;
-use m3_builder::{Builder, Location, Pending, store_word};
 use m3_core::{CoreExpr, CoreStmt};
-use m3_exits::{Exits, clear_inside, place_of, showing};
+use m3_lower_exits::{Exits, clear_inside, place_of, showing};
 use m3_lower_expr::condition;
+use m3_lower_simple_statements::{Course, begin, first_test, limit, pace_of, turned};
+use m3_lower_state::{Builder, Location, Pending, store_word};
 use m3_mid::{Kind, MidOp, Operand};
-use m3_simple_stmts::{Course, begin, first_test, limit, pace_of, turned};
 
 /// FOR: first, last and step once; the body with its point while the variable hasn't passed the
 /// last.

@@ -1,12 +1,12 @@
 use crate::statements::statements;
 use bumpalo::Bump;
 use m3_base::NoMemory;
-use m3_builder::{Builder, Pending};
 use m3_core::{Core, CoreStmt, VarDef};
-use m3_exits::{declare, ending, exits_of, first_moves};
+use m3_lower_exits::{declare, ending, exits_of, first_moves};
+use m3_lower_simple_statements::init_globals;
+use m3_lower_state::{Builder, Pending};
+use m3_lower_storage::{Head, Storage};
 use m3_mid::Proc;
-use m3_simple_stmts::init_globals;
-use m3_storage::{Head, Storage};
 use std::alloc::Global;
 
 /// The middle code of a procedure of the program, by its number. The module body that runs first

@@ -2,11 +2,11 @@ use crate::blocks::{block, with};
 use crate::branches::{case_of, if_arms, type_case};
 use crate::exceptions::{try_except, try_finally};
 use crate::loops::{for_loop, leave_loop, plain_loop, repeat_loop, while_loop};
-use m3_builder::{Builder, Pending};
 use m3_core::CoreStmt;
-use m3_exits::Exits;
+use m3_lower_exits::Exits;
 use m3_lower_expr::builtin_into;
-use m3_simple_stmts::{assign, called, change, evaluate, raise, return_value};
+use m3_lower_simple_statements::{assign, called, change, evaluate, raise, return_value};
+use m3_lower_state::{Builder, Pending};
 
 /// Code for a row of statements.
 #[cycle(statements)]

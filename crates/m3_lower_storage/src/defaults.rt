@@ -1,12 +1,12 @@
 use m3_base::NoMemory;
 use m3_core::Value;
-use m3_objects::{node_of, number_of};
-use m3_sizes::SizedTypes;
+use m3_lower_objects::{node_of, number_of};
 use m3_types::{Field, TypeId, TypeNode};
+use m3_types_sizes::SizedTypes;
 use std::alloc::Global;
 
 /// How far it is known whether the default of a type is 0 in all its words.
-#[derive(Clone, Copy, Debug, PartialEq, Eq)]
+#[derive(Clone, Copy, PartialEq, Eq)]
 enum State {
     Unknown,
     Waiting,

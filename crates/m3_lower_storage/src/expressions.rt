@@ -95,10 +95,10 @@ fn mark_actuals(uses: &mut Uses, actuals: &[Actual]) {
 pub(crate) fn mark_expression(uses: &mut Uses, value: &CoreExpr) {
     match value {
         CoreExpr::Number { .. }
-        | CoreExpr::Text { .. }
         | CoreExpr::Nil { .. }
         | CoreExpr::Procedure { .. }
         | CoreExpr::InnerProcedure { .. } => {}
+        CoreExpr::Text { text, .. } => uses.note_text(*text),
         CoreExpr::Constant { kind, value, .. } => uses.note_constant(value.0, *kind),
         CoreExpr::Chain(chain) => mark_chain(uses, chain),
         CoreExpr::Builtin(call) => mark_row(uses, call.actuals),

@@ -11,7 +11,7 @@ mod uses;
 mod variables;
 
 pub use heads::Head;
-pub use m3_objects::{
+pub use m3_lower_objects::{
     Cells, Form, Objects, TEXT_CELL, THREAD_CELL, bounds, form_of, number_of, parent_of, unveiled,
     word_number,
 };

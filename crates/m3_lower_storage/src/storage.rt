@@ -6,11 +6,11 @@ use crate::variables::{GlobalPlace, Room, VarPlace, place_globals};
 use m3_base::NoMemory;
 use m3_core::{Core, CoreExpr, Value, VarDef, VarKind};
 use m3_layout::{Shape, shape_of_value};
-use m3_objects::{
+use m3_lower_objects::{
     Cells, Form, Objects, bounds, form_of, members, node_of, number_of, unveiled, words_of,
 };
-use m3_sizes::SizedTypes;
 use m3_types::{Field, TypeId, TypeNode};
+use m3_types_sizes::SizedTypes;
 use std::alloc::Global;
 
 /// Where a checked program keeps its things. It holds no statement and no expression, so what takes
@@ -31,9 +31,10 @@ pub struct Storage<'a> {
     uses: Uses<'a>,
 }
 
-/// The procedures, what their bodies do to variables, and which constants the program names.
+/// The procedures, what their bodies do to variables, and which constants and texts the program
+/// names.
 fn uses_of<'a>(alloc: Global, core: &Core<'a>) -> Result<Uses<'a>, NoMemory> {
-    let mut uses = Uses::new(alloc, core.values.len())?;
+    let mut uses = Uses::new(alloc, core.values.len(), core.texts.len())?;
     for proc in core.procs {
         uses.add_proc(&core.types, proc)?;
     }
@@ -43,15 +44,18 @@ fn uses_of<'a>(alloc: Global, core: &Core<'a>) -> Result<Uses<'a>, NoMemory> {
     }
     note_initials(core.globals, &mut uses);
     note_defaults(&core.types, &mut uses);
+    uses.note_parts(alloc, core.values)?;
     uses.place_all(&core.types)?;
     Ok(uses)
 }
 
-/// Notes the types of the constants that global variables get.
+/// Notes the texts and the types of the constants that global variables get.
 fn note_initials(globals: &[VarDef], uses: &mut Uses) {
     for global in globals {
-        if let Some(CoreExpr::Constant { kind, value, .. }) = global.initial {
-            uses.note_constant(value.0, *kind);
+        match global.initial {
+            Some(CoreExpr::Constant { kind, value, .. }) => uses.note_constant(value.0, *kind),
+            Some(CoreExpr::Text { text, .. }) => uses.note_text(*text),
+            _ => {}
         }
     }
 }
@@ -98,6 +102,11 @@ impl<'a> Storage<'a> {
     /// The type of a constant that code may copy; none where no code names it.
     pub fn constant_kind(&self, constant: u32) -> Option<TypeId> {
         self.uses.kind(constant)
+    }
+
+    /// Whether code names a text, or a constant that it is a part of.
+    pub fn has_text(&self, text: u32) -> bool {
+        self.uses.has_text(text)
     }
 
     /// A procedure or a module body without its statements.

@@ -1,14 +1,14 @@
 use crate::heads::{Head, Variable};
 use crate::variables::{Room, VarPlace, is_shown, place_formal, place_local, place_result};
 use m3_base::{NoMemory, place_number};
-use m3_core::{ProcDef, VarDef};
-use m3_sizes::SizedTypes;
+use m3_core::{ProcDef, Value, ValueId, VarDef};
 use m3_types::TypeId;
+use m3_types_sizes::SizedTypes;
 use std::alloc::Global;
 
 /// The procedures of a program with their variables, and what uses these: which have their address
-/// taken or are reached by inner procedures, and which formals are written; and which constants are
-/// named.
+/// taken or are reached by inner procedures, and which formals are written; and which constants and
+/// texts are named.
 #[derive(Drop)]
 pub struct Uses<'a> {
     heads: Vec<Head<'a>>,
@@ -16,17 +16,20 @@ pub struct Uses<'a> {
     variables: Vec<Variable>,
     /// For each constant the type under which something names it.
     kinds: Vec<Option<TypeId>>,
+    /// For each text whether something names it, or a constant that it is a part of.
+    texts: Vec<bool>,
     /// The procedure that is read.
     proc: u32,
 }
 
 impl<'a> Uses<'a> {
-    /// No procedures yet, and so many constants.
-    pub fn new(alloc: Global, constants: usize) -> Result<Uses<'a>, NoMemory> {
+    /// No procedures yet, and so many constants and texts.
+    pub fn new(alloc: Global, constants: usize, texts: usize) -> Result<Uses<'a>, NoMemory> {
         Ok(Uses {
             heads: Vec::new(alloc),
             variables: Vec::new(alloc),
             kinds: vec![in alloc; None; constants]?,
+            texts: vec![in alloc; false; texts]?,
             proc: 0,
         })
     }
@@ -163,6 +166,36 @@ impl<'a> Uses<'a> {
         }
     }
 
+    /// Whether a text is named.
+    pub fn has_text(&self, text: u32) -> bool {
+        self.texts.get(text as usize).copied().unwrap_or(false)
+    }
+
+    /// A text is named.
+    pub fn note_text(&mut self, text: u32) {
+        if let Some(item) = self.texts.get_mut(text as usize) {
+            *item = true;
+        }
+    }
+
+    /// Notes the texts in the constants that are named, of which each is made of those before it.
+    pub fn note_parts(&mut self, alloc: Global, values: &[Value]) -> Result<(), NoMemory> {
+        let mut named = vec![in alloc; false; values.len()]?;
+        for place in (0..values.len()).rev() {
+            let is_part = named.get(place).copied().unwrap_or(false);
+            if is_part || matches!(self.kinds.get(place), Some(Some(_))) {
+                match values.get(place) {
+                    Some(Value::Text(text)) => self.note_text(*text),
+                    Some(Value::Record(parts)) | Some(Value::Array(parts, _)) => {
+                        name_all(&mut named, parts);
+                    }
+                    _ => {}
+                }
+            }
+        }
+        Ok(())
+    }
+
     fn level(&self) -> u32 {
         match self.heads.get(self.proc as usize) {
             Some(head) => head.level,
@@ -193,6 +226,15 @@ impl<'a> Uses<'a> {
     pub fn note_named(&mut self, level: u32, variable: u32) {
         if level != self.level() {
             self.mark(level, variable, false);
+        }
+    }
+}
+
+/// Notes that constants are parts of one that is named.
+fn name_all(named: &mut [bool], parts: &[ValueId]) {
+    for part in parts {
+        if let Some(item) = named.get_mut(part.0 as usize) {
+            *item = true;
         }
     }
 }

@@ -1,9 +1,9 @@
 use crate::heads::Variable;
 use m3_base::NoMemory;
 use m3_core::{Role, VarDef, VarKind};
-use m3_objects::{Form, form_of, node_of};
-use m3_sizes::SizedTypes;
+use m3_lower_objects::{Form, form_of, node_of};
 use m3_types::{TypeId, TypeNode};
+use m3_types_sizes::SizedTypes;
 use std::alloc::Global;
 
 /// Where a variable of a procedure is kept: in temporaries or in slots in a row, from the one that
@@ -15,7 +15,7 @@ use std::alloc::Global;
 /// temporaries hold it; slots hold the tidy pointer, the distance from it to the address, and the
 /// sizes. A variable of an open array type, which WITH makes of a value, is kept as such an alias
 /// of that value.
-#[derive(Clone, Copy, Debug, PartialEq, Eq)]
+#[derive(Clone, Copy, PartialEq, Eq)]
 pub enum VarPlace {
     Temps(u32),
     Slots(u32),
@@ -83,7 +83,7 @@ fn needs_slots(types: &SizedTypes, variable: &Variable) -> bool {
 }
 
 /// How many slots and temporaries the variables of a procedure take.
-#[derive(Clone, Copy, Debug, PartialEq, Eq)]
+#[derive(Clone, Copy, PartialEq, Eq)]
 pub struct Room {
     /// The slots of the formals' words, with the one for the address of a result of two words or
     /// more.
@@ -167,7 +167,7 @@ pub fn place_local(
 }
 
 /// A global variable: the first of its words, counted from the start of the globals, and its type.
-#[derive(Clone, Copy, Debug, PartialEq, Eq)]
+#[derive(Clone, Copy, PartialEq, Eq)]
 pub struct GlobalPlace {
     pub word: u32,
     pub kind: TypeId,

@@ -5,13 +5,13 @@ use Rattle.m3_base.specs.declared.outcomes.Outcome.{Outcome}
 use Rattle.m3_isa.specs.declared.registers.Regs.{Regs}
 use Rattle.m3_threads.specs.declared.status.Thread.{Thread}
 use Rattle.m3_threads.specs.All.{Everyone, updated}
-use Rattle.m3_sections.specs.Parts.{Program}
-use Rattle.m3_strides.specs.declared.near.Stack.{Stack}
-use Rattle.m3_strides.specs.declared.near.Place.{Place}
-use Rattle.m3_strides.specs.State.{State, HasOtherWords, regs_set, with_regs, memory_of, can_set}
-use Rattle.m3_strides.specs.Act.{Writes, Proceeds as Goes_with, using}
-use Rattle.m3_strides.specs.Progress.{Progress, Goes, Ends, Follows, GoesOver}
-use Rattle.m3_strides.specs.Calls.{place_of, come_to, entering, framed, calls, returning, returns}
+use Rattle.m3_image_sections.specs.Parts.{Program}
+use Rattle.m3_run_meaning.specs.declared.near.Stack.{Stack}
+use Rattle.m3_run_meaning.specs.declared.near.Place.{Place}
+use Rattle.m3_run_meaning.specs.State.{State, HasOtherWords, regs_set, with_regs, memory_of, can_set}
+use Rattle.m3_run_meaning.specs.Act.{Writes, Proceeds as Goes_with, using}
+use Rattle.m3_run_meaning.specs.Progress.{Progress, Goes, Ends, Follows, GoesOver}
+use Rattle.m3_run_meaning.specs.Calls.{place_of, come_to, entering, framed, calls, returning, returns}
 
 regs_in : Regs → ℕ → Everyone → Everyone
 regs_in regs n all = record all { threads = updated (regs_set regs) n all.threads }

@@ -14,15 +14,15 @@ use Rattle.m3_isa.specs.declared.instructions.Op.{Op}
 use Rattle.m3_isa.specs.declared.instructions.Op.TheVariants.{Call, Callr, Callm, Ret, Meth, Subt, New, Newo, Point, Fault, Unc, Endp, Endt, Cat, Tchr, Tsub, Getc, Eof, Self_, Fork, Join, Acq, Rel, Wait, Sig, Bca, Alert, Talert, Await, Ajoin, Put, Putn, Putc}
 use Rattle.m3_isa.specs.declared.instructions.Instr.{Instr}
 use Rattle.m3_threads.specs.declared.status.Thread.{Thread}
-use Rattle.m3_sections.specs.Parts.{Program, CellType}
-use Rattle.m3_strides.specs.declared.near.Stack.{Stack}
-use Rattle.m3_strides.specs.State.{State, executed}
-use Rattle.m3_strides.specs.Act.{Act, Proceeds, Writes, Takes, bytes_of, using, finding, or_trap, stops_with_trap}
-use Rattle.m3_strides.specs.Calls.{place_of, come_to, entering, framed, calls, returning, returns, method_at, tells_method}
-use Rattle.m3_strides.specs.Acts.{faults, uncaught, gets, tells_self}
-use Rattle.m3_strides.specs.Progress.{Progress}
-use Rattle.m3_strides.specs.OnThreads.{On_threads, answer_of}
-use Rattle.m3_strides.specs.Steps.{Acts}
+use Rattle.m3_image_sections.specs.Parts.{Program, CellType}
+use Rattle.m3_run_meaning.specs.declared.near.Stack.{Stack}
+use Rattle.m3_run_meaning.specs.State.{State, executed}
+use Rattle.m3_run_meaning.specs.Act.{Act, Proceeds, Writes, Takes, bytes_of, using, finding, or_trap, stops_with_trap}
+use Rattle.m3_run_meaning.specs.Calls.{place_of, come_to, entering, framed, calls, returning, returns, method_at, tells_method}
+use Rattle.m3_run_meaning.specs.Acts.{faults, uncaught, gets, tells_self}
+use Rattle.m3_run_meaning.specs.Progress.{Progress}
+use Rattle.m3_run_meaning.specs.OnThreads.{On_threads, answer_of}
+use Rattle.m3_run_meaning.specs.Steps.{Acts}
 use Rattle.m3_machine.specs.Deeds.{IsSilent}
 
 -- what holds of an operation holds of an instruction that has it

@@ -8,12 +8,12 @@ use Rattle.m3_base.specs.declared.outcomes.Outcome.TheVariants.{Spent, Trap}
 use Rattle.m3_isa.specs.Instructions.{is_point}
 use Rattle.m3_isa.specs.declared.instructions.Instr.{Instr}
 use Rattle.m3_threads.specs.declared.status.Thread.{Thread}
-use Rattle.m3_sections.specs.Parts.{Program}
-use Rattle.m3_strides.specs.State.{State, running_thread}
-use Rattle.m3_strides.specs.Runs.{Place, In_turn, At_point, Over, turn_limit, stands, goes_on, comes_to_point, leaves_code, lasts_too_long}
-use Rattle.m3_strides.specs.Leading.{Track, config, LeadsTo, Went}
-use Rattle.m3_turns.specs.Courses.{SoundTurn, SoundPoint, SoundEnd, EndsSoundly, IsSound}
-use Rattle.m3_turns.proofs.Moving.{next-turn, leads_sound}
+use Rattle.m3_image_sections.specs.Parts.{Program}
+use Rattle.m3_run_meaning.specs.State.{State, running_thread}
+use Rattle.m3_run_meaning.specs.Runs.{Place, In_turn, At_point, Over, turn_limit, stands, goes_on, comes_to_point, leaves_code, lasts_too_long}
+use Rattle.m3_run_loop.specs.Leading.{Track, config, LeadsTo, Went}
+use Rattle.m3_run_laws.specs.Courses.{SoundTurn, SoundPoint, SoundEnd, EndsSoundly, IsSound}
+use Rattle.m3_run_laws.proofs.Moving.{next-turn, leads_sound}
 use Rattle.m3_machine.specs.Turns.{IsCourse}
 
 few_by : (turns turn p q i j allowed : ℕ) → p ≡ q + turns → turn ≤ 4611686018427387904 → j ≤ q * 4611686018427387904 → i ≤ j + turns * turn → i ≤ p * 4611686018427387904

@@ -3,13 +3,13 @@ use Rattle.std.specs.Prelude.{ℕ, zero, suc, ◌≡◌, ◌≤◌, ◌+◌, ◌
 use Rattle.std.specs.Option.{option_map_or}
 use Rattle.std.proofs.Common.{refl, sym, ap, subst, ◌∙◌, arith, inl, inr}
 use Rattle.std.proofs.lemmas.Bool.{and_parts, eqb-true}
-use Rattle.m3_sections.specs.declared.refusal.ImageRefusal.{ImageRefusal}
-use Rattle.m3_sections.specs.declared.procs.ProcPart.{ProcPart}
-use Rattle.m3_sections.specs.Parts.{Program, CellType}
-use Rattle.m3_sections.specs.Forms.{follow_from, proc_fits, second_fits, procs_fit}
-use Rattle.m3_sections.specs.Ranges.{is_point_at, end_from}
+use Rattle.m3_image_sections.specs.declared.refusal.ImageRefusal.{ImageRefusal}
+use Rattle.m3_image_sections.specs.declared.procs.ProcPart.{ProcPart}
+use Rattle.m3_image_sections.specs.Parts.{Program, CellType}
+use Rattle.m3_image_sections.specs.Forms.{follow_from, proc_fits, second_fits, procs_fit}
+use Rattle.m3_image_sections.specs.Ranges.{is_point_at, end_from}
 use Rattle.m3_image.specs.Programs.{fault_of, procs_suit, begins_with_point}
-use Rattle.m3_turns.specs.Standing.{BeginsAtPoints}
+use Rattle.m3_run_laws.specs.Standing.{BeginsAtPoints}
 
 suits-at : (b : Bool) (x : Option ImageRefusal) (r : ImageRefusal) → (if b then x else Some r) ≡ None → b ≡ true
 suits-at true x r e = refl

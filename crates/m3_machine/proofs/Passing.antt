@@ -4,10 +4,10 @@ use Rattle.std.proofs.Common.{refl, subst}
 use Rattle.m3_base.specs.declared.outcomes.Entry.{Entry}
 use Rattle.m3_base.specs.declared.outcomes.Outcome.TheVariants.{Deadlock, Trap}
 use Rattle.m3_threads.specs.Going.{IsChoice, NoneGoes}
-use Rattle.m3_sections.specs.Parts.{Program}
-use Rattle.m3_strides.specs.State.{State, outside}
-use Rattle.m3_strides.specs.Collecting.{Spoils}
-use Rattle.m3_strides.specs.Points.{Collected_if, Chooses, StopsAtPoint, passed, runs_on, trapped, nobody_left}
+use Rattle.m3_image_sections.specs.Parts.{Program}
+use Rattle.m3_run_meaning.specs.State.{State, outside}
+use Rattle.m3_run_meaning.specs.Collecting.{Spoils}
+use Rattle.m3_run_meaning.specs.Points.{Collected_if, Chooses, StopsAtPoint, passed, runs_on, trapped, nobody_left}
 
 pub chooses : (p q : Program) (entry : Entry) (s mid ready : State) (chosen : ℕ) → mid ≡ passed s → q ≡ p → (NoneGoes s.all (outside p s) → ⊥)
     → Collected_if p mid entry.collect (Some ready) → IsChoice ready.all (outside q ready) entry.to ready.running (Some chosen) → Chooses p entry s (runs_on ready chosen)

@@ -11,22 +11,22 @@ use Rattle.m3_heap.specs.declared.store.Store.{Ghosts}
 use Rattle.m3_threads.specs.declared.status.Thread.{Thread}
 use Rattle.m3_threads.specs.declared.status.Status.TheVariants.{Ready}
 use Rattle.m3_threads.specs.All.{Everyone}
-use Rattle.m3_sections.specs.Parts.{Program}
-use Rattle.m3_memory.specs.declared.memory.Memory.{Memory}
-use Rattle.m3_strides.specs.declared.near.Stack.{Stack}
-use Rattle.m3_strides.specs.declared.near.Place.{Place as At}
-use Rattle.m3_strides.specs.declared.halts.Halt.{Halt}
-use Rattle.m3_strides.specs.declared.halts.Halt.TheVariants.{Used, Left, Other, Trapped}
-use Rattle.m3_strides.specs.State.{State, running_thread, regs_set, with_regs, seen}
-use Rattle.m3_strides.specs.Calls.{stack_of, place_of}
-use Rattle.m3_strides.specs.Runs.{Over, turn_limit}
-use Rattle.m3_strides.specs.Leading.{Track, LeadsTo, Went, further, program_in, seen_in, Stands_in, Halts_in}
-use Rattle.m3_strides.proofs.Leading.{same_threads}
-use Rattle.m3_strides.proofs.PlainSteps.{found-again}
-use Rattle.m3_turns.proofs.Moving.{same-limit}
-use Rattle.m3_decoded.specs.Ready.{image_of}
-use Rattle.m3_new_cells.specs.declared.parts.Parts.{Parts}
-use Rattle.m3_new_cells.specs.Seen.{state_of, program_of}
+use Rattle.m3_image_sections.specs.Parts.{Program}
+use Rattle.m3_run_memory.specs.declared.memory.Memory.{Memory}
+use Rattle.m3_run_meaning.specs.declared.near.Stack.{Stack}
+use Rattle.m3_run_meaning.specs.declared.near.Place.{Place as At}
+use Rattle.m3_run_loop.specs.declared.halts.Halt.{Halt}
+use Rattle.m3_run_loop.specs.declared.halts.Halt.TheVariants.{Used, Left, Other, Trapped}
+use Rattle.m3_run_meaning.specs.State.{State, running_thread, regs_set, with_regs, seen}
+use Rattle.m3_run_meaning.specs.Calls.{stack_of, place_of}
+use Rattle.m3_run_meaning.specs.Runs.{Over, turn_limit}
+use Rattle.m3_run_loop.specs.Leading.{Track, LeadsTo, Went, further, program_in, seen_in, Stands_in, Halts_in}
+use Rattle.m3_run_loop.proofs.Leading.{same_threads}
+use Rattle.m3_run_loop.proofs.PlainSteps.{found-again}
+use Rattle.m3_run_laws.proofs.Moving.{same-limit}
+use Rattle.m3_image_decoded.specs.Ready.{image_of}
+use Rattle.m3_run_state.specs.declared.parts.Parts.{Parts}
+use Rattle.m3_run_state.specs.Seen.{state_of, program_of}
 use Rattle.m3_machine.specs.declared.runs.Turn.{Turn}
 use Rattle.m3_machine.specs.Turns.{IsCourse, Paced, Between, Halts, Halted}
 use Rattle.m3_machine.proofs.Bounds.{Bounded, bounded_end, bounded_went}

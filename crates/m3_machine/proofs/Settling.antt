@@ -11,16 +11,16 @@ use Rattle.m3_heap.specs.declared.store.Store.{Ghosts}
 use Rattle.m3_threads.specs.declared.status.Status.TheVariants.{Ready}
 use Rattle.m3_threads.specs.Going.{status_at, status_at_of, with_status}
 use Rattle.m3_threads.proofs.Places.{find-updated}
-use Rattle.m3_sections.specs.Parts.{Program}
-use Rattle.m3_strides.specs.State.{State, running_thread}
-use Rattle.m3_strides.specs.Points.{passed, first_entry}
-use Rattle.m3_strides.specs.Runs.{In_turn, At_point, Over, turn_limit, stands, goes_on, comes_to_point, leaves_code, lasts_too_long}
-use Rattle.m3_strides.specs.Leading.{Track, LeadsTo, Enters}
-use Rattle.m3_strides.proofs.Leading.{enters_on, enters_past, goes_again}
-use Rattle.m3_turns.specs.Courses.{SoundTurn, SoundPoint}
-use Rattle.m3_turns.proofs.Moving.{some-limit, chooses_sound}
-use Rattle.m3_new_cells.specs.declared.parts.Parts.{Parts}
-use Rattle.m3_new_cells.specs.Seen.{state_of}
+use Rattle.m3_image_sections.specs.Parts.{Program}
+use Rattle.m3_run_meaning.specs.State.{State, running_thread}
+use Rattle.m3_run_meaning.specs.Points.{passed, first_entry}
+use Rattle.m3_run_meaning.specs.Runs.{In_turn, At_point, Over, turn_limit, stands, goes_on, comes_to_point, leaves_code, lasts_too_long}
+use Rattle.m3_run_loop.specs.Leading.{Track, LeadsTo, Enters}
+use Rattle.m3_run_loop.proofs.Leading.{enters_on, enters_past, goes_again}
+use Rattle.m3_run_laws.specs.Courses.{SoundTurn, SoundPoint}
+use Rattle.m3_run_laws.proofs.Moving.{some-limit, chooses_sound}
+use Rattle.m3_run_state.specs.declared.parts.Parts.{Parts}
+use Rattle.m3_run_state.specs.Seen.{state_of}
 use Rattle.m3_machine.specs.declared.runs.Turn.{Turn}
 use Rattle.m3_machine.specs.Turns.{IsCourse, Between, Halts, Acts_next, Rested}
 use Rattle.m3_machine.proofs.Bounds.{sound_at}

@@ -7,14 +7,14 @@ use Rattle.m3_heap.specs.declared.store.Store.{Ghosts}
 use Rattle.m3_threads.specs.declared.status.Thread.{Thread}
 use Rattle.m3_threads.specs.All.{Everyone}
 use Rattle.m3_threads.specs.Actions.{at_start, started}
-use Rattle.m3_sections.specs.Parts.{Program, Image}
-use Rattle.m3_sections.specs.Ranges.{is_point_at}
-use Rattle.m3_strides.specs.State.{State, start, first_globals, running_thread}
-use Rattle.m3_strides.specs.Runs.{stands, Begins, begins}
-use Rattle.m3_turns.specs.Standing.{AllAtPoints}
-use Rattle.m3_turns.proofs.Doing.{some-at}
-use Rattle.m3_new_cells.specs.declared.parts.Parts.{Parts}
-use Rattle.m3_new_cells.specs.Seen.{state_of, program_of}
+use Rattle.m3_image_sections.specs.Parts.{Program, Image}
+use Rattle.m3_image_sections.specs.Ranges.{is_point_at}
+use Rattle.m3_run_meaning.specs.State.{State, start, first_globals, running_thread}
+use Rattle.m3_run_meaning.specs.Runs.{stands, Begins, begins}
+use Rattle.m3_run_laws.specs.Standing.{AllAtPoints}
+use Rattle.m3_run_laws.proofs.Doing.{some-at}
+use Rattle.m3_run_state.specs.declared.parts.Parts.{Parts}
+use Rattle.m3_run_state.specs.Seen.{state_of, program_of}
 use Rattle.m3_machine.specs.RunCalls.{IsReady}
 
 abbrev pub at_first : Everyone → List ℕ → Heap → State

@@ -8,19 +8,19 @@ use Rattle.m3_heap.specs.declared.store.Store.{Ghosts}
 use Rattle.m3_threads.specs.declared.status.Thread.{Thread}
 use Rattle.m3_threads.specs.All.{thread_named}
 use Rattle.m3_threads.specs.Going.{IsAwake}
-use Rattle.m3_sections.specs.Parts.{Program}
-use Rattle.m3_strides.specs.declared.progress.Progress.{Progress as Answer}
-use Rattle.m3_strides.specs.declared.progress.Progress.TheVariants as answer
-use Rattle.m3_strides.specs.State.{State, executed}
-use Rattle.m3_strides.specs.Progress.{Goes, Rests, Ends, became}
-use Rattle.m3_strides.specs.Steps.{Does}
-use Rattle.m3_strides.specs.Runs.{At_point, Over, rests, run_ends}
-use Rattle.m3_strides.specs.Leading.{Track, Went}
-use Rattle.m3_strides.proofs.Leading.{leads_over}
-use Rattle.m3_turns.proofs.Stays.{KeepsTurn, EndsTurn}
-use Rattle.m3_turns.proofs.Doing.{does_keep}
-use Rattle.m3_new_cells.specs.declared.parts.Parts.{Parts}
-use Rattle.m3_new_cells.specs.Seen.{state_of, program_of, goes_on, Took}
+use Rattle.m3_image_sections.specs.Parts.{Program}
+use Rattle.m3_run_meaning.specs.declared.progress.Progress.{Progress as Answer}
+use Rattle.m3_run_meaning.specs.declared.progress.Progress.TheVariants as answer
+use Rattle.m3_run_meaning.specs.State.{State, executed}
+use Rattle.m3_run_meaning.specs.Progress.{Goes, Rests, Ends, became}
+use Rattle.m3_run_meaning.specs.Steps.{Does}
+use Rattle.m3_run_meaning.specs.Runs.{At_point, Over, rests, run_ends}
+use Rattle.m3_run_loop.specs.Leading.{Track, Went}
+use Rattle.m3_run_loop.proofs.Leading.{leads_over}
+use Rattle.m3_run_laws.proofs.Stays.{KeepsTurn, EndsTurn}
+use Rattle.m3_run_laws.proofs.Doing.{does_keep}
+use Rattle.m3_run_state.specs.declared.parts.Parts.{Parts}
+use Rattle.m3_run_state.specs.Seen.{state_of, program_of, goes_on, Took}
 use Rattle.m3_machine.specs.declared.runs.Turn.{Turn}
 use Rattle.m3_machine.specs.Deeds.{MayAct}
 use Rattle.m3_machine.specs.Turns.{IsCourse, Known, and_put, Paced, Acts_next, Comes_to, Came_to}

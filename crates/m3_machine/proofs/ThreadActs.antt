@@ -9,8 +9,8 @@ use Rattle.m3_threads.specs.declared.answers.Done.{Done}
 use Rattle.m3_threads.specs.declared.status.Thread.{Thread}
 use Rattle.m3_threads.specs.All.{Everyone}
 use Rattle.m3_threads.specs.Actions.{IsAfter, ends}
-use Rattle.m3_turns.proofs.ThreadSteps.{ends_uncounted}
-use Rattle.m3_strides.specs.OnThreads.{Acts_on_threads}
+use Rattle.m3_run_laws.proofs.ThreadSteps.{ends_uncounted}
+use Rattle.m3_run_meaning.specs.OnThreads.{Acts_on_threads}
 
 -- what holds of an operation holds of an instruction that has it
 pub by_op : (o p : Op) → o ≡ p → (t : Thread) (i : Instr) (all : Everyone) (memory : Memory) (can : ℕ → Bool) (done : Done) (new_all : Everyone) (new : Memory)

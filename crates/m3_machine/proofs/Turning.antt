@@ -8,21 +8,21 @@ use Rattle.m3_isa.specs.Instructions.{is_point}
 use Rattle.m3_isa.specs.declared.instructions.Instr.{Instr}
 use Rattle.m3_heap.specs.declared.store.Store.{Ghosts}
 use Rattle.m3_threads.specs.Actions.{started}
-use Rattle.m3_sections.specs.Parts.{Program}
-use Rattle.m3_sections.specs.Ranges.{is_point_at}
-use Rattle.m3_strides.specs.declared.progress.Progress.{Progress as Answer}
-use Rattle.m3_strides.specs.declared.progress.Progress.TheVariants as answer
-use Rattle.m3_strides.specs.State.{State, running_thread, outside}
-use Rattle.m3_strides.specs.Points.{Chooses, StopsAtPoint, nobody, trapped, nobody_left, Says_spent, passed, first_entry, later_entries}
-use Rattle.m3_strides.specs.Runs.{turn_limit, At_point, Over, stays, moves, at_point, stops, spent, then_at, starting}
-use Rattle.m3_strides.specs.Leading.{Track, LeadsTo, Enters, config}
-use Rattle.m3_turns.specs.Standing.{AtPoint, AllAtPoints, BeginsAtPoints}
-use Rattle.m3_turns.specs.Courses.{SoundTurn, SoundPoint, IsOther}
-use Rattle.m3_turns.proofs.ThreadLists.{of_found}
-use Rattle.m3_turns.proofs.Doing.{some-at}
-use Rattle.m3_turns.proofs.Moving.{some-limit, chooses_sound, chosen-goes, goes_awake, collected-stays, starts_sound}
-use Rattle.m3_new_cells.specs.declared.parts.Parts.{Parts}
-use Rattle.m3_new_cells.specs.Seen.{state_of, program_of, IsGoing}
+use Rattle.m3_image_sections.specs.Parts.{Program}
+use Rattle.m3_image_sections.specs.Ranges.{is_point_at}
+use Rattle.m3_run_meaning.specs.declared.progress.Progress.{Progress as Answer}
+use Rattle.m3_run_meaning.specs.declared.progress.Progress.TheVariants as answer
+use Rattle.m3_run_meaning.specs.State.{State, running_thread, outside}
+use Rattle.m3_run_meaning.specs.Points.{Chooses, StopsAtPoint, nobody, trapped, nobody_left, Says_spent, passed, first_entry, later_entries}
+use Rattle.m3_run_meaning.specs.Runs.{turn_limit, At_point, Over, stays, moves, at_point, stops, spent, then_at, starting}
+use Rattle.m3_run_loop.specs.Leading.{Track, LeadsTo, Enters, config}
+use Rattle.m3_run_laws.specs.Standing.{AtPoint, AllAtPoints, BeginsAtPoints}
+use Rattle.m3_run_laws.specs.Courses.{SoundTurn, SoundPoint, IsOther}
+use Rattle.m3_run_laws.proofs.ThreadLists.{of_found}
+use Rattle.m3_run_laws.proofs.Doing.{some-at}
+use Rattle.m3_run_laws.proofs.Moving.{some-limit, chooses_sound, chosen-goes, goes_awake, collected-stays, starts_sound}
+use Rattle.m3_run_state.specs.declared.parts.Parts.{Parts}
+use Rattle.m3_run_state.specs.Seen.{state_of, program_of, IsGoing}
 use Rattle.m3_machine.specs.declared.runs.Turn.{Turn}
 use Rattle.m3_machine.specs.Turns.{IsCourse, Known, and_put, Acts_next, Rested, Came_to}
 use Rattle.m3_machine.specs.RunCalls.{At_turn, ended_by, Turned, IsReady, Ran}

@@ -7,8 +7,8 @@ use Rattle.m3_isa.specs.declared.instructions.Instr.{Instr}
 use Rattle.m3_heap.specs.declared.store.Store.{Ghosts}
 use Rattle.m3_threads.specs.declared.status.Thread.{Thread}
 use Rattle.m3_threads.specs.Going.{IsAwake}
-use Rattle.m3_new_cells.specs.declared.parts.Parts.{Parts}
-use Rattle.m3_new_cells.specs.Seen.{IsGoing, Running}
+use Rattle.m3_run_state.specs.declared.parts.Parts.{Parts}
+use Rattle.m3_run_state.specs.Seen.{IsGoing, Running}
 
 -- the thread runs and is awake, the instruction isn't plain, there is room in the counts of forks and waits, and no
 -- collection ended in trap 9

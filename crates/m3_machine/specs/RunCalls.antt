@@ -4,17 +4,17 @@ use Rattle.m3_base.specs.declared.outcomes.Entry.{Entry}
 use Rattle.m3_base.specs.declared.outcomes.Outcome.{Outcome}
 use Rattle.m3_heap.specs.Heap.{Heap}
 use Rattle.m3_heap.specs.declared.store.Store.{Ghosts}
-use Rattle.m3_sections.specs.Parts.{Program}
-use Rattle.m3_strides.specs.declared.progress.Progress.{Progress as Answer}
-use Rattle.m3_strides.specs.declared.progress.Progress.TheVariants.{Ends}
-use Rattle.m3_strides.specs.State.{State}
-use Rattle.m3_strides.specs.Points.{later_entries}
-use Rattle.m3_strides.specs.Runs.{Begins, At_point, Over, Leads, starting}
-use Rattle.m3_strides.specs.Leading.{Track, LeadsTo, config}
-use Rattle.m3_turns.specs.Courses.{IsOther}
-use Rattle.m3_turns.specs.Standing.{AllAtPoints}
-use Rattle.m3_new_cells.specs.declared.parts.Parts.{Parts}
-use Rattle.m3_new_cells.specs.Seen.{state_of, program_of, IsGoing}
+use Rattle.m3_image_sections.specs.Parts.{Program}
+use Rattle.m3_run_meaning.specs.declared.progress.Progress.{Progress as Answer}
+use Rattle.m3_run_meaning.specs.declared.progress.Progress.TheVariants.{Ends}
+use Rattle.m3_run_meaning.specs.State.{State}
+use Rattle.m3_run_meaning.specs.Points.{later_entries}
+use Rattle.m3_run_meaning.specs.Runs.{Begins, At_point, Over, Leads, starting}
+use Rattle.m3_run_loop.specs.Leading.{Track, LeadsTo, config}
+use Rattle.m3_run_laws.specs.Courses.{IsOther}
+use Rattle.m3_run_laws.specs.Standing.{AllAtPoints}
+use Rattle.m3_run_state.specs.declared.parts.Parts.{Parts}
+use Rattle.m3_run_state.specs.Seen.{state_of, program_of, IsGoing}
 
 -- between two turns, with so many points left
 pub record At_turn {S : Type 0} {g : Ghosts S} (p : Program) (k : Track) (left : ℕ) (m : Parts S g) : Type 0 where

@@ -5,18 +5,18 @@ use Rattle.m3_isa.specs.Instructions.{is_plain, is_point}
 use Rattle.m3_isa.specs.declared.instructions.Instr.{Instr}
 use Rattle.m3_heap.specs.declared.store.Store.{Ghosts}
 use Rattle.m3_threads.specs.declared.status.Thread.{Thread}
-use Rattle.m3_sections.specs.Parts.{Program}
-use Rattle.m3_strides.specs.declared.halts.Halt.{Halt}
-use Rattle.m3_strides.specs.declared.halts.Halt.TheVariants.{Trapped}
-use Rattle.m3_strides.specs.declared.progress.Progress.{Progress as Answer}
-use Rattle.m3_strides.specs.declared.progress.Progress.TheVariants.{Goes, Rests, Ends}
-use Rattle.m3_strides.specs.State.{State}
-use Rattle.m3_strides.specs.Runs.{At_point, Over, turn_limit}
-use Rattle.m3_strides.specs.Leading.{Track, LeadsTo, Went, Enters}
-use Rattle.m3_turns.specs.Standing.{BeginsAtPoints}
-use Rattle.m3_turns.specs.Courses.{SoundTurn, IsOther, IsSound}
-use Rattle.m3_new_cells.specs.declared.parts.Parts.{Parts}
-use Rattle.m3_new_cells.specs.Seen.{state_of, program_of, Running}
+use Rattle.m3_image_sections.specs.Parts.{Program}
+use Rattle.m3_run_loop.specs.declared.halts.Halt.{Halt}
+use Rattle.m3_run_loop.specs.declared.halts.Halt.TheVariants.{Trapped}
+use Rattle.m3_run_meaning.specs.declared.progress.Progress.{Progress as Answer}
+use Rattle.m3_run_meaning.specs.declared.progress.Progress.TheVariants.{Goes, Rests, Ends}
+use Rattle.m3_run_meaning.specs.State.{State}
+use Rattle.m3_run_meaning.specs.Runs.{At_point, Over, turn_limit}
+use Rattle.m3_run_loop.specs.Leading.{Track, LeadsTo, Went, Enters}
+use Rattle.m3_run_laws.specs.Standing.{BeginsAtPoints}
+use Rattle.m3_run_laws.specs.Courses.{SoundTurn, IsOther, IsSound}
+use Rattle.m3_run_state.specs.declared.parts.Parts.{Parts}
+use Rattle.m3_run_state.specs.Seen.{state_of, program_of, Running}
 use Rattle.m3_machine.specs.declared.runs.Turn.{Turn}
 
 -- what falls with each instruction, over points too: no turn has as many instructions as this

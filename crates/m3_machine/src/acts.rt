@@ -1,17 +1,17 @@
 ghost use Rattle.std.specs.Prelude.{◌≡◌, ◌<◌, ◌≤◌, ◌+◌, ◌-◌, ◌^◌, ℕ, true, false, [], Some, List};
 ghost use Rattle.std.specs.Prelude.{length, slice_get, OnOk, OnErr, IfOk};
 ghost use Rattle.m3_isa.specs.declared.instructions.Instr.{Instr as Instruction};
-ghost use Rattle.m3_strides.specs.State.{executed};
-ghost use Rattle.m3_strides.specs.Calls.{place_of};
-ghost use Rattle.m3_strides.specs.Steps.{Acts, Does};
+ghost use Rattle.m3_run_meaning.specs.State.{executed};
+ghost use Rattle.m3_run_meaning.specs.Calls.{place_of};
+ghost use Rattle.m3_run_meaning.specs.Steps.{Acts, Does};
 ghost use Rattle.m3_machine.specs.Deeds.{MayAct, IsSilent};
 ghost use Rattle.m3_isa.specs.Instructions.{IsInstruction, is_plain, is_point};
 ghost use Rattle.m3_ports.specs.Counts.{Rose};
 ghost use Rattle.m3_threads.specs.declared.status.Thread.{Thread};
-ghost use Rattle.m3_decoded.specs.Ready.{image_of};
-ghost use Rattle.m3_strides.specs.Progress.{Follows, became};
-ghost use Rattle.m3_strides.specs.Acts.{fault_kinds, faults_at, is_uncaught};
-ghost use Rattle.m3_new_cells.specs.Seen.{state_of, program_of, rest_of, goes_on, Running, Took};
+ghost use Rattle.m3_image_decoded.specs.Ready.{image_of};
+ghost use Rattle.m3_run_meaning.specs.Progress.{Follows, became};
+ghost use Rattle.m3_run_meaning.specs.Acts.{fault_kinds, faults_at, is_uncaught};
+ghost use Rattle.m3_run_state.specs.Seen.{state_of, program_of, rest_of, goes_on, Running, Took};
 
 use crate::calls::{call, method_for, return_back, tell_method, test_type};
 use crate::inputs::{get_byte, put_byte, put_number, tell_end, tell_self};
@@ -19,10 +19,10 @@ use crate::threading::{act_on_threads, end_thread};
 use m3_base::{FaultKind, Outcome};
 use m3_heap::Store;
 use m3_isa::{Instr, Op};
-use m3_new_cells::Parts;
 use m3_ports::{Sink, SinkFailed};
-use m3_strides::Progress;
-use m3_strides::near::{Place, before};
+use m3_run_meaning::Progress;
+use m3_run_meaning::near::{Place, before};
+use m3_run_state::Parts;
 
 /// The kind of fault of a number.
 fn kind_of(number: u8) -> Option<FaultKind>

@@ -1,20 +1,20 @@
 ghost use Rattle.std.specs.Prelude.{◌≡◌, ◌<◌, ◌≤◌, ◌^◌, length};
 ghost use Rattle.std.specs.Int.{cast_unsigned, w32};
 ghost use Rattle.m3_threads.specs.declared.status.Thread.{Thread};
-ghost use Rattle.m3_decoded.specs.Ready.{image_of};
-ghost use Rattle.m3_strides.specs.State.{memory_of, can_set};
-ghost use Rattle.m3_strides.specs.Act.{Act};
-ghost use Rattle.m3_strides.specs.Progress.{Follows, became};
-ghost use Rattle.m3_strides.specs.Calls.{stack_of, place_of, calls, method_called, returns};
-ghost use Rattle.m3_strides.specs.Calls.{tells_method, Tests_type};
-ghost use Rattle.m3_new_cells.specs.Seen.{state_of, program_of, rest_of, Running};
+ghost use Rattle.m3_image_decoded.specs.Ready.{image_of};
+ghost use Rattle.m3_run_meaning.specs.State.{memory_of, can_set};
+ghost use Rattle.m3_run_meaning.specs.Act.{Act};
+ghost use Rattle.m3_run_meaning.specs.Progress.{Follows, became};
+ghost use Rattle.m3_run_meaning.specs.Calls.{stack_of, place_of, calls, method_called, returns};
+ghost use Rattle.m3_run_meaning.specs.Calls.{tells_method, Tests_type};
+ghost use Rattle.m3_run_state.specs.Seen.{state_of, program_of, rest_of, Running};
 
 use m3_base::Outcome;
 use m3_heap::Store;
 use m3_isa::Instr;
-use m3_new_cells::Parts;
-use m3_strides::Progress;
-use m3_strides::near::{Place, called_method, enter, is_of_type, leave, method_of, truth};
+use m3_run_meaning::Progress;
+use m3_run_meaning::near::{Place, called_method, enter, is_of_type, leave, method_of, truth};
+use m3_run_state::Parts;
 
 /// CALL, CALLR and CALLM: a procedure that was found is called, by the running thread, which stands
 /// at a place.

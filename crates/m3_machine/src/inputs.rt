@@ -1,20 +1,20 @@
 ghost use Rattle.std.specs.Prelude.{◌≡◌, ◌<◌, ◌≤◌, nat_le, length, OnOk, OnErr, IfOk};
 ghost use Rattle.m3_ports.specs.Counts.{Rose};
 ghost use Rattle.m3_threads.specs.declared.status.Thread.{Thread};
-ghost use Rattle.m3_strides.specs.State.{memory_of};
-ghost use Rattle.m3_strides.specs.Act.{bytes_of};
-ghost use Rattle.m3_strides.specs.Progress.{Follows, became};
-ghost use Rattle.m3_strides.specs.Calls.{stack_of};
-ghost use Rattle.m3_strides.specs.Acts.{puts_number, puts_byte, gets, tells_end, tells_self};
-ghost use Rattle.m3_new_cells.specs.Seen.{state_of, program_of, rest_of, Running, Took};
+ghost use Rattle.m3_run_meaning.specs.State.{memory_of};
+ghost use Rattle.m3_run_meaning.specs.Act.{bytes_of};
+ghost use Rattle.m3_run_meaning.specs.Progress.{Follows, became};
+ghost use Rattle.m3_run_meaning.specs.Calls.{stack_of};
+ghost use Rattle.m3_run_meaning.specs.Acts.{puts_number, puts_byte, gets, tells_end, tells_self};
+ghost use Rattle.m3_run_state.specs.Seen.{state_of, program_of, rest_of, Running, Took};
 
 use itoa::Buffer;
 use m3_heap::Store;
 use m3_isa::{Instr, Words};
-use m3_new_cells::Parts;
 use m3_ports::{Sink, SinkFailed};
-use m3_strides::Progress;
-use m3_strides::near::truth;
+use m3_run_meaning::Progress;
+use m3_run_meaning::near::truth;
+use m3_run_state::Parts;
 
 /// PUTN: a signed number in decimal.
 pub(crate) fn put_number<S: Store, O: Sink>(

@@ -1,5 +1,5 @@
 //! The machine that runs images: it passes points, chooses threads, carries out their instructions
-//! and collects the heap. The definitions of its states, steps and runs are those of m3_strides.
+//! and collects the heap. Its states, steps and runs are defined in `m3_run_meaning`.
 #![tactic(auto)]
 
 mod acts;

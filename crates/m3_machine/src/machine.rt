@@ -1,5 +1,5 @@
 use m3_heap::Store;
-use m3_new_cells::Parts;
+use m3_run_state::Parts;
 
 /// A machine that runs an image: its words, the thread that went last, the place in the input, and
 /// how many points were passed, instructions executed and collections made.

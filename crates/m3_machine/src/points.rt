@@ -1,16 +1,16 @@
 ghost use Rattle.std.specs.Prelude.{◌≡◌, ◌<◌, ◌^◌, true, false, Some, None, slice_get, MatchOption};
 ghost use Rattle.m3_isa.specs.declared.instructions.Instr.{Instr as Instruction};
 ghost use Rattle.m3_threads.specs.declared.status.Thread.{Thread};
-ghost use Rattle.m3_strides.specs.Runs.{stands};
+ghost use Rattle.m3_run_meaning.specs.Runs.{stands};
 ghost use Rattle.m3_threads.specs.Going.{IsChoice, NoneGoes};
-ghost use Rattle.m3_strides.specs.State.{outside};
-ghost use Rattle.m3_strides.specs.Collecting.{Spoils};
-ghost use Rattle.m3_strides.specs.Points.{Collected_if, Chooses, StopsAtPoint, Says_spent};
-ghost use Rattle.m3_new_cells.specs.Seen.{state_of, program_of, rest_of, IsGoing, Running};
+ghost use Rattle.m3_run_meaning.specs.State.{outside};
+ghost use Rattle.m3_run_meaning.specs.Collecting.{Spoils};
+ghost use Rattle.m3_run_meaning.specs.Points.{Collected_if, Chooses, StopsAtPoint, Says_spent};
+ghost use Rattle.m3_run_state.specs.Seen.{state_of, program_of, rest_of, IsGoing, Running};
 
 use m3_base::{Entry, Outcome};
 use m3_heap::Store;
-use m3_new_cells::Parts;
+use m3_run_state::Parts;
 
 /// The running thread stands at the instruction that it has come to.
 pub(crate) fn stand<S: Store>(parts: &mut Parts<'_, S>)

@@ -1,7 +1,7 @@
 ghost use Rattle.std.specs.Prelude.{◌≡◌, slice_get};
 ghost use Rattle.m3_image.specs.Views.{image_view};
-ghost use Rattle.m3_decoded.specs.Ready.{image_of};
-ghost use Rattle.m3_new_cells.specs.Seen.{state_of};
+ghost use Rattle.m3_image_decoded.specs.Ready.{image_of};
+ghost use Rattle.m3_run_state.specs.Seen.{state_of};
 
 use crate::machine::Machine;
 use m3_heap::Store;

@@ -4,12 +4,12 @@ ghost use Rattle.m3_isa.specs.Instructions.{IsInstruction, is_point};
 ghost use Rattle.m3_threads.specs.declared.status.Thread.{Thread};
 ghost use Rattle.m3_threads.specs.declared.status.Status.TheVariants.{Ready};
 ghost use Rattle.m3_threads.specs.Going.{status_at_of};
-ghost use Rattle.m3_sections.specs.Parts.{Program};
-ghost use Rattle.m3_strides.specs.State.{State};
-ghost use Rattle.m3_strides.specs.Runs.{turn_limit as longest};
-ghost use Rattle.m3_strides.specs.Leading.{Track};
-ghost use Rattle.m3_strides.specs.declared.progress.Progress.TheVariants.{Goes};
-ghost use Rattle.m3_new_cells.specs.Seen.{state_of, program_of, rest_of, Running, Took};
+ghost use Rattle.m3_image_sections.specs.Parts.{Program};
+ghost use Rattle.m3_run_meaning.specs.State.{State};
+ghost use Rattle.m3_run_meaning.specs.Runs.{turn_limit as longest};
+ghost use Rattle.m3_run_loop.specs.Leading.{Track};
+ghost use Rattle.m3_run_meaning.specs.declared.progress.Progress.TheVariants.{Goes};
+ghost use Rattle.m3_run_state.specs.Seen.{state_of, program_of, rest_of, Running, Took};
 ghost use Rattle.m3_machine.specs.Turns.{to_come, and_put, Known, Between, Halts, Halted};
 ghost use Rattle.m3_machine.specs.Turns.{Acts_next, Comes_to, Came_to};
 ghost use Rattle.m3_ports.specs.Counts.{Rose};
@@ -17,10 +17,11 @@ ghost use Rattle.m3_ports.specs.Counts.{Rose};
 use crate::acts::act;
 use m3_heap::Store;
 use m3_isa::{Instr, Op};
-use m3_new_cells::Parts;
 use m3_ports::{Sink, SinkFailed};
-use m3_strides::near::Place;
-use m3_strides::{Halt, Pace, Progress, stride};
+use m3_run_loop::{Halt, Pace, stride};
+use m3_run_meaning::Progress;
+use m3_run_meaning::near::Place;
+use m3_run_state::Parts;
 use m3_threads::Status;
 
 /// Whether a thread that stands at such an instruction may have to wait.
@@ -35,7 +36,7 @@ fn may_wait(op: Op) -> bool
 
 /// How far a turn has come: how many instructions it has had, and how many points may be passed
 /// without a choice.
-#[derive(Clone, Copy, Debug)]
+#[derive(Clone, Copy)]
 pub(crate) struct Turn {
     pub(crate) done: u64,
     pub(crate) points: u64,

@@ -1,21 +1,21 @@
 ghost use Rattle.m3_image.specs.Views.{image_view};
 ghost use Rattle.std.specs.Prelude.{◌≡◌, ◌≤◌, ◌<◌, ◌+◌, ◌*◌, ◌^◌, ℕ, [], false, length, replicate};
 ghost use Rattle.std.specs.Prelude.{slice_get, slice_set, Some, IfOk};
-ghost use Rattle.m3_sections.specs.Parts.{CellType};
-ghost use Rattle.m3_strides.specs.State.{first_globals as globals_at_start};
-ghost use Rattle.m3_strides.specs.Runs.{Begins};
+ghost use Rattle.m3_image_sections.specs.Parts.{CellType};
+ghost use Rattle.m3_run_meaning.specs.State.{first_globals as globals_at_start};
+ghost use Rattle.m3_run_meaning.specs.Runs.{Begins};
 ghost use Rattle.m3_machine.specs.RunCalls.{IsReady};
-ghost use Rattle.m3_new_cells.specs.Seen.{state_of, program_of};
+ghost use Rattle.m3_run_state.specs.Seen.{state_of, program_of};
 
 use crate::machine::Machine;
 use crate::points::stand;
 use m3_base::NoMemory;
-use m3_decoded::Decoded;
 use m3_heap::{Closed, Store};
 use m3_image::ImageView;
-use m3_memory::{Memory, Outside};
-use m3_new_cells::Parts;
+use m3_image_decoded::Decoded;
 use m3_roots::Room;
+use m3_run_memory::{Memory, Outside};
+use m3_run_state::Parts;
 use m3_threads::Threads;
 use std::alloc::Global;
 

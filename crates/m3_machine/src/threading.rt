@@ -5,19 +5,19 @@ ghost use Rattle.m3_threads.specs.declared.status.Thread.{Thread};
 ghost use Rattle.m3_threads.specs.Going.{IsAwake};
 ghost use Rattle.m3_isa.specs.Instructions.{IsInstruction};
 ghost use Rattle.m3_isa.specs.declared.instructions.Op.TheVariants.{Endt};
-ghost use Rattle.m3_memory.specs.Addresses.{outside_of, settable_of};
-ghost use Rattle.m3_memory.specs.Kept.{KeepsOutside};
-ghost use Rattle.m3_strides.specs.State.{outside, settable, with_all, HasOtherWords};
-ghost use Rattle.m3_strides.specs.Progress.{Goes, became};
-ghost use Rattle.m3_strides.specs.OnThreads.{answer_of, answer_of_end, Acts_on_threads, On_threads};
-ghost use Rattle.m3_new_cells.specs.Seen.{state_of, program_of, rest_of, Running};
+ghost use Rattle.m3_run_memory.specs.Addresses.{outside_of, settable_of};
+ghost use Rattle.m3_run_memory.specs.Kept.{KeepsOutside};
+ghost use Rattle.m3_run_meaning.specs.State.{outside, settable, with_all, HasOtherWords};
+ghost use Rattle.m3_run_meaning.specs.Progress.{Goes, became};
+ghost use Rattle.m3_run_meaning.specs.OnThreads.{answer_of, answer_of_end, Acts_on_threads, On_threads};
+ghost use Rattle.m3_run_state.specs.Seen.{state_of, program_of, rest_of, Running};
 
 use m3_base::Outcome;
 use m3_heap::Store;
 use m3_isa::{Instr, Op};
-use m3_memory::Outside;
-use m3_new_cells::Parts;
-use m3_strides::Progress;
+use m3_run_meaning::Progress;
+use m3_run_memory::Outside;
+use m3_run_state::Parts;
 use m3_threads::{Done, Threads};
 
 /// The thread goes on, or it rests since it sleeps; or the instruction trapped.

@@ -1,13 +1,13 @@
 ghost use Rattle.std.specs.Prelude.{◌≡◌, ◌≤◌, ◌<◌, ◌+◌, ◌^◌, ℕ, List, [], None, OnOk, OnErr, IfOk};
 ghost use Rattle.std.specs.Prelude.{Ok};
 ghost use Rattle.m3_base.specs.declared.outcomes.Outcome.TheVariants.{Spent};
-ghost use Rattle.m3_sections.specs.Parts.{Program};
-ghost use Rattle.m3_strides.specs.State.{State};
-ghost use Rattle.m3_strides.specs.Points.{first_entry as first_of, later_entries as later_of};
-ghost use Rattle.m3_strides.specs.Runs.{turn_limit as longest};
-ghost use Rattle.m3_strides.specs.Leading.{Track};
-ghost use Rattle.m3_turns.specs.Standing.{BeginsAtPoints};
-ghost use Rattle.m3_new_cells.specs.Seen.{state_of, program_of, rest_of, Took};
+ghost use Rattle.m3_image_sections.specs.Parts.{Program};
+ghost use Rattle.m3_run_meaning.specs.State.{State};
+ghost use Rattle.m3_run_meaning.specs.Points.{first_entry as first_of, later_entries as later_of};
+ghost use Rattle.m3_run_meaning.specs.Runs.{turn_limit as longest};
+ghost use Rattle.m3_run_loop.specs.Leading.{Track};
+ghost use Rattle.m3_run_laws.specs.Standing.{BeginsAtPoints};
+ghost use Rattle.m3_run_state.specs.Seen.{state_of, program_of, rest_of, Took};
 ghost use Rattle.m3_machine.specs.Turns.{Known};
 ghost use Rattle.m3_machine.specs.RunCalls.{At_turn, ended_by, Turned, IsReady, Ran};
 ghost use Rattle.m3_ports.specs.Counts.{Rose};
@@ -17,9 +17,9 @@ use crate::points::{pass_point, spent};
 use crate::runs::{Turn, take_turn};
 use m3_base::{Entry, Outcome};
 use m3_heap::Store;
-use m3_new_cells::Parts;
 use m3_ports::{Sink, SinkFailed};
-use m3_strides::Progress;
+use m3_run_meaning::Progress;
+use m3_run_state::Parts;
 
 /// Past its last entry a schedule names no thread and asks for no collection.
 fn first_entry(entries: &[Entry]) -> Entry

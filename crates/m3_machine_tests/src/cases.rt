@@ -1,7 +1,7 @@
 use crate::assembly::Assembly;
 use crate::images::image_of;
 use crate::runs::answer_of_run;
-use m3_trial::Tally;
+use m3_test_tables::Tally;
 use std::alloc::{AllocError, Global};
 use std::io;
 

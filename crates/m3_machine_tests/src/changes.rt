@@ -1,7 +1,7 @@
 //! Changes of the smallest image.
 use crate::runs::answer_of_run;
 use crate::smallest::SMALLEST;
-use m3_trial::Tally;
+use m3_test_tables::Tally;
 use std::alloc::{AllocError, Global};
 use std::io;
 

@@ -1,7 +1,7 @@
 use m3_base::NoMemory;
-use m3_command_line::{Request, RunOptions, read_words};
-use m3_image_commands::{run_image, tell};
 use m3_ports::{MemShelf, MemSink, Shelf};
+use m3c_image_commands::{run_image, tell};
+use m3c_words::{Request, RunOptions, read_words};
 use std::alloc::{AllocError, Global};
 
 /// The status and the line on err of `run` of an image, and behind ` / ` its output where there is

@@ -1,7 +1,7 @@
 use crate::ops::Operand;
 
 /// What is called.
-#[derive(Clone, Copy, Debug, PartialEq, Eq)]
+#[derive(Clone, Copy, PartialEq, Eq)]
 pub enum Callee {
     /// A procedure of the outermost scope of a unit, by its number in the program.
     Outermost(u32),
@@ -15,7 +15,7 @@ pub enum Callee {
 }
 
 /// What becomes the next words of the callee's formals.
-#[derive(Clone, Copy, Debug, PartialEq, Eq)]
+#[derive(Clone, Copy, PartialEq, Eq)]
 pub enum Actual {
     /// One word: a number or a tidy pointer.
     Word(Operand),
@@ -28,7 +28,7 @@ pub enum Actual {
 /// The temporaries that tell by which exception a call was left: its place in the program's list
 /// and 1 more, or 0 where it returned; and its argument, as a number or as a tidy pointer, the
 /// other being 0.
-#[derive(Clone, Copy, Debug, PartialEq, Eq)]
+#[derive(Clone, Copy, PartialEq, Eq)]
 pub struct Raised {
     pub exception: u32,
     pub number: u32,
@@ -37,7 +37,7 @@ pub struct Raised {
 
 /// The services of the machine, by their operands and results. A text, a mutex, a condition, a
 /// thread or a closure that is an operand isn't NIL.
-#[derive(Clone, Copy, Debug, PartialEq, Eq)]
+#[derive(Clone, Copy, PartialEq, Eq)]
 pub enum Service {
     /// Puts a text.
     Put,

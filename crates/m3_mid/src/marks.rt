@@ -1,12 +1,12 @@
 /// A variable that is shown at a point: its place among the procedure's shown variables, and where
 /// its value is.
-#[derive(Clone, Copy, Debug, PartialEq, Eq)]
+#[derive(Clone, Copy, PartialEq, Eq)]
 pub struct Shown {
     pub var: u32,
     pub at: Held,
 }
 
-#[derive(Clone, Copy, Debug, PartialEq, Eq)]
+#[derive(Clone, Copy, PartialEq, Eq)]
 pub enum Held {
     Temp(u32),
     Slot(u32),
@@ -24,7 +24,7 @@ pub struct ForMark<'a> {
 
 /// An access to an element of an array that a FOR goes along: the operation that gives its address,
 /// the temporary of the array variable, and the words of an element.
-#[derive(Clone, Copy, Debug, PartialEq, Eq)]
+#[derive(Clone, Copy, PartialEq, Eq)]
 pub struct AccessMark {
     pub block: u32,
     pub op: u32,

@@ -3,14 +3,14 @@ use crate::marks::Shown;
 use m3_base::{FaultKind, Pos};
 
 /// A temporary, or a number.
-#[derive(Clone, Copy, Debug, PartialEq, Eq)]
+#[derive(Clone, Copy, PartialEq, Eq)]
 pub enum Operand {
     Temp(u32),
     Number(i64),
 }
 
 /// A word of memory.
-#[derive(Clone, Copy, Debug, PartialEq, Eq)]
+#[derive(Clone, Copy, PartialEq, Eq)]
 pub enum MemoryWord {
     /// A slot of the own frame.
     Slot(u32),
@@ -187,7 +187,7 @@ pub enum MidOp<'a> {
 }
 
 /// Operators on words, which set a result for all words.
-#[derive(Clone, Copy, Debug, PartialEq, Eq)]
+#[derive(Clone, Copy, PartialEq, Eq)]
 pub enum WordOperator {
     Add,
     Subtract,
@@ -201,7 +201,7 @@ pub enum WordOperator {
 }
 
 /// Operators that may fault.
-#[derive(Clone, Copy, Debug, PartialEq, Eq)]
+#[derive(Clone, Copy, PartialEq, Eq)]
 pub enum CheckedOperator {
     Add,
     Subtract,
@@ -215,7 +215,7 @@ pub enum CheckedOperator {
 }
 
 /// A relation between two words, read as integers, or without a sign where it says so.
-#[derive(Clone, Copy, Debug, PartialEq, Eq)]
+#[derive(Clone, Copy, PartialEq, Eq)]
 pub enum Relation {
     Equal,
     NotEqual,

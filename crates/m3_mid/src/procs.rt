@@ -3,7 +3,7 @@ use crate::ops::{MidOp, Operand, Relation};
 use m3_base::{FaultKind, Pos};
 
 /// What a word is to a collector (Diwan, Moss and Hudson, PLDI 1992).
-#[derive(Clone, Copy, Debug, PartialEq, Eq)]
+#[derive(Clone, Copy, PartialEq, Eq)]
 pub enum Kind {
     /// No pointer: a number, or an address in a stack, the globals or the constants.
     Number,
@@ -30,7 +30,7 @@ pub struct Proc<'a> {
 
 /// A word of the frame. Its kind is Address only where it is the address of a formal by reference,
 /// which the caller describes; the word behind that one is the base of the address, or 0.
-#[derive(Clone, Copy, Debug, PartialEq, Eq)]
+#[derive(Clone, Copy, PartialEq, Eq)]
 pub struct Slot {
     pub kind: Kind,
     /// Whether its address is taken, or an inner procedure reaches it; then it may change at each

@@ -1,6 +1,6 @@
 use crate::programs::Lowering;
 use m3_base::Source;
-use m3_trial::{CaseFile, Tally, Trial};
+use m3_test_tables::{CaseFile, Tally, Trial};
 use std::rt::Files;
 use std::{fs, io};
 

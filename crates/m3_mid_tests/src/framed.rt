@@ -1,6 +1,6 @@
 use crate::lowering::{Question, answer_to};
 use m3_base::Source;
-use m3_trial::Tally;
+use m3_test_tables::Tally;
 use std::alloc::{AllocError, Global};
 use std::rt::Files;
 use std::{fs, io};

@@ -1,6 +1,6 @@
 use bumpalo::Bump;
-use m3_assembly::build;
 use m3_base::NoMemory;
+use m3_build::build;
 use m3_core::Core;
 use m3_source::image_size;
 use std::alloc::Global;

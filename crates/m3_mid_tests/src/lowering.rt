@@ -8,10 +8,10 @@ use m3_base::{NoMemory, Source, place_number};
 use m3_checker::check;
 use m3_core::Core;
 use m3_lower_stmt::lower_proc;
+use m3_lower_storage::Storage;
 use m3_mid::Proc;
 use m3_mid_text::Text;
-use m3_storage::Storage;
-use m3_trial::{copies, refused_text};
+use m3_test_tables::{copies, refused_text};
 use std::alloc::{AllocError, Global};
 
 /// What is asked of a program.

@@ -15,7 +15,7 @@ mod stops;
 
 use examples::try_examples;
 use framed::{try_orders, try_pairs};
-use m3_trial::try_all;
+use m3_test_tables::try_all;
 use programs::Lowering;
 use std::io;
 use std::rt::{Env, Files};

@@ -1,6 +1,6 @@
 use crate::lowering::{Question, answer_to};
 use m3_base::Source;
-use m3_trial::Trial;
+use m3_test_tables::Trial;
 use std::alloc::{AllocError, Global};
 
 /// Tries what is lowered of a program. A case asks for the middle code of a procedure by

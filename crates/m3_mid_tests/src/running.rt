@@ -3,13 +3,13 @@ use bumpalo::Bump;
 use bumpalo::collections::into_bump_slice;
 use m3_base::{NoMemory, place_number};
 use m3_core::Core;
-use m3_image_parts::{Constants, type_parts};
+use m3_gen_parts::{Constants, type_parts};
 use m3_image_writer::TypePart;
+use m3_lower_storage::Storage;
 use m3_mid::Proc;
 use m3_mid_run::{CellType, Ending, Program, run};
 use m3_mid_text::Text;
 use m3_mid_valid::{Surroundings, is_block, is_valid};
-use m3_storage::Storage;
 use std::alloc::Global;
 
 /// The most steps of a run.

@@ -1,4 +1,5 @@
-use m3_scopes::{EntityKind, Linker};
+use m3_base::rules;
+use m3_link_scopes::{EntityKind, Linker};
 
 /// Refuses each head of a given interface that has a body nowhere (rule 32).
 pub fn judge_bodies(linker: &mut Linker<'_>) {
@@ -17,6 +18,6 @@ fn judge_body(linker: &mut Linker<'_>, place: usize) {
         && linker.is_in_interface()
         && !entity.has_body;
     if is_head && entity.body.is_none() {
-        linker.note(entity.pos, 32);
+        linker.note(entity.pos, rules::PROCEDURE_WITHOUT_BODY);
     }
 }

@@ -1,5 +1,5 @@
-use m3_base::{NoMemory, place_number};
-use m3_scopes::Linker;
+use m3_base::{NoMemory, place_number, rules};
+use m3_link_scopes::Linker;
 use m3_syntax::{Import, Name, Unit};
 use std::alloc::Global;
 
@@ -130,6 +130,6 @@ fn judge_import<'a>(linker: &mut Linker<'a>, reach: &Reachability, interface: Na
     };
     let is_cycle = target == linker.unit || reach.has(target, linker.unit);
     if is_cycle && is_given_interface(linker, target) {
-        linker.note(interface.pos, 22);
+        linker.note(interface.pos, rules::IMPORT_CYCLE);
     }
 }

@@ -1,11 +1,12 @@
 use crate::bodies::judge_bodies;
+use crate::cycles::judge_imports;
 use crate::mains::main_module;
+use crate::order::body_order;
 use crate::reveals::judge_reveals;
 use m3_base::{NoMemory, Refused};
-use m3_outermost::{add_infos, declare_units, judge_units, walk_units};
-use m3_scopes::{Linked, Linker, Program};
+use m3_link_scopes::{Linked, Linker, Program};
+use m3_link_unit_scopes::{add_infos, declare_units, judge_units, walk_units};
 use m3_syntax::Unit;
-use m3_unit_order::{body_order, judge_imports};
 use std::alloc::Global;
 
 /// Links the units of a program. `units` are those that generics were written out in, `given` those

@@ -1,5 +1,5 @@
-use m3_base::{Pos, Refusal};
-use m3_scopes::Linker;
+use m3_base::{Pos, Refusal, rules};
+use m3_link_scopes::Linker;
 
 /// The built-in interface Main, by its place in the units.
 fn main_interface(linker: &Linker<'_>) -> Option<u32> {
@@ -54,7 +54,7 @@ fn note_no_main(linker: &mut Linker<'_>) {
             line: 1,
             col: 1,
         },
-        rule: 26,
+        rule: rules::NO_MAIN_MODULE,
     });
 }
 
@@ -72,6 +72,6 @@ fn note_second_main(linker: &mut Linker<'_>, place: usize) {
     };
     if let Ok(number) = u32::try_from(place) {
         linker.unit = number;
-        linker.note(pos, 27);
+        linker.note(pos, rules::TWO_MAIN_MODULES);
     }
 }

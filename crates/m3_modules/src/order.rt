@@ -1,6 +1,6 @@
 use crate::cycles::Reachability;
 use m3_base::{NoMemory, place_number};
-use m3_scopes::UnitInfo;
+use m3_link_scopes::UnitInfo;
 use std::alloc::Global;
 
 /// The modules in the order in which their bodies run: next is always the earliest in command order

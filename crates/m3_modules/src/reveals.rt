@@ -1,5 +1,5 @@
-use m3_base::Pos;
-use m3_scopes::{Declaration, Entity, EntityId, EntityKind, Linker, Revealed};
+use m3_base::{Pos, rules};
+use m3_link_scopes::{Declaration, Entity, EntityId, EntityKind, Linker, Revealed};
 use m3_syntax::{Qualid, Revelation, TypeDecl, TypeExp, TypeName};
 
 /// What a qualified name of a unit stands for, which was walked before.
@@ -75,7 +75,7 @@ fn judge_reveal(linker: &mut Linker<'_>, place: usize) {
     linker.unit = revealed.unit;
     let Some(opaque) = given_opaque(linker, &revealed) else {
         if is_known(linker, &revealed) {
-            linker.note(revealed.pos, 35);
+            linker.note(revealed.pos, rules::NOT_AN_OPAQUE_TYPE);
         }
         return;
     };
@@ -132,7 +132,7 @@ fn reveal_fully(linker: &mut Linker<'_>, opaque: EntityId, place: usize, pos: Po
         None => None,
     };
     if first.is_some() {
-        linker.note(pos, 31);
+        linker.note(pos, rules::TWO_FULL_REVELATIONS);
         return;
     }
     let Ok(place) = u32::try_from(place) else {
@@ -149,6 +149,6 @@ fn judge_opaque(linker: &mut Linker<'_>, place: usize) {
     };
     if entity.kind == EntityKind::Opaque && entity.revealed.is_none() {
         linker.unit = entity.unit;
-        linker.note(entity.pos, 30);
+        linker.note(entity.pos, rules::NO_FULL_REVELATION);
     }
 }

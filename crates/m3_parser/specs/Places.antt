@@ -2,7 +2,7 @@
 use Rattle.std.specs.Prelude.{List}
 use Rattle.m3_syntax.specs.declared.tokens.Token.{Token}
 use Rattle.m3_syntax.specs.declared.units.Unit as units
-use Rattle.m3_stops.specs.Refusals.{IsPlaceOfToken, IsPlaceOfName}
+use Rattle.m3_read_cursor.specs.Refusals.{IsPlaceOfToken, IsPlaceOfName}
 
 -- its own, that of its name, and that of the name that closes it
 pub record HasPlaces (tokens : List Token) (unit : units.Unit) : Type 0 where

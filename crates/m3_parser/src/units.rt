@@ -1,14 +1,15 @@
 ghost use Rattle.std.specs.Prelude.{◌≡◌, ◌<◌, ◌≤◌, IfOk, IfErr, OnOk, OnSome, None, List, length};
 ghost use Rattle.m3_syntax.specs.declared.tokens.Token.{Token};
-ghost use Rattle.m3_cursor.specs.Readers.{Follows, IsRest};
+ghost use Rattle.m3_read_cursor.specs.Readers.{Follows, IsRest};
 ghost use Rattle.m3_parser.specs.Places.{HasPlaces};
-ghost use Rattle.m3_stops.specs.Refusals.{IsRefusal};
+ghost use Rattle.m3_read_cursor.specs.Refusals.{IsRefusal};
 
 use bumpalo::Bump;
 use m3_base::{NoMemory, Refused};
-use m3_cursor::{FirstWords, Reader, closing_name, name_list, names_between, unit_heading};
-use m3_statements::{block, declaration_list};
-use m3_stops::{counted, refusal_of};
+use m3_read_cursor::{
+    FirstWords, Reader, closing_name, counted, name_list, names_between, refusal_of, unit_heading,
+};
+use m3_read_statements::{block, declaration_list};
 use m3_syntax::{Block, Import, ImportItem, Kept, Lexed, Name, Sign, Unit, UnitKind, Word};
 use std::alloc::Global;
 

@@ -1,7 +1,10 @@
 //! Lexes and parses a text of a given number of MiB, in files of one MiB each, and prints how many
-//! tokens they have. An argument gives the number; without one it is 8.
+//! tokens and safe units they have. An argument gives the number; without one it is 8.
 #![tactic(auto)]
 
+mod owner;
+
+use crate::owner::count_safe;
 use bumpalo::Bump;
 use m3_base::Refused;
 use m3_lexer::lex;
@@ -35,19 +38,21 @@ fn module(alloc: Global) -> Result<String, AllocError> {
     Ok(text)
 }
 
-/// How many tokens a text has, where it is a unit, or the rule that it breaks.
-fn tokens_of<'a>(
+/// How many tokens and how many safe units a text has, where it is a unit, or the rule that it
+/// breaks.
+fn counts_of<'a>(
     alloc: Global,
     arena: &'a Bump,
     file: u32,
     text: &'a [u8],
-) -> Result<u32, Refused> {
+) -> Result<(u32, usize), Refused> {
     if text.len() >= 4_000_000_000 {
-        return Ok(0);
+        return Ok((0, 0));
     }
     let lexed = lex(alloc, file, text)?;
     let unit = parse(alloc, arena, &lexed)?;
-    Ok(unit.tokens)
+    let safe = count_safe(alloc, &[unit])?;
+    Ok((unit.tokens, safe))
 }
 
 fn run(rt: &(impl Print + Env + AllocGlobal)) -> io::Result<()> {
@@ -61,13 +66,17 @@ fn run(rt: &(impl Print + Env + AllocGlobal)) -> io::Result<()> {
     let arena = &owner;
     let text = &*arena.try_alloc_slice_copy(text.as_bytes())?;
     let mut tokens = 0u64;
+    let mut safe = 0usize;
     for file in 0..files {
-        match tokens_of(rt.alloc(), arena, file, text) {
-            Ok(count) => tokens = tokens.saturating_add(u64::from(count)),
+        match counts_of(rt.alloc(), arena, file, text) {
+            Ok((more_tokens, more_units)) => {
+                tokens = tokens.saturating_add(u64::from(more_tokens));
+                safe = safe.saturating_add(more_units);
+            }
             Err(_) => println!(rt; "file {file} is refused")?,
         }
     }
-    println!(rt; "{files} files, {tokens} tokens")
+    println!(rt; "{files} files, {tokens} tokens, {safe} safe units")
 }
 
 fn main(rt: HostRuntime) -> io::Result<()> {

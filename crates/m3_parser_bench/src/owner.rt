@@ -1,6 +1,5 @@
 //! A function that owns units and lets them go on an early exit: its check measures what a crate
 //! pays that holds trees.
-#![tactic(auto)]
 
 ghost use Rattle.std.specs.Prelude.{◌≤◌, IfOk, length};
 

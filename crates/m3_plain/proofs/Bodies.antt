@@ -10,13 +10,13 @@ use Rattle.m3_isa.specs.declared.instructions.Instr.{Instr}
 use Rattle.m3_isa.specs.Instructions.{IsInstruction}
 use Rattle.m3_base.specs.Words.{signed_of}
 use Rattle.m3_isa.specs.Effects.{signed}
-use Rattle.m3_build.specs.declared.plain.Arith.{Arith}
-use Rattle.m3_build.specs.declared.plain.Arith.TheVariants.{Add, Sub, Mul}
-use Rattle.m3_build.specs.Terms.{Term, Number, Apply, Value, Gives, Overflows, AreIntegers, value_of, nodes, all_nodes, put_first, ended_by, values_of, outcome_of}
-use Rattle.m3_build.specs.Machine.{State, Progress, GoesOn, Ends, Lacks, counted, passed, step, and_then, run, start, Puts}
-use Rattle.m3_build.specs.Code.{on_first, alone, operation, number_code, apply_code, code_size, operators, term_code, term_lines, puts_code, puts_lines, body_code}
-use Rattle.m3_build.proofs.CodeShape.{length-term_code, length-term_lines, code_size_le}
-use Rattle.m3_build.proofs.Runs.{HasAt, has_front, has_back, has_all, signed_word, Ready, next_pc, Halts, fetched, one, last_one, on, halts_on, halts_more, Runs, term_runs}
+use Rattle.m3_plain.specs.declared.plain.Arith.{Arith}
+use Rattle.m3_plain.specs.declared.plain.Arith.TheVariants.{Add, Sub, Mul}
+use Rattle.m3_plain.specs.Terms.{Term, Number, Apply, Value, Gives, Overflows, AreIntegers, value_of, nodes, all_nodes, put_first, ended_by, values_of, outcome_of}
+use Rattle.m3_plain.specs.Machine.{State, Progress, GoesOn, Ends, Lacks, counted, passed, step, and_then, run, start, Puts}
+use Rattle.m3_plain.specs.Code.{on_first, alone, operation, number_code, apply_code, code_size, operators, term_code, term_lines, puts_code, puts_lines, body_code}
+use Rattle.m3_plain.proofs.CodeShape.{length-term_code, length-term_lines, code_size_le}
+use Rattle.m3_plain.proofs.Runs.{HasAt, has_front, has_back, has_all, signed_word, Ready, next_pc, Halts, fetched, one, last_one, on, halts_on, halts_more, Runs, term_runs}
 
 -- each number in each put is an integer
 abbrev pub AllIntegers : List Term → Type 0

@@ -3,12 +3,12 @@ use Rattle.std.proofs.Common.{◌≡◌, ℕ, ◌+◌, ◌*◌, ◌<◌, ◌≤�
 use Rattle.std.proofs.lemmas.List.{drop_more, drop_all}
 use Rattle.m3_isa.specs.declared.instructions.Op.TheVariants.{Putn, Endp}
 use Rattle.m3_isa.specs.declared.instructions.Instr.{Instr}
-use Rattle.m3_build.specs.declared.plain.Plain.{Plain}
-use Rattle.m3_build.specs.Terms.{Term, term_of, terms_of, all_nodes}
-use Rattle.m3_build.specs.Code.{alone, code_size, operators, term_code, term_lines, puts_code, puts_lines}
-use Rattle.m3_build.proofs.CodeShape.{code_size_le}
-use Rattle.m3_build.proofs.Bodies.{one_node, AllIntegers}
-use Rattle.m3_build.specs.Machine.{Puts}
+use Rattle.m3_plain.specs.declared.plain.Plain.{Plain}
+use Rattle.m3_plain.specs.Terms.{Term, term_of, terms_of, all_nodes}
+use Rattle.m3_plain.specs.Code.{alone, code_size, operators, term_code, term_lines, puts_code, puts_lines}
+use Rattle.m3_plain.proofs.CodeShape.{code_size_le}
+use Rattle.m3_plain.proofs.Bodies.{one_node, AllIntegers}
+use Rattle.m3_plain.specs.Machine.{Puts}
 
 pub rest_terms : (puts : List Plain) (i : ℕ) (put : Plain) → i < length puts → put ≡ get_or puts i put → terms_of (drop i puts) ≡ term_of put ∷ terms_of (drop (i + 1) puts)
 rest_terms puts i put h e = ap terms_of (drop_more puts i put h) ∙ ap (λ p. term_of p ∷ terms_of (drop (i + 1) puts)) (sym e)

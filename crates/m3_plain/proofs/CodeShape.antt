@@ -1,8 +1,8 @@
 -- How long the code of a term is.
 use Rattle.std.proofs.Common.{◌≡◌, ℕ, ◌+◌, ◌*◌, ◌≤◌, [], ◌∷◌, ◌++◌, length, refl, pos, arith, length-append}
-use Rattle.m3_build.specs.Terms.{Term, Number, Apply, nodes}
+use Rattle.m3_plain.specs.Terms.{Term, Number, Apply, nodes}
 use Rattle.m3_isa.specs.declared.instructions.Op.TheVariants.{Sts}
-use Rattle.m3_build.specs.Code.{on_first, code_size, operators, term_code, term_lines, apply_code}
+use Rattle.m3_plain.specs.Code.{on_first, code_size, operators, term_code, term_lines, apply_code}
 
 pub length-term_code : (t : Term) (at place depth : ℕ) → length (term_code at place depth t) ≡ code_size t
 length-term_code (Number n) at place depth = refl

@@ -1,14 +1,14 @@
 -- What the reader of statements finds is what the grammar says.
 use Rattle.std.proofs.Common.{◌≡◌, ℕ, ◌≤◌, ℤ, List, [], ◌∷◌, ◌++◌, length, Option, None, Some, refl, sym, ap, ◌∙◌, subst, inl, inr, ◌⊎◌, arith, append_assoc, append-nil, length-append}
-use Rattle.m3_build.specs.declared.plain.Arith.{Arith}
-use Rattle.m3_build.specs.declared.plain.Arith.TheVariants.{Add, Sub, Mul}
-use Rattle.m3_build.specs.declared.tokens.Kind.{Kind}
-use Rattle.m3_build.specs.declared.tokens.Kind.TheVariants.{Module, Main, Import, Io, Begin, End, PutInt, Semicolon, Dot, Open, Close, Operator, Literal}
-use Rattle.m3_build.specs.declared.tokens.Token.{Token}
-use Rattle.m3_build.specs.Terms.{Term, Number, Apply, nodes, all_nodes}
-use Rattle.m3_build.specs.PlainForm.{kinds, IsProduct, IsSum, IsStatement, IsBody, IsModule}
-use Rattle.m3_build.specs.Parsing.{After, literal_of, operator_of, Left, joined, left_after, product_after, with_literal, with_operator, with_line, sum_on, sum_at, operator_at, PutAt, IsEnd, Statements, Parses}
-use Rattle.m3_build.proofs.Parsings.{found_nothing, found_same, same_rest, same_put, sum_ends, end_begins, put_begins, header, io_end, semicolon_end}
+use Rattle.m3_plain.specs.declared.plain.Arith.{Arith}
+use Rattle.m3_plain.specs.declared.plain.Arith.TheVariants.{Add, Sub, Mul}
+use Rattle.m3_plain.specs.declared.tokens.Kind.{Kind}
+use Rattle.m3_plain.specs.declared.tokens.Kind.TheVariants.{Module, Main, Import, Io, Begin, End, PutInt, Semicolon, Dot, Open, Close, Operator, Literal}
+use Rattle.m3_plain.specs.declared.tokens.Token.{Token}
+use Rattle.m3_plain.specs.Terms.{Term, Number, Apply, nodes, all_nodes}
+use Rattle.m3_plain.specs.PlainForm.{kinds, IsProduct, IsSum, IsStatement, IsBody, IsModule}
+use Rattle.m3_plain.specs.Parsing.{After, literal_of, operator_of, Left, joined, left_after, product_after, with_literal, with_operator, with_line, sum_on, sum_at, operator_at, PutAt, IsEnd, Statements, Parses}
+use Rattle.m3_plain.proofs.Parsings.{found_nothing, found_same, same_rest, same_put, sum_ends, end_begins, put_begins, header, io_end, semicolon_end}
 
 -- ---- tokens of given kinds
 

@@ -3,8 +3,8 @@ use Rattle.std.proofs.Common.{◌≡◌, ℕ, ◌+◌, ◌-◌, ◌<◌, ◌≤�
 use Rattle.std.proofs.lemmas.List.{drop_more, take_more}
 use Rattle.std.specs.Char.{is_ascii_alphanumeric}
 use Rattle.std.proofs.lemmas.Bool.Decides.{nat_tests}
-use Rattle.m3_build.specs.declared.tokens.Token.{Token}
-use Rattle.m3_build.specs.Lexing.{with_open_word, with_byte, line_after, then_lexed, lexed}
+use Rattle.m3_plain.specs.declared.tokens.Token.{Token}
+use Rattle.m3_plain.specs.Lexing.{with_open_word, with_byte, line_after, then_lexed, lexed}
 
 -- a letter or a digit is one more of the word that is open
 pub lexes_letter : (tokens : List Token) (line start i : ℕ) (text : List ℕ) → start ≤ i → i < length text → is_ascii_alphanumeric (get_or text i 0) ≡ true

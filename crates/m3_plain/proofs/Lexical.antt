@@ -9,14 +9,14 @@ use Rattle.std.proofs.lemmas.Bool.{false≢true}
 use Rattle.std.proofs.lemmas.Bool.Decides.{nat_tests}
 use Rattle.std.proofs.lemmas.Slice.Eq.{bytes_eq-Decides}
 use Rattle.std.proofs.lemmas.List.Sums.{sum_by-cons}
-use Rattle.m3_build.specs.declared.plain.Arith.TheVariants.{Add, Sub, Mul}
-use Rattle.m3_build.specs.declared.tokens.Kind.{Kind}
-use Rattle.m3_build.specs.declared.tokens.Kind.TheVariants.{Module, Main, Import, Io, Begin, End, PutInt, Semicolon, Dot, Open, Close, Operator, Literal}
-use Rattle.m3_build.specs.declared.tokens.Token.{Token}
-use Rattle.m3_build.specs.PlainForm.{is_space, is_line_feed, number_of, IsLiteral, IsSpelled, begins_word, Begins, Spells}
-use Rattle.m3_build.specs.Lexing.{keyword, literal, word_kind, sign_kind, with_token, with_open_word, with_byte, line_after, then_lexed, lexed}
-use Rattle.m3_build.proofs.Numbers.{below}
-use Rattle.m3_build.proofs.Parsings.{found_nothing, found_same}
+use Rattle.m3_plain.specs.declared.plain.Arith.TheVariants.{Add, Sub, Mul}
+use Rattle.m3_plain.specs.declared.tokens.Kind.{Kind}
+use Rattle.m3_plain.specs.declared.tokens.Kind.TheVariants.{Module, Main, Import, Io, Begin, End, PutInt, Semicolon, Dot, Open, Close, Operator, Literal}
+use Rattle.m3_plain.specs.declared.tokens.Token.{Token}
+use Rattle.m3_plain.specs.PlainForm.{is_space, is_line_feed, number_of, IsLiteral, IsSpelled, begins_word, Begins, Spells}
+use Rattle.m3_plain.specs.Lexing.{keyword, literal, word_kind, sign_kind, with_token, with_open_word, with_byte, line_after, then_lexed, lexed}
+use Rattle.m3_plain.proofs.Numbers.{below}
+use Rattle.m3_plain.proofs.Parsings.{found_nothing, found_same}
 
 -- ---- tests
 

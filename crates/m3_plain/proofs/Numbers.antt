@@ -5,8 +5,8 @@ use Rattle.std.specs.Prelude.{fold, nat_lt}
 use Rattle.std.specs.List.{list_all}
 use Rattle.std.specs.Char.{is_ascii_digit}
 use Rattle.std.proofs.lemmas.Bool.Decides.{nat_tests}
-use Rattle.m3_build.specs.PlainForm.{number_of}
-use Rattle.m3_build.specs.Lexing.{literal}
+use Rattle.m3_plain.specs.PlainForm.{number_of}
+use Rattle.m3_plain.specs.Lexing.{literal}
 
 -- more digits make no smaller number
 pub number_ge : (ds : List ℕ) (n : ℕ) → n ≤ fold (λ n digit. 10 * n + (digit - 48)) n ds

@@ -3,14 +3,14 @@ use Rattle.std.specs.Prelude.{IsTrue, ◌↔◌}
 use Rattle.std.proofs.lemmas.Bool.{false≢true}
 use Rattle.std.proofs.Common.{Bool, true, false, ◌≡◌, ◌≢◌, ℕ, ◌+◌, ◌-◌, ◌<◌, ◌≤◌, ℤ, List, [], ◌∷◌, ◌++◌, length, get_or, take, drop, Option, None, Some, refl, sym, ap, ◌∙◌, subst, inl, inr, ◌⊎◌, arith, append_assoc, append-nil, length-take, length-drop}
 use Rattle.std.proofs.lemmas.List.{drop_more, take_rest}
-use Rattle.m3_build.specs.declared.plain.Arith.{Arith}
-use Rattle.m3_build.specs.declared.tokens.Kind.{Kind}
-use Rattle.m3_build.specs.declared.tokens.Kind.TheVariants.{Module, Main, Import, Io, Begin, End, PutInt, Semicolon, Dot, Open, Close}
-use Rattle.m3_build.specs.declared.tokens.Token.{Token}
+use Rattle.m3_plain.specs.declared.plain.Arith.{Arith}
+use Rattle.m3_plain.specs.declared.tokens.Kind.{Kind}
+use Rattle.m3_plain.specs.declared.tokens.Kind.TheVariants.{Module, Main, Import, Io, Begin, End, PutInt, Semicolon, Dot, Open, Close}
+use Rattle.m3_plain.specs.declared.tokens.Token.{Token}
 use Rattle.std.proofs.lemmas.List.{map-append}
-use Rattle.m3_build.specs.declared.plain.Plain.{Plain}
-use Rattle.m3_build.specs.Terms.{Term, Number, term_of, terms_of}
-use Rattle.m3_build.specs.Parsing.{After, literal_of, operator_of, Left, joined, with_rest, with_line, operator_at, left_after, product_after, with_literal, with_operator, sum_on, sum_at, literal_at, PutAt, IsEnd, Statements, Parses}
+use Rattle.m3_plain.specs.declared.plain.Plain.{Plain}
+use Rattle.m3_plain.specs.Terms.{Term, Number, term_of, terms_of}
+use Rattle.m3_plain.specs.Parsing.{After, literal_of, operator_of, Left, joined, with_rest, with_line, operator_at, left_after, product_after, with_literal, with_operator, sum_on, sum_at, literal_at, PutAt, IsEnd, Statements, Parses}
 
 abbrev none : Token
 none = record { kind = Module; line = 0 }

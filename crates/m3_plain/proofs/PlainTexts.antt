@@ -1,13 +1,13 @@
 -- The texts of the plain form are those that are read.
 use Rattle.std.proofs.Common.{◌≡◌, ℕ, ◌<◌, ◌≤◌, List, [], length, None, Some, sym, ◌∙◌, subst, arith}
-use Rattle.m3_build.specs.declared.tokens.Token.{Token}
-use Rattle.m3_build.specs.Terms.{Term, all_nodes}
-use Rattle.m3_build.specs.PlainForm.{IsModule, IsPlain}
-use Rattle.m3_build.specs.Lexing.{lexed}
-use Rattle.m3_build.specs.Parsing.{Parses}
-use Rattle.m3_build.proofs.Parsings.{found_nothing, found_same}
-use Rattle.m3_build.proofs.Grammar.{module_parses, parses_module, one_module, module_nodes}
-use Rattle.m3_build.proofs.Lexical.{read_spelled, spelled_read}
+use Rattle.m3_plain.specs.declared.tokens.Token.{Token}
+use Rattle.m3_plain.specs.Terms.{Term, all_nodes}
+use Rattle.m3_plain.specs.PlainForm.{IsModule, IsPlain}
+use Rattle.m3_plain.specs.Lexing.{lexed}
+use Rattle.m3_plain.specs.Parsing.{Parses}
+use Rattle.m3_plain.proofs.Parsings.{found_nothing, found_same}
+use Rattle.m3_plain.proofs.Grammar.{module_parses, parses_module, one_module, module_nodes}
+use Rattle.m3_plain.proofs.Lexical.{read_spelled, spelled_read}
 
 plain_tokens : (text : List ℕ) (puts : List Term) (p : IsPlain text puts) → lexed [] 1 [] text ≡ Some p.tokens
 plain_tokens text puts p = let h = p.few in spelled_read p.tokens [] 1 text p.spelled (omega arith)

@@ -8,8 +8,8 @@ use Rattle.std.proofs.lemmas.Bool.Decides.{nat_tests}
 use Rattle.std.proofs.lemmas.Int.{of_z-to_z, to_z-of_z, to_z_pos}
 use Rattle.std.proofs.lemmas.Bool.{cases_lt}
 use mir.Val.{sel}
-use Rattle.m3_build.proofs.CodeShape.{length-term_code, length-term_lines}
-use Rattle.m3_build.proofs.Numbers.{not_below, below}
+use Rattle.m3_plain.proofs.CodeShape.{length-term_code, length-term_lines}
+use Rattle.m3_plain.proofs.Numbers.{not_below, below}
 use Rattle.std.specs.Int.{cast_signed, cast_unsigned, w32, w64}
 use Rattle.m3_base.specs.declared.outcomes.FaultKind.TheVariants.{Overflow}
 use Rattle.m3_base.specs.declared.outcomes.Outcome.{Outcome}
@@ -21,11 +21,11 @@ use Rattle.m3_isa.specs.Memory.{Memory, put}
 use Rattle.m3_isa.specs.Arithmetic.{integer_word}
 use Rattle.m3_base.specs.Integers.{is_integer}
 use Rattle.m3_isa.specs.Effects.{Goes, Traps, reg, signed, next, jumped, answered, answered_or_jumped, loads, stores}
-use Rattle.m3_build.specs.declared.plain.Arith.{Arith}
-use Rattle.m3_build.specs.declared.plain.Arith.TheVariants.{Add, Sub, Mul}
-use Rattle.m3_build.specs.Terms.{Term, Number, Apply, Value, Gives, Overflows, AreIntegers, result_of, applied, value_of, nodes}
-use Rattle.m3_build.specs.Machine.{State, GoesOn, Ends, is_stack, counted, plainly, faults, acts, act, and_then, run}
-use Rattle.m3_build.specs.Code.{on_first, operation, low_half, high_half, number_code, apply_code, code_size, operators, term_code, term_lines}
+use Rattle.m3_plain.specs.declared.plain.Arith.{Arith}
+use Rattle.m3_plain.specs.declared.plain.Arith.TheVariants.{Add, Sub, Mul}
+use Rattle.m3_plain.specs.Terms.{Term, Number, Apply, Value, Gives, Overflows, AreIntegers, result_of, applied, value_of, nodes}
+use Rattle.m3_plain.specs.Machine.{State, GoesOn, Ends, is_stack, counted, plainly, faults, acts, act, and_then, run}
+use Rattle.m3_plain.specs.Code.{on_first, operation, low_half, high_half, number_code, apply_code, code_size, operators, term_code, term_lines}
 
 -- ---- places in lists
 

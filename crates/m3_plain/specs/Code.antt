@@ -6,9 +6,9 @@ use Rattle.m3_base.specs.Words.{word_of}
 use Rattle.m3_isa.specs.declared.instructions.Op.{Op}
 use Rattle.m3_isa.specs.declared.instructions.Op.TheVariants.{Li, Lih, Lds, Sts, Addo, Subo, Mulo, Jmp, Point, Fault, Endp, Putn}
 use Rattle.m3_isa.specs.declared.instructions.Instr.{Instr}
-use Rattle.m3_build.specs.declared.plain.Arith.{Arith}
-use Rattle.m3_build.specs.declared.plain.Arith.TheVariants.{Add, Sub, Mul}
-use Rattle.m3_build.specs.Terms.{Term, Number, Apply}
+use Rattle.m3_plain.specs.declared.plain.Arith.{Arith}
+use Rattle.m3_plain.specs.declared.plain.Arith.TheVariants.{Add, Sub, Mul}
+use Rattle.m3_plain.specs.Terms.{Term, Number, Apply}
 
 -- an instruction of register 0 and a number
 abbrev pub on_first : Op → ℤ → Instr

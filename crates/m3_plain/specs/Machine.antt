@@ -14,7 +14,7 @@ use Rattle.m3_isa.specs.declared.registers.Regs.{Regs}
 use Rattle.m3_isa.specs.Memory.{Memory}
 use Rattle.m3_isa.specs.Instructions.{IsInstruction}
 use Rattle.m3_isa.specs.Effects.{Effect, Goes, Traps, NotPlain, effect, signed, next}
-use Rattle.m3_build.specs.Terms.{Term, output_of, points_of, outcome_of}
+use Rattle.m3_plain.specs.Terms.{Term, output_of, points_of, outcome_of}
 
 -- between two instructions: the registers, the memory, the output so far, the points passed and the
 -- instructions executed

@@ -1,12 +1,12 @@
 -- How the reader takes tokens apart: what it finds at the front, and the tokens that are left.
 use Rattle.std.specs.Prelude.{ℕ, ℤ, ◌≡◌, ◌⊎◌, Option, None, Some, List, [], ◌∷◌}
-use Rattle.m3_build.specs.declared.plain.Arith.{Arith}
-use Rattle.m3_build.specs.declared.plain.Arith.TheVariants.{Add, Sub, Mul}
-use Rattle.m3_build.specs.declared.plain.Plain.{Plain}
-use Rattle.m3_build.specs.declared.tokens.Kind.{Kind}
-use Rattle.m3_build.specs.declared.tokens.Kind.TheVariants.{Module, Main, Import, Io, Begin, End, PutInt, Semicolon, Dot, Open, Close, Operator, Literal}
-use Rattle.m3_build.specs.declared.tokens.Token.{Token}
-use Rattle.m3_build.specs.Terms.{Term, Number, Apply, term_of}
+use Rattle.m3_plain.specs.declared.plain.Arith.{Arith}
+use Rattle.m3_plain.specs.declared.plain.Arith.TheVariants.{Add, Sub, Mul}
+use Rattle.m3_plain.specs.declared.plain.Plain.{Plain}
+use Rattle.m3_plain.specs.declared.tokens.Kind.{Kind}
+use Rattle.m3_plain.specs.declared.tokens.Kind.TheVariants.{Module, Main, Import, Io, Begin, End, PutInt, Semicolon, Dot, Open, Close, Operator, Literal}
+use Rattle.m3_plain.specs.declared.tokens.Token.{Token}
+use Rattle.m3_plain.specs.Terms.{Term, Number, Apply, term_of}
 
 -- the rest follows tokens of these kinds
 abbrev pub After : List Kind → List Token → List Token → Type 0

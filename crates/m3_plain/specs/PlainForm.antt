@@ -3,11 +3,11 @@
 use Rattle.std.specs.Prelude.{ℕ, ℤ, pos, Bool, false, ◌≡◌, ◌+◌, ◌-◌, ◌*◌, ◌<◌, ◌≤◌, ◌^◌, ◌==◌, ◌&&◌, ◌||◌, ◌⊎◌, nat_le, List, [], ◌∷◌, ◌++◌, length, map, codes, fold, count_by, IsTrue}
 use Rattle.std.specs.List.{list_all}
 use Rattle.std.specs.Char.{is_ascii_digit, is_ascii_alphanumeric}
-use Rattle.m3_build.specs.declared.plain.Arith.TheVariants.{Add, Sub, Mul}
-use Rattle.m3_build.specs.declared.tokens.Kind.{Kind}
-use Rattle.m3_build.specs.declared.tokens.Kind.TheVariants.{Module, Main, Import, Io, Begin, End, PutInt, Semicolon, Dot, Open, Close, Operator, Literal}
-use Rattle.m3_build.specs.declared.tokens.Token.{Token}
-use Rattle.m3_build.specs.Terms.{Term, Number, Apply}
+use Rattle.m3_plain.specs.declared.plain.Arith.TheVariants.{Add, Sub, Mul}
+use Rattle.m3_plain.specs.declared.tokens.Kind.{Kind}
+use Rattle.m3_plain.specs.declared.tokens.Kind.TheVariants.{Module, Main, Import, Io, Begin, End, PutInt, Semicolon, Dot, Open, Close, Operator, Literal}
+use Rattle.m3_plain.specs.declared.tokens.Token.{Token}
+use Rattle.m3_plain.specs.Terms.{Term, Number, Apply}
 
 -- bytes 9 to 13 and 32
 abbrev pub is_space : ℕ → Bool

@@ -6,10 +6,10 @@ use Rattle.m3_base.specs.declared.outcomes.FaultKind.TheVariants.{Overflow}
 use Rattle.m3_base.specs.declared.outcomes.Outcome.{Outcome}
 use Rattle.m3_base.specs.declared.outcomes.Outcome.TheVariants.{Done, Fault}
 use Rattle.m3_base.specs.Integers.{is_integer}
-use Rattle.m3_build.specs.declared.plain.Arith.{Arith}
-use Rattle.m3_build.specs.declared.plain.Arith.TheVariants.{Add, Sub, Mul}
-use Rattle.m3_build.specs.declared.plain.Plain.{Plain}
-use Rattle.m3_build.specs.declared.plain.Plain.TheVariants.{Number as PlainNumber, Apply' as PlainApply}
+use Rattle.m3_plain.specs.declared.plain.Arith.{Arith}
+use Rattle.m3_plain.specs.declared.plain.Arith.TheVariants.{Add, Sub, Mul}
+use Rattle.m3_plain.specs.declared.plain.Plain.{Plain}
+use Rattle.m3_plain.specs.declared.plain.Plain.TheVariants.{Number as PlainNumber, Apply' as PlainApply}
 
 -- a number, or an operator with its line and its two operands
 pub data Term : Type 0 where

@@ -2,8 +2,8 @@
 
 ghost use Rattle.std.specs.Prelude.{◌≡◌, ◌-◌, ◌<◌, ◌≤◌, ◌^◌, length, [], Option, Some, None, OnOk};
 ghost use Rattle.std.specs.Prelude.{OnErr, IfOk, IsErrOf};
-ghost use Rattle.m3_build.specs.Lexing.{keyword, literal, word_kind, sign_kind, with_token};
-ghost use Rattle.m3_build.specs.Lexing.{with_open_word, with_byte, lexed};
+ghost use Rattle.m3_plain.specs.Lexing.{keyword, literal, word_kind, sign_kind, with_token};
+ghost use Rattle.m3_plain.specs.Lexing.{with_open_word, with_byte, lexed};
 
 use crate::plain::{Arith, PlainRefused};
 use crate::tokens::{Kind, Token};

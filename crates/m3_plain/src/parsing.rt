@@ -2,12 +2,12 @@
 
 ghost use Rattle.std.specs.Prelude.{◌≡◌, ◌≢◌, Bool, ◌++◌, ◌∷◌, [], ℕ, List, Option, Some, None};
 ghost use Rattle.std.specs.Prelude.{IfOk, IfSome, IfNone, IsTrue, ◌↔◌, IsErrOf};
-ghost use Rattle.m3_build.specs.declared.tokens.Token.{Token};
-ghost use Rattle.m3_build.specs.declared.tokens.Kind.TheVariants.{Io, Dot, PutInt, Open, Close};
-ghost use Rattle.m3_build.specs.declared.tokens.Kind.TheVariants.{Semicolon};
-ghost use Rattle.m3_build.specs.Terms.{Term, Apply, term_of, terms_of};
-ghost use Rattle.m3_build.specs.Parsing.{After, left_after, product_after, literal_at, operator_at};
-ghost use Rattle.m3_build.specs.Parsing.{sum_at, left_of, joined, PutAt, IsEnd, Parses};
+ghost use Rattle.m3_plain.specs.declared.tokens.Token.{Token};
+ghost use Rattle.m3_plain.specs.declared.tokens.Kind.TheVariants.{Io, Dot, PutInt, Open, Close};
+ghost use Rattle.m3_plain.specs.declared.tokens.Kind.TheVariants.{Semicolon};
+ghost use Rattle.m3_plain.specs.Terms.{Term, Apply, term_of, terms_of};
+ghost use Rattle.m3_plain.specs.Parsing.{After, left_after, product_after, literal_at, operator_at};
+ghost use Rattle.m3_plain.specs.Parsing.{sum_at, left_of, joined, PutAt, IsEnd, Parses};
 
 use crate::plain::{Arith, Plain, PlainRefused};
 use crate::tokens::{Kind, Token};

@@ -3,7 +3,7 @@ use std::alloc::{AllocError, AllocFailed};
 use thiserror::Error;
 
 /// An operator of the plain form.
-#[derive(Clone, Copy, Debug, PartialEq, Eq)]
+#[derive(Clone, Copy, PartialEq, Eq)]
 pub enum Arith {
     Add,
     Sub,
@@ -12,7 +12,7 @@ pub enum Arith {
 
 /// What a statement of the plain form puts: a number, or an operator with its line, counted from 1,
 /// and its two operands.
-#[derive(Debug, Drop)]
+#[derive(Drop)]
 pub enum Plain {
     Number(i64),
     Apply(Arith, u32, Box<Plain>, Box<Plain>),
@@ -30,7 +30,7 @@ pub enum PlainRefused {
 
 impl From<NoMemory> for PlainRefused {
     ghost use Rattle.std.specs.Prelude.{◌≡◌};
-    ghost use Rattle.m3_build.specs.declared.plain.PlainRefused.TheVariants.{NoMemory};
+    ghost use Rattle.m3_plain.specs.declared.plain.PlainRefused.TheVariants.{NoMemory};
 
     ghost from_gives = { λ _ e. e ≡ NoMemory };
 
@@ -41,7 +41,7 @@ impl From<NoMemory> for PlainRefused {
 
 impl From<AllocError> for PlainRefused {
     ghost use Rattle.std.specs.Prelude.{◌≡◌};
-    ghost use Rattle.m3_build.specs.declared.plain.PlainRefused.TheVariants.{NoMemory};
+    ghost use Rattle.m3_plain.specs.declared.plain.PlainRefused.TheVariants.{NoMemory};
 
     ghost from_gives = { λ _ e. e ≡ NoMemory };
 
@@ -52,7 +52,7 @@ impl From<AllocError> for PlainRefused {
 
 impl<T: Drop> From<AllocFailed<T>> for PlainRefused {
     ghost use Rattle.std.specs.Prelude.{◌≡◌};
-    ghost use Rattle.m3_build.specs.declared.plain.PlainRefused.TheVariants.{NoMemory};
+    ghost use Rattle.m3_plain.specs.declared.plain.PlainRefused.TheVariants.{NoMemory};
 
     ghost from_gives = { λ _ e. e ≡ NoMemory };
 

@@ -1,8 +1,8 @@
 // From a text to what its statements put.
 
 ghost use Rattle.std.specs.Prelude.{◌≡◌, ◌≤◌, List, IfOk, IsErrOf};
-ghost use Rattle.m3_build.specs.Terms.{Term, terms_of, all_nodes};
-ghost use Rattle.m3_build.specs.PlainForm.{IsPlain};
+ghost use Rattle.m3_plain.specs.Terms.{Term, terms_of, all_nodes};
+ghost use Rattle.m3_plain.specs.PlainForm.{IsPlain};
 
 use crate::lexing::lex;
 use crate::parsing::parse;

@@ -1,7 +1,7 @@
 use crate::plain::Arith;
 
 /// What a token of the plain form is.
-#[derive(Clone, Copy, Debug, PartialEq, Eq)]
+#[derive(Clone, Copy, PartialEq, Eq)]
 pub enum Kind {
     Module,
     Main,
@@ -19,7 +19,7 @@ pub enum Kind {
 }
 
 /// A token, and the line on which it stands, counted from 1.
-#[derive(Clone, Copy, Debug, PartialEq, Eq)]
+#[derive(Clone, Copy, PartialEq, Eq)]
 pub struct Token {
     pub kind: Kind,
     pub line: u32,

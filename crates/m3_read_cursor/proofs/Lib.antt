@@ -1,2 +1,3 @@
+pub mod RefusalLaws
 pub mod Rests
 pub mod PlaceLaws

@@ -4,9 +4,9 @@ use Rattle.std.specs.List.{Contains}
 use Rattle.m3_base.specs.declared.places.Pos.{Pos}
 use Rattle.m3_syntax.specs.declared.names.Name.{Name}
 use Rattle.m3_syntax.specs.declared.tokens.Token.{Token}
-use Rattle.m3_grammar.specs.Tokens.{IsAt, IsName}
-use Rattle.m3_cursor.specs.Readers.{IsRest, whole, next}
-use Rattle.m3_stops.specs.Refusals.{IsPlaceOfToken, IsPlaceOfName}
+use Rattle.m3_read_grammar.specs.Tokens.{IsAt, IsName}
+use Rattle.m3_read_cursor.specs.Readers.{IsRest, whole, next}
+use Rattle.m3_read_cursor.specs.Refusals.{IsPlaceOfToken, IsPlaceOfName}
 
 -- before anything is taken, all of the file is left
 pub all_left : (file rest : List Token) → rest ≡ file → IsRest file rest

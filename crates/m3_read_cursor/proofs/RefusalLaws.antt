@@ -5,7 +5,7 @@ use Rattle.m3_base.specs.declared.places.Pos.{Pos}
 use Rattle.m3_base.specs.declared.refusals.Refused.{Refused}
 use Rattle.m3_base.specs.declared.refusals.Refused.TheVariants.{Rule}
 use Rattle.m3_syntax.specs.declared.tokens.Token.{Token}
-use Rattle.m3_stops.specs.Refusals.{IsBroken, IsRefusal, refused}
+use Rattle.m3_read_cursor.specs.Refusals.{IsBroken, IsRefusal, refused}
 
 -- what stands first behind some tokens is one of them all
 contains : (tokens : List Token) (n : ℕ) (token : Token) (rest : List Token) → drop n tokens ≡ token ∷ rest → Contains tokens token

@@ -1,8 +1,8 @@
 -- What a reader keeps as it goes on.
 use Rattle.std.proofs.Common.{ℕ, ◌≡◌, ◌≤◌, List, [], ◌∷◌, Option, None, Some, refl, sym, ap, subst, length, drop, arith}
 use Rattle.m3_syntax.specs.declared.tokens.Token.{Token}
-use Rattle.m3_cursor.specs.declared.reader.Reader.{Reader}
-use Rattle.m3_cursor.specs.Readers.{Follows, Kept, kept, Keeps, keeps, IsRest, whole, next, faults}
+use Rattle.m3_read_cursor.specs.declared.reader.Reader.{Reader}
+use Rattle.m3_read_cursor.specs.Readers.{Follows, Kept, kept, Keeps, keeps, IsRest, whole, next, faults}
 
 -- ---- the tokens of a file
 

@@ -1,7 +1,7 @@
 -- What a reader has read: the tokens that are still to be read, and the faults that it keeps.
 use Rattle.std.specs.Prelude.{ℕ, ◌≡◌, ◌≤◌, List, ◌∷◌, length, Option, None, Some}
 use Rattle.m3_syntax.specs.declared.tokens.Token.{Token}
-use Rattle.m3_cursor.specs.declared.reader.Reader.{Reader}
+use Rattle.m3_read_cursor.specs.declared.reader.Reader.{Reader}
 
 -- how many faults are kept: none or the first
 abbrev pub faults : {A : Type 0} → Option A → ℕ

@@ -5,9 +5,9 @@ use Rattle.m3_syntax.specs.declared.expressions.PrefixSign.{PrefixSign}
 use Rattle.m3_syntax.specs.declared.names.Name.{Name}
 use Rattle.m3_syntax.specs.declared.tokens.Sign.TheVariants as s
 use Rattle.m3_syntax.specs.declared.tokens.TokenKind.{TokenKind}
-use Rattle.m3_grammar.specs.declared.operators.Level.{Level}
-use Rattle.m3_grammar.specs.Operators.{operator_of, level_of}
-use Rattle.m3_grammar.specs.Tokens.{Row, IsAt, IsToken, IsSign, IsName}
+use Rattle.m3_read_grammar.specs.declared.operators.Level.{Level}
+use Rattle.m3_read_grammar.specs.Operators.{operator_of, level_of}
+use Rattle.m3_read_grammar.specs.Tokens.{Row, IsAt, IsToken, IsSign, IsName}
 
 -- an operator of this level
 pub data IsInfix (level : Level) (before after : Row) (operator : Operator) : Type 0 where

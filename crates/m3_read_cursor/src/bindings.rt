@@ -1,6 +1,6 @@
 ghost use Rattle.std.specs.Prelude.{◌≡◌};
-ghost use Rattle.m3_cursor.specs.Readers.{Follows, Reads};
-ghost use Rattle.m3_cursor.specs.Steps.{BindingSpells, NameSpells};
+ghost use Rattle.m3_read_cursor.specs.Readers.{Follows, Reads};
+ghost use Rattle.m3_read_cursor.specs.Steps.{BindingSpells, NameSpells};
 
 use crate::kinds::goes_on;
 use crate::reader::Reader;

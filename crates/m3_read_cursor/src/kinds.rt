@@ -1,4 +1,4 @@
-use m3_grammar::operator_of;
+use m3_read_grammar::operator_of;
 use m3_syntax::{Sign, TokenKind, Word};
 
 /// Whether an expression may begin with a token.

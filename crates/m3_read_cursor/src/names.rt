@@ -1,4 +1,4 @@
-ghost use Rattle.m3_cursor.specs.Readers.{Follows};
+ghost use Rattle.m3_read_cursor.specs.Readers.{Follows};
 
 use crate::reader::Reader;
 use m3_syntax::{Name, Qualid, Raises, Sign, Word};

@@ -1,9 +1,9 @@
 ghost use Rattle.std.specs.Prelude.{◌≡◌, ◌<◌, OnSome, IfSome, IfNone, length};
-ghost use Rattle.m3_cursor.specs.Readers.{Follows};
-ghost use Rattle.m3_cursor.specs.Steps.{IsInfix, IsPrefixSign};
+ghost use Rattle.m3_read_cursor.specs.Readers.{Follows};
+ghost use Rattle.m3_read_cursor.specs.Steps.{IsInfix, IsPrefixSign};
 
 use crate::reader::Reader;
-use m3_grammar::{Level, level_of, operator_of};
+use m3_read_grammar::{Level, level_of, operator_of};
 use m3_syntax::{Operator, PrefixSign, Sign};
 
 /// Goes past the operator of this level, where one is here.

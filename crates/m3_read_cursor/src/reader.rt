@@ -1,14 +1,14 @@
 ghost use Rattle.std.specs.Prelude.{◌≡◌, ◌+◌, ◌<◌, ◌≤◌, ◌++◌, [], ◌∷◌, length};
 ghost use Rattle.std.specs.Prelude.{IsTrue, IsFalse, IfSome, IfNone, OnSome, IsSome};
 ghost use Rattle.m3_syntax.specs.declared.tokens.TokenKind.{TokenKind};
-ghost use Rattle.m3_grammar.specs.Tokens.{IsAt, IsToken, IsWritten, IsWord, IsSign, IsName};
-ghost use Rattle.m3_grammar.specs.Tokens.{first_kind};
-ghost use Rattle.m3_cursor.specs.Readers.{Follows, Reads};
+ghost use Rattle.m3_read_grammar.specs.Tokens.{IsAt, IsToken, IsWritten, IsWord, IsSign, IsName};
+ghost use Rattle.m3_read_grammar.specs.Tokens.{first_kind};
+ghost use Rattle.m3_read_cursor.specs.Readers.{Follows, Reads};
 
+use crate::stops::{Stop, Why};
 use bumpalo::Bump;
 use m3_base::Pos;
-use m3_grammar::{is_sign, is_word};
-use m3_stops::{Stop, Why};
+use m3_read_grammar::{is_sign, is_word};
 use m3_syntax::{Lexed, Name, Sign, Token, TokenKind, Word};
 use std::alloc::Global;
 

@@ -1,32 +1,19 @@
 //! Why the reading of a file stops, and what the file is refused for then: the rule, and its
 //! place among the tokens.
-#![tactic(auto)]
 
 ghost use Rattle.std.specs.Prelude.{◌≡◌, ◌<◌, ◌≤◌, IfOk, IfErr, OnOk, None, length, drop};
 ghost use Rattle.m3_base.specs.declared.refusals.Refused.TheVariants.{Rule};
-ghost use Rattle.m3_stops.specs.Refusals.{IsRefusal};
-ghost use Rattle.m3_stops.specs.Refusals as spec;
+ghost use Rattle.m3_read_cursor.specs.Refusals.{IsRefusal};
+ghost use Rattle.m3_read_cursor.specs.Refusals as spec;
 
+use m3_base::rules::{
+    END_NAME_DIFFERS, END_OF_FILE, NESTING_TOO_DEEP, TOO_MANY_TOKENS, UNEXPECTED_TOKEN,
+};
 use m3_base::{Refusal, Refused};
 use m3_syntax::{Lexed, TokenKind};
 
 /// How many tokens a file may have.
 const MAX_TOKENS: usize = 500_000;
-
-/// The rule that a token breaks with which no text of the grammar goes on.
-const UNEXPECTED_TOKEN: u16 = 10;
-
-/// The rule that a file breaks that ends too early.
-const END_OF_FILE: u16 = 11;
-
-/// The rule that a closing name breaks that differs from the name that it closes.
-const END_NAME_DIFFERS: u16 = 12;
-
-/// The rule that a token breaks that lies inside too many constructs.
-const NESTING_TOO_DEEP: u16 = 13;
-
-/// The rule that token 500,001 breaks.
-const TOO_MANY_TOKENS: u16 = 14;
 
 /// Why the reading of a file stopped.
 #[derive(Clone, Copy)]

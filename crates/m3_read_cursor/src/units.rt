@@ -1,7 +1,7 @@
 ghost use Rattle.std.specs.Prelude.{◌≡◌, None, List};
 ghost use Rattle.m3_syntax.specs.declared.tokens.Token.{Token};
-ghost use Rattle.m3_cursor.specs.Readers.{Follows, IsRest};
-ghost use Rattle.m3_stops.specs.Refusals.{IsPlaceOfToken, IsPlaceOfName};
+ghost use Rattle.m3_read_cursor.specs.Readers.{Follows, IsRest};
+ghost use Rattle.m3_read_cursor.specs.Refusals.{IsPlaceOfToken, IsPlaceOfName};
 
 use crate::reader::Reader;
 use m3_base::Pos;

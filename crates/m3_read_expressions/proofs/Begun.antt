@@ -3,9 +3,9 @@ use Rattle.std.proofs.Common.{◌≡◌, ◌≢◌, List, []}
 use Rattle.m3_syntax.specs.declared.expressions.Actual.{Actual}
 use Rattle.m3_syntax.specs.declared.expressions.Expr.{Expr}
 use Rattle.m3_syntax.specs.declared.tokens.Sign.TheVariants.{Comma}
-use Rattle.m3_grammar.specs.Tokens.{Row, IsSign}
-use Rattle.m3_grammar.specs.Expressions.{IsExprs, IsActuals}
-use Rattle.m3_grammar.specs.Plain.{IndexByType, PassType}
+use Rattle.m3_read_grammar.specs.Tokens.{Row, IsSign}
+use Rattle.m3_read_grammar.specs.Expressions.{IsExprs, IsActuals}
+use Rattle.m3_read_grammar.specs.Plain.{IndexByType, PassType}
 
 pub data IndexesBegun (before after : Row) (indexes : List Expr) : Type 0 where
   no_index : after ≡ before → indexes ≡ [] → IndexesBegun before after indexes

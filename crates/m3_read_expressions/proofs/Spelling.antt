@@ -16,17 +16,17 @@ use Rattle.m3_syntax.specs.declared.tokens.Sign.{Sign}
 use Rattle.m3_syntax.specs.declared.tokens.Sign.TheVariants as s
 use Rattle.m3_syntax.specs.declared.tokens.TokenKind.TheVariants.{Number}
 use Rattle.m3_syntax.specs.declared.tokens.Word.TheVariants as w
-use Rattle.m3_grammar.specs.declared.operators.Level.{Level}
-use Rattle.m3_grammar.specs.Ranks.{Rank, whole, e2, e3, e6, e7, e8, next, rank_of}
-use Rattle.m3_grammar.specs.Tokens.{Row, IsAt, IsToken, IsWord, IsSign, IsName}
-use Rattle.m3_grammar.specs.Expressions as g
-use Rattle.m3_grammar.specs.Plain as plain
-use Rattle.m3_cursor.specs.declared.reader.Reader.{Reader}
-use Rattle.m3_phrases.specs.declared.settings.Found.{Found}
-use Rattle.m3_phrases.specs.declared.settings.Found.TheVariants as f
-use Rattle.m3_cursor.specs.Steps.{IsInfix, is_infix, IsPrefixSign, plus, minus, BindingSpells, NameSpells}
-use Rattle.m3_phrases.specs.Spelled.{FoundSpells, SelectorSpells, IndexesSpell, indexed, by_type, ActualsSpell, passed, with_type}
-use Rattle.m3_phrases.proofs.Begun.{IndexesBegun, no_index, index_comma, index_type, ActualsBegun, no_actual, actual_comma, actual_type}
+use Rattle.m3_read_grammar.specs.declared.operators.Level.{Level}
+use Rattle.m3_read_grammar.specs.Ranks.{Rank, whole, e2, e3, e6, e7, e8, next, rank_of}
+use Rattle.m3_read_grammar.specs.Tokens.{Row, IsAt, IsToken, IsWord, IsSign, IsName}
+use Rattle.m3_read_grammar.specs.Expressions as g
+use Rattle.m3_read_grammar.specs.Plain as plain
+use Rattle.m3_read_cursor.specs.declared.reader.Reader.{Reader}
+use Rattle.m3_read_expressions.specs.declared.settings.Found.{Found}
+use Rattle.m3_read_expressions.specs.declared.settings.Found.TheVariants as f
+use Rattle.m3_read_cursor.specs.Steps.{IsInfix, is_infix, IsPrefixSign, plus, minus, BindingSpells, NameSpells}
+use Rattle.m3_read_expressions.specs.Spelled.{FoundSpells, SelectorSpells, IndexesSpell, indexed, by_type, ActualsSpell, passed, with_type}
+use Rattle.m3_read_expressions.proofs.Begun.{IndexesBegun, no_index, index_comma, index_type, ActualsBegun, no_actual, actual_comma, actual_type}
 
 -- ---- faults
 

@@ -7,14 +7,14 @@ use Rattle.m3_syntax.specs.declared.expressions.Expr.{Expr}
 use Rattle.m3_syntax.specs.declared.expressions.Operation.{Operation}
 use Rattle.m3_syntax.specs.declared.expressions.Selector.{Selector}
 use Rattle.m3_syntax.specs.declared.tokens.Sign.TheVariants as s
-use Rattle.m3_grammar.specs.declared.operators.Level.{Level}
-use Rattle.m3_grammar.specs.Ranks.{Rank, e7, e8}
-use Rattle.m3_grammar.specs.Tokens.{Row, IsAt, IsSign}
-use Rattle.m3_grammar.specs.Expressions.{IsOperations, IsSelectors, IsSelector, IsExprs, IsActuals, IsActual}
-use Rattle.m3_grammar.specs.Plain.{Spells, HaveType, SelectByType, SelectsByType, IndexByType, PassType, PassesType}
-use Rattle.m3_cursor.specs.declared.reader.Reader.{Reader}
-use Rattle.m3_phrases.specs.declared.settings.Found.{Found}
-use Rattle.m3_phrases.specs.declared.settings.Found.TheVariants as found
+use Rattle.m3_read_grammar.specs.declared.operators.Level.{Level}
+use Rattle.m3_read_grammar.specs.Ranks.{Rank, e7, e8}
+use Rattle.m3_read_grammar.specs.Tokens.{Row, IsAt, IsSign}
+use Rattle.m3_read_grammar.specs.Expressions.{IsOperations, IsSelectors, IsSelector, IsExprs, IsActuals, IsActual}
+use Rattle.m3_read_grammar.specs.Plain.{Spells, HaveType, SelectByType, SelectsByType, IndexByType, PassType, PassesType}
+use Rattle.m3_read_cursor.specs.declared.reader.Reader.{Reader}
+use Rattle.m3_read_expressions.specs.declared.settings.Found.{Found}
+use Rattle.m3_read_expressions.specs.declared.settings.Found.TheVariants as found
 
 -- the row spells what was found, where that is an expression
 abbrev pub FoundSpells : Rank → Row → Row → Found → Type 0

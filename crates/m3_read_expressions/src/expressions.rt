@@ -1,13 +1,13 @@
 ghost use Rattle.std.specs.Prelude.{◌≡◌, ◌+◌, ◌≤◌, OnSome, IfSome, IfNone, IsSome};
-ghost use Rattle.m3_grammar.specs.Ranks.{whole, e2, e6, next, rank_of};
-ghost use Rattle.m3_cursor.specs.Readers.{Follows, Reads};
-ghost use Rattle.m3_phrases.specs.Spelled.{ReadsFound, ReadsExpr};
+ghost use Rattle.m3_read_grammar.specs.Ranks.{whole, e2, e6, next, rank_of};
+ghost use Rattle.m3_read_cursor.specs.Readers.{Follows, Reads};
+ghost use Rattle.m3_read_expressions.specs.Spelled.{ReadsFound, ReadsExpr};
 
 use crate::operands::operand;
 use crate::settings::{Found, Setting, Want};
 use crate::trees::{keep_expr, no_expr};
-use m3_cursor::{Reader, begins_expression, operator_here, prefix_sign};
-use m3_grammar::Level;
+use m3_read_cursor::{Reader, begins_expression, operator_here, prefix_sign};
+use m3_read_grammar::Level;
 use m3_syntax::{Expr, Operation, Word};
 
 /// An expression (the report, section 2.6). `room` is that of what surrounds it: the expression

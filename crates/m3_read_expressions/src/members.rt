@@ -1,8 +1,8 @@
-ghost use Rattle.m3_cursor.specs.Readers.{Follows};
+ghost use Rattle.m3_read_cursor.specs.Readers.{Follows};
 
 use crate::expressions::expression;
 use crate::types::type_expression;
-use m3_cursor::{Reader, name_list, raises};
+use m3_read_cursor::{Reader, name_list, raises};
 use m3_syntax::{Expr, Field, Formal, Init, Method, Mode, Override, Sign, Signature, Word};
 
 /// Fields, with semicolons between them and maybe behind the last.

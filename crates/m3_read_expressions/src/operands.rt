@@ -1,16 +1,16 @@
 ghost use Rattle.std.specs.Prelude.{◌≡◌, ◌+◌, ◌<◌, ◌≤◌, OnSome, IfSome, IfNone, IsSome, length};
-ghost use Rattle.m3_grammar.specs.Plain.{HasType};
-ghost use Rattle.m3_grammar.specs.Ranks.{e7, e8};
-ghost use Rattle.m3_cursor.specs.Readers.{Follows};
-ghost use Rattle.m3_phrases.specs.Spelled.{ReadsFound, ReadsSelector};
-ghost use Rattle.m3_phrases.specs.Spelled.{ReadsIndexes, ReadsActuals, ReadsActual, Continues};
+ghost use Rattle.m3_read_grammar.specs.Plain.{HasType};
+ghost use Rattle.m3_read_grammar.specs.Ranks.{e7, e8};
+ghost use Rattle.m3_read_cursor.specs.Readers.{Follows};
+ghost use Rattle.m3_read_expressions.specs.Spelled.{ReadsFound, ReadsSelector};
+ghost use Rattle.m3_read_expressions.specs.Spelled.{ReadsIndexes, ReadsActuals, ReadsActual, Continues};
 
 use crate::expressions::{expression, phrase};
 use crate::settings::{Found, Setting, Want};
 use crate::trees::{keep_expr, keep_type, no_expr, qualid_of, type_of};
 use crate::types::{begins_object, named_type, opened_type};
 use m3_base::Pos;
-use m3_cursor::{Reader, begins_type, binding, lone_name};
+use m3_read_cursor::{Reader, begins_type, binding, lone_name};
 use m3_syntax::{Actual, Element, Expr, Selector, Sign, TokenKind, TypeExp, TypeName, Word};
 
 /// One operand with its selectors, or a type that no brace follows.

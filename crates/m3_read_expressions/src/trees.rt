@@ -1,8 +1,8 @@
 ghost use Rattle.std.specs.Prelude.{◌≡◌, None};
-ghost use Rattle.m3_cursor.specs.Readers.{Follows, Reads};
+ghost use Rattle.m3_read_cursor.specs.Readers.{Follows, Reads};
 
 use m3_base::Pos;
-use m3_cursor::Reader;
+use m3_read_cursor::Reader;
 use m3_syntax::{Expr, Name, Qualid, Selector, TypeExp, TypeName};
 
 /// No place: that of a node behind an error.

@@ -1,11 +1,11 @@
-ghost use Rattle.m3_cursor.specs.Readers.{Follows};
+ghost use Rattle.m3_read_cursor.specs.Readers.{Follows};
 
 use crate::expressions::{expression, kept_value, phrase};
 use crate::members::{fields, methods, overrides, signature};
 use crate::settings::Want;
 use crate::trees::keep_type;
 use m3_base::Pos;
-use m3_cursor::{Reader, begins_type, names_between, qualid};
+use m3_read_cursor::{Reader, begins_type, names_between, qualid};
 use m3_syntax::{Brand, ObjectPart, Sign, TokenKind, TypeExp, TypeName, Word};
 
 /// A type (the report, section 2.2). `room` is that of what surrounds it: the type itself opens one

@@ -31,11 +31,11 @@ use Rattle.m3_syntax.specs.declared.tokens.TokenKind.{TokenKind}
 use Rattle.m3_syntax.specs.declared.tokens.TokenKind.TheVariants.{Ident, Number, CharLit, TextLit}
 use Rattle.m3_syntax.specs.declared.tokens.Sign.TheVariants as s
 use Rattle.m3_syntax.specs.declared.tokens.Word.TheVariants as w
-use Rattle.m3_grammar.specs.declared.operators.Level.{Level}
-use Rattle.m3_grammar.specs.Operators.{operator_of, level_of}
-use Rattle.m3_grammar.specs.Ranks.{Rank, whole, e2, e3, e6, e7, e8, next, rank_of}
-use Rattle.m3_grammar.specs.Tokens.{Row, first_kind, IsAt, IsWritten, IsToken, IsWord, IsSign, IsName}
-use Rattle.m3_grammar.specs.Names.{IsNames, IsTypeName, IsRaises, IsMode, IsNameAlone}
+use Rattle.m3_read_grammar.specs.declared.operators.Level.{Level}
+use Rattle.m3_read_grammar.specs.Operators.{operator_of, level_of}
+use Rattle.m3_read_grammar.specs.Ranks.{Rank, whole, e2, e3, e6, e7, e8, next, rank_of}
+use Rattle.m3_read_grammar.specs.Tokens.{Row, first_kind, IsAt, IsWritten, IsToken, IsWord, IsSign, IsName}
+use Rattle.m3_read_grammar.specs.Names.{IsNames, IsTypeName, IsRaises, IsMode, IsNameAlone}
 
 -- {NOT}, by the places of the words
 pub data IsNots : Row → Row → List Pos → Type 0 where

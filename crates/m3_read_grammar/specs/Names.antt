@@ -14,7 +14,7 @@ use Rattle.m3_syntax.specs.declared.names.TypeName.{TypeName}
 use Rattle.m3_syntax.specs.declared.names.TypeName.TheVariants as named
 use Rattle.m3_syntax.specs.declared.tokens.Sign.TheVariants as s
 use Rattle.m3_syntax.specs.declared.tokens.Word.TheVariants as w
-use Rattle.m3_grammar.specs.Tokens.{Row, IsAt, IsWord, IsSign, IsName}
+use Rattle.m3_read_grammar.specs.Tokens.{Row, IsAt, IsWord, IsSign, IsName}
 
 -- [Id {"," Id}]
 pub data IsNames : Row → Row → List Name → Type 0 where

@@ -8,8 +8,8 @@ use Rattle.m3_syntax.specs.declared.tokens.Word.{Word}
 use Rattle.m3_syntax.specs.declared.tokens.Word.TheVariants as w
 use Rattle.m3_syntax.specs.declared.tokens.Sign.{Sign}
 use Rattle.m3_syntax.specs.declared.tokens.Sign.TheVariants as s
-use Rattle.m3_grammar.specs.declared.operators.Level.{Level}
-use Rattle.m3_grammar.specs.declared.operators.Level.TheVariants.{Disjunction, Conjunction, Relation, Sum, Product}
+use Rattle.m3_read_grammar.specs.declared.operators.Level.{Level}
+use Rattle.m3_read_grammar.specs.declared.operators.Level.TheVariants.{Disjunction, Conjunction, Relation, Sum, Product}
 
 abbrev pub operator_of_word : Word → Option Operator
 operator_of_word w.Or = Some op.Or

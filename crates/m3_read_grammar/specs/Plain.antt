@@ -13,9 +13,9 @@ use Rattle.m3_syntax.specs.declared.expressions.Selector.{Selector}
 use Rattle.m3_syntax.specs.declared.expressions.Selector.TheVariants as sel
 use Rattle.m3_syntax.specs.declared.expressions.TypeExp.{TypeExp}
 use Rattle.m3_syntax.specs.declared.names.Name.{Name}
-use Rattle.m3_grammar.specs.Tokens.{Row}
-use Rattle.m3_grammar.specs.Ranks.{Rank}
-use Rattle.m3_grammar.specs.Expressions.{IsExpr}
+use Rattle.m3_read_grammar.specs.Tokens.{Row}
+use Rattle.m3_read_grammar.specs.Ranks.{Rank}
+use Rattle.m3_read_grammar.specs.Expressions.{IsExpr}
 
 mutual
   -- a type stands somewhere in the expression

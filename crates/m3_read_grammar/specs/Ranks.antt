@@ -1,6 +1,6 @@
 -- How loosely expressions bind.
-use Rattle.m3_grammar.specs.declared.operators.Level.{Level}
-use Rattle.m3_grammar.specs.declared.operators.Level.TheVariants.{Disjunction, Conjunction, Relation, Sum, Product}
+use Rattle.m3_read_grammar.specs.declared.operators.Level.{Level}
+use Rattle.m3_read_grammar.specs.declared.operators.Level.TheVariants.{Disjunction, Conjunction, Relation, Sum, Product}
 
 -- The ranks of the report's syntax, the loosest first: whole expressions, operands of OR, of AND, of NOT, of
 -- relations, of sums, of products, of signs, of selectors.

@@ -28,10 +28,10 @@ use Rattle.m3_syntax.specs.declared.statements.TypeDecl.{TypeDecl}
 use Rattle.m3_syntax.specs.declared.statements.VarDecl.{VarDecl}
 use Rattle.m3_syntax.specs.declared.tokens.Sign.TheVariants as s
 use Rattle.m3_syntax.specs.declared.tokens.Word.TheVariants as w
-use Rattle.m3_grammar.specs.Ranks.{whole}
-use Rattle.m3_grammar.specs.Tokens.{Row, IsAt, IsWord, IsSign, IsName}
-use Rattle.m3_grammar.specs.Names.{IsNames, IsQualid, IsQualids}
-use Rattle.m3_grammar.specs.Expressions.{IsExpr, IsType, IsActuals, IsSignature, IsInit}
+use Rattle.m3_read_grammar.specs.Ranks.{whole}
+use Rattle.m3_read_grammar.specs.Tokens.{Row, IsAt, IsWord, IsSign, IsName}
+use Rattle.m3_read_grammar.specs.Names.{IsNames, IsQualid, IsQualids}
+use Rattle.m3_read_grammar.specs.Expressions.{IsExpr, IsType, IsActuals, IsSignature, IsInit}
 
 -- ---- parts of statements
 

@@ -12,9 +12,9 @@ use Rattle.m3_syntax.specs.declared.units.ImportItem.{ImportItem}
 use Rattle.m3_syntax.specs.declared.units.Unit as units
 use Rattle.m3_syntax.specs.declared.units.UnitKind.{UnitKind}
 use Rattle.m3_syntax.specs.declared.units.UnitKind.TheVariants as k
-use Rattle.m3_grammar.specs.Tokens.{Row, IsAt, IsWord, IsSign, IsName}
-use Rattle.m3_grammar.specs.Names.{IsNames}
-use Rattle.m3_grammar.specs.Statements.{IsBlock, IsDecls}
+use Rattle.m3_read_grammar.specs.Tokens.{Row, IsAt, IsWord, IsSign, IsName}
+use Rattle.m3_read_grammar.specs.Names.{IsNames}
+use Rattle.m3_read_grammar.specs.Statements.{IsBlock, IsDecls}
 
 -- Item = Id [AS Id]
 pub data IsItem : Row → Row → ImportItem → Type 0 where

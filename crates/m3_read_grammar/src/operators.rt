@@ -1,5 +1,5 @@
 ghost use Rattle.std.specs.Prelude.{◌≡◌};
-ghost use Rattle.m3_grammar.specs.Operators as spec;
+ghost use Rattle.m3_read_grammar.specs.Operators as spec;
 
 use m3_syntax::{Operator, Sign, TokenKind, Word};
 

@@ -1,8 +1,8 @@
-ghost use Rattle.m3_cursor.specs.Readers.{Follows};
+ghost use Rattle.m3_read_cursor.specs.Readers.{Follows};
 
 use crate::declarations::declaration_list;
 use crate::statements::statements;
-use m3_cursor::Reader;
+use m3_read_cursor::Reader;
 use m3_syntax::{Block, TokenKind, Word};
 
 /// Whether a keyword begins a block.

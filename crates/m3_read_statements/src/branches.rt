@@ -1,9 +1,9 @@
-ghost use Rattle.m3_cursor.specs.Readers.{Follows};
+ghost use Rattle.m3_read_cursor.specs.Readers.{Follows};
 
 use crate::handlers::parenthesized_name;
 use crate::statements::statements;
-use m3_cursor::{Reader, begins_expression, begins_type};
-use m3_phrases::{expression, type_expression};
+use m3_read_cursor::{Reader, begins_expression, begins_type};
+use m3_read_expressions::{expression, type_expression};
 use m3_syntax::{Arm, CaseBranch, Else, Label, Sign, Stmt, TypeBranch, TypeExp, Word};
 
 #[cycle(statements)]

@@ -1,10 +1,10 @@
 ghost use Rattle.std.specs.Prelude.{◌<◌, ◌≤◌, OnSome, length};
-ghost use Rattle.m3_cursor.specs.Readers.{Follows};
+ghost use Rattle.m3_read_cursor.specs.Readers.{Follows};
 
 use crate::blocks::{begins_block, block};
 use m3_base::Pos;
-use m3_cursor::{Reader, name_list, qualid};
-use m3_phrases::{expression, initial, signature, type_expression};
+use m3_read_cursor::{Reader, name_list, qualid};
+use m3_read_expressions::{expression, initial, signature, type_expression};
 use m3_syntax::{
     ConstDecl, Decl, ExceptionDecl, ProcedureBody, Revelation, Sign, TokenKind, TypeDecl, VarDecl,
     Word,

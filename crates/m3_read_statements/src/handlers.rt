@@ -1,8 +1,8 @@
-ghost use Rattle.m3_cursor.specs.Readers.{Follows};
+ghost use Rattle.m3_read_cursor.specs.Readers.{Follows};
 
 use crate::branches::otherwise;
 use crate::statements::statements;
-use m3_cursor::{Reader, qualid_list};
+use m3_read_cursor::{Reader, qualid_list};
 use m3_syntax::{Handler, Name, Sign, Stmt, Word};
 
 /// TRY with FINALLY, or with handlers behind EXCEPT.

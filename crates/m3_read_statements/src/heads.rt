@@ -1,8 +1,8 @@
-ghost use Rattle.m3_cursor.specs.Readers.{Follows};
+ghost use Rattle.m3_read_cursor.specs.Readers.{Follows};
 
 use m3_base::Pos;
-use m3_cursor::Reader;
-use m3_phrases::keep_expr;
+use m3_read_cursor::Reader;
+use m3_read_expressions::keep_expr;
 use m3_syntax::{Actual, Expr, Operation, Selector};
 
 /// A call: what is called, the place of the parenthesis, and the actuals.

@@ -1,7 +1,7 @@
-ghost use Rattle.m3_cursor.specs.Readers.{Follows};
+ghost use Rattle.m3_read_cursor.specs.Readers.{Follows};
 
-use m3_cursor::{Reader, begins_expression, qualid};
-use m3_phrases::expression;
+use m3_read_cursor::{Reader, begins_expression, qualid};
+use m3_read_expressions::expression;
 use m3_syntax::{Expr, Sign, Stmt, Word};
 
 /// EVAL, EXIT, RAISE or RETURN, which the word here is.

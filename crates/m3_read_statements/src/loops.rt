@@ -1,8 +1,8 @@
-ghost use Rattle.m3_cursor.specs.Readers.{Follows};
+ghost use Rattle.m3_read_cursor.specs.Readers.{Follows};
 
 use crate::statements::statements;
-use m3_cursor::Reader;
-use m3_phrases::expression;
+use m3_read_cursor::Reader;
+use m3_read_expressions::expression;
 use m3_syntax::{Binding, Sign, Stmt, Word};
 
 /// LOCK, LOOP, REPEAT, WHILE or WITH, which the word here is.

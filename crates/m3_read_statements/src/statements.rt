@@ -1,4 +1,4 @@
-ghost use Rattle.m3_cursor.specs.Readers.{Follows};
+ghost use Rattle.m3_read_cursor.specs.Readers.{Follows};
 
 use crate::blocks::{begins_block, block};
 use crate::branches::{case_statement, if_statement, typecase_statement};
@@ -6,8 +6,8 @@ use crate::handlers::try_statement;
 use crate::heads::call_of;
 use crate::jumps::jump;
 use crate::loops::{enclosing, for_statement};
-use m3_cursor::{Reader, begins_expression};
-use m3_phrases::{expression, statement_head};
+use m3_read_cursor::{Reader, begins_expression};
+use m3_read_expressions::{expression, statement_head};
 use m3_syntax::{Sign, Stmt, TokenKind, Word};
 
 /// Statements, with semicolons between them and maybe behind the last.

@@ -20,9 +20,9 @@ use Rattle.m3_threads.specs.declared.status.Thread.{Thread}
 use Rattle.m3_threads.specs.All.{Everyone, thread_named, base_of, words_of}
 use Rattle.m3_threads.specs.Going.{of_thread}
 use Rattle.m3_threads.proofs.Places.{some_same, place_rising}
-use Rattle.m3_sections.specs.Parts.{Program}
+use Rattle.m3_image_sections.specs.Parts.{Program}
 use Rattle.m3_image.specs.Programs.{fault_of}
-use Rattle.m3_frames.specs.declared.frame.Frame.{Frame}
+use Rattle.m3_run_frames.specs.declared.frame.Frame.{Frame}
 use Rattle.m3_roots.specs.ThreadWords.{word_at_place, Derived, way_at}
 use Rattle.m3_roots.specs.RowMeaning.{AreFramesAt, tidy_places, derived_words}
 use Rattle.m3_roots.specs.RowLists.{ListsFit}

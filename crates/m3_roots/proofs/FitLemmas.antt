@@ -8,8 +8,8 @@ use Rattle.m3_tables.specs.Rows.{Bases, Entry}
 use Rattle.m3_tables.specs.Keeping.{EntryKept, RowKept}
 use Rattle.m3_tables.specs.Sections.{is_tidy, contents_in, is_listed, is_derived}
 use Rattle.m3_tables.proofs.KeepingLemmas.{and_parts, not_true}
-use Rattle.m3_sections.specs.Parts.{Program}
-use Rattle.m3_frames.specs.declared.frame.Frame.{Frame}
+use Rattle.m3_image_sections.specs.Parts.{Program}
+use Rattle.m3_run_frames.specs.declared.frame.Frame.{Frame}
 use Rattle.m3_roots.specs.ThreadWords.{place_from, Derived, derived_at, derived_from, place_of, path_places, bases_in_way, base_places}
 use Rattle.m3_roots.specs.RowMeaning.{tidy_of_frame, tidy_below, newest_arguments, tidy_places, derived_of_frame, derived_words}
 use Rattle.m3_roots.specs.RowLists.{derived_places, listed_below, listed_places, barred_in, barred_places, BasesArePlain, ListsFit}

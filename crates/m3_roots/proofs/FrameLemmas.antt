@@ -6,15 +6,15 @@ use Rattle.m3_tables.specs.Numbers.{word_in}
 use Rattle.m3_tables.specs.Sections.{directory_fault, end_fault, is_good, instruction_in}
 use Rattle.m3_tables.proofs.KeepingLemmas.{choice, and_parts}
 use Rattle.m3_tables.proofs.SectionLemmas.{instructions_before}
-use Rattle.m3_sections.specs.declared.procs.ProcPart.{ProcPart}
-use Rattle.m3_sections.specs.declared.refusal.ImageRefusal.TheVariants as refusal
-use Rattle.m3_sections.specs.Parts.{Program}
-use Rattle.m3_sections.specs.Ranges.{or_else, first_failing}
-use Rattle.m3_sections.proofs.FirstLemmas.{first_none}
+use Rattle.m3_image_sections.specs.declared.procs.ProcPart.{ProcPart}
+use Rattle.m3_image_sections.specs.declared.refusal.ImageRefusal.TheVariants as refusal
+use Rattle.m3_image_sections.specs.Parts.{Program}
+use Rattle.m3_image_sections.specs.Ranges.{or_else, first_failing}
+use Rattle.m3_image_sections.proofs.FirstLemmas.{first_none}
 use Rattle.m3_image.specs.Programs.{target_fits, lists_points, row_suits, row_fits, tables_fault, procs_suit, fault_of}
 use Rattle.m3_image.proofs.CoverLemmas.{suits}
-use Rattle.m3_frames.specs.declared.frame.Frame.{Frame}
-use Rattle.m3_frames.specs.Frames.{IsFrame, IsOlder}
+use Rattle.m3_run_frames.specs.declared.frame.Frame.{Frame}
+use Rattle.m3_run_frames.specs.Frames.{IsFrame, IsOlder}
 use Rattle.m3_roots.specs.RowMeaning.{AreBelow, AreFramesAt}
 
 -- ---- no two rows have one instruction

@@ -3,10 +3,10 @@ use Rattle.std.proofs.Common.{◌≡◌, ℕ, ◌+◌, Bool, true, false, List, 
 use Rattle.std.specs.Bool.{MatchBool, OnTrue, OnFalse}
 use Rattle.m3_heap.specs.Cells.{Cell}
 use Rattle.m3_heap.specs.Moves.{Move}
-use Rattle.m3_sections.specs.Parts.{Program}
-use Rattle.m3_sections.specs.Forms.{procs_fit}
+use Rattle.m3_image_sections.specs.Parts.{Program}
+use Rattle.m3_image_sections.specs.Forms.{procs_fit}
 use Rattle.m3_image.specs.Sound.{IsSoundProgram}
-use Rattle.m3_frames.specs.declared.frame.Frame.{Frame}
+use Rattle.m3_run_frames.specs.declared.frame.Frame.{Frame}
 use Rattle.m3_roots.specs.ThreadWords.{Derived}
 use Rattle.m3_roots.specs.RowMeaning.{AreFramesAt, HaveRows, tidy_places, derived_words}
 use Rattle.m3_roots.specs.RowLists.{ListsFit}

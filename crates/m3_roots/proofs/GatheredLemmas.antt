@@ -10,10 +10,10 @@ use Rattle.m3_heap.specs.Cells.{Cell}
 use Rattle.m3_heap.specs.Moves.{Move, kept_starts}
 use Rattle.m3_threads.specs.declared.status.Thread.{Thread}
 use Rattle.m3_threads.specs.All.{Everyone, base_of, words_of}
-use Rattle.m3_sections.specs.Parts.{Program}
-use Rattle.m3_sections.specs.Forms.{procs_fit}
+use Rattle.m3_image_sections.specs.Parts.{Program}
+use Rattle.m3_image_sections.specs.Forms.{procs_fit}
 use Rattle.m3_image.specs.Sound.{IsSoundProgram}
-use Rattle.m3_frames.specs.declared.frame.Frame.{Frame}
+use Rattle.m3_run_frames.specs.declared.frame.Frame.{Frame}
 use Rattle.m3_roots.specs.ThreadWords.{word_at_place}
 use Rattle.m3_roots.specs.RowMeaning.{AreFramesAt, tidy_places}
 use Rattle.m3_roots.specs.Gathering.{Gathers, GoesOn}

@@ -1,7 +1,7 @@
 -- What every image keeps, wherever a call tells it.
 use Rattle.std.proofs.Common.{◌≡◌, true, None, sym, ◌∙◌, subst}
-use Rattle.m3_sections.specs.Parts.{Image, Program}
-use Rattle.m3_sections.specs.Forms.{procs_fit, globals_fit}
+use Rattle.m3_image_sections.specs.Parts.{Image, Program}
+use Rattle.m3_image_sections.specs.Forms.{procs_fit, globals_fit}
 use Rattle.m3_image.specs.Images.{IsImage}
 use Rattle.m3_image.specs.Programs.{fault_of}
 use Rattle.m3_image.specs.Sound.{IsSoundProgram}

@@ -8,9 +8,9 @@ use Rattle.std.proofs.lemmas.Option.{slice_get_past, slice_get-get_or}
 use Rattle.m3_tables.specs.Numbers.{has}
 use Rattle.m3_heap.specs.Cells.{Cell}
 use Rattle.m3_heap.specs.Moves.{Move}
-use Rattle.m3_sections.specs.Parts.{Program}
-use Rattle.m3_frames.specs.declared.frame.Frame.{Frame}
-use Rattle.m3_frames.specs.Frames.{IsFrame, IsOlder}
+use Rattle.m3_image_sections.specs.Parts.{Program}
+use Rattle.m3_run_frames.specs.declared.frame.Frame.{Frame}
+use Rattle.m3_run_frames.specs.Frames.{IsFrame, IsOlder}
 use Rattle.m3_roots.specs.ThreadWords.{word_at_place, place_of, path_places}
 use Rattle.m3_roots.specs.RowMeaning.{AreBelow, AreFramesAt, tidy_places, derived_of_frame, derived_words}
 use Rattle.m3_roots.specs.RowLists.{listed_places, barred_in, barred_places, ListsFit}

@@ -1,10 +1,10 @@
 -- Marks that were made for the rows tell whether their lists fit.
 use Rattle.std.proofs.Common.{◌≡◌, ℕ, ◌+◌, ◌<◌, ◌≤◌, Bool, true, false, List, length, Some, sym, ◌∙◌, arith}
 use Rattle.std.specs.List.{slice_get, AllByRecursion}
-use Rattle.m3_sections.specs.Parts.{Program}
-use Rattle.m3_sections.specs.Forms.{procs_fit}
+use Rattle.m3_image_sections.specs.Parts.{Program}
+use Rattle.m3_image_sections.specs.Forms.{procs_fit}
 use Rattle.m3_image.specs.Sound.{IsSoundProgram}
-use Rattle.m3_frames.specs.declared.frame.Frame.{Frame}
+use Rattle.m3_run_frames.specs.declared.frame.Frame.{Frame}
 use Rattle.m3_roots.specs.declared.marks.Mark.{Mark}
 use Rattle.m3_roots.specs.RowMeaning.{AreFramesAt}
 use Rattle.m3_roots.specs.RowLists.{ListsFit}

@@ -8,8 +8,8 @@ use Rattle.m3_heap.specs.Moves.{Move}
 use Rattle.m3_threads.specs.declared.status.Thread.{Thread}
 use Rattle.m3_threads.specs.All.{Everyone, base_of, words_of}
 use Rattle.m3_threads.proofs.Places.{some_same}
-use Rattle.m3_sections.specs.Parts.{Program}
-use Rattle.m3_frames.specs.declared.frame.Frame.{Frame}
+use Rattle.m3_image_sections.specs.Parts.{Program}
+use Rattle.m3_run_frames.specs.declared.frame.Frame.{Frame}
 use Rattle.m3_roots.specs.RowMeaning.{AreFramesAt}
 use Rattle.m3_roots.specs.Moving.{MovesWords}
 use Rattle.m3_roots.specs.Gathering.{Gathers, GoesOn}

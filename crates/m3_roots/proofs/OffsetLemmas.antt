@@ -11,8 +11,8 @@ use Rattle.m3_tables.specs.Numbers.{has}
 use Rattle.m3_tables.specs.Rows.{Bases}
 use Rattle.m3_tables.proofs.KeepingLemmas.{choice}
 use Rattle.m3_heap.specs.Moves.{Move}
-use Rattle.m3_sections.specs.Parts.{Program}
-use Rattle.m3_frames.specs.declared.frame.Frame.{Frame}
+use Rattle.m3_image_sections.specs.Parts.{Program}
+use Rattle.m3_run_frames.specs.declared.frame.Frame.{Frame}
 use Rattle.m3_roots.specs.ThreadWords.{word_at_place, places_from, Derived, place_of, path_places, way_at, bases_by_way}
 use Rattle.m3_roots.specs.RowMeaning.{tidy_places, derived_words}
 use Rattle.m3_roots.specs.RowLists.{ListsFit}

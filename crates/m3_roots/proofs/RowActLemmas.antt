@@ -5,8 +5,8 @@ use Rattle.std.specs.List.{flat_map}
 use Rattle.std.proofs.lemmas.List.{append-nil, append_assoc}
 use Rattle.m3_tables.specs.Numbers.{has}
 use Rattle.m3_tables.proofs.SectionLemmas.{has_append}
-use Rattle.m3_sections.specs.Parts.{Program}
-use Rattle.m3_frames.specs.declared.frame.Frame.{Frame}
+use Rattle.m3_image_sections.specs.Parts.{Program}
+use Rattle.m3_run_frames.specs.declared.frame.Frame.{Frame}
 use Rattle.m3_roots.specs.ThreadWords.{place_from, Derived, path_places, base_places}
 use Rattle.m3_roots.specs.RowMeaning.{tidy_of_frame, newest_arguments, derived_of_frame}
 use Rattle.m3_roots.specs.RowLists.{derived_places, listed_below, listed_places, barred_in, barred_places, bases_in, BasesArePlain, ListsFit}

@@ -7,8 +7,8 @@ use Rattle.std.proofs.lemmas.List.{take_more}
 use Rattle.m3_tables.specs.declared.row.Row.{Row}
 use Rattle.m3_tables.specs.Sections.{contents_in}
 use Rattle.m3_tables.specs.Tables.{section_of_row, number_of_row, arguments_in as row_arguments, derived_in as row_derived}
-use Rattle.m3_sections.specs.Parts.{Program}
-use Rattle.m3_frames.specs.declared.frame.Frame.{Frame}
+use Rattle.m3_image_sections.specs.Parts.{Program}
+use Rattle.m3_run_frames.specs.declared.frame.Frame.{Frame}
 use Rattle.m3_roots.specs.ThreadWords.{places_from, Derived, derived_from}
 use Rattle.m3_roots.specs.RowMeaning.{arguments_of_frame, newest_arguments, derived_of_frame, derived_words}
 use Rattle.m3_roots.specs.TakingApart.{apart, together}

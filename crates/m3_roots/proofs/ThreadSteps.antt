@@ -9,8 +9,8 @@ use Rattle.m3_threads.specs.All.{Everyone, thread_named, base_of, words_of}
 use Rattle.m3_threads.specs.Going.{of_thread}
 use Rattle.m3_threads.specs.Lending.{with_regs, with_words}
 use Rattle.m3_threads.proofs.Places.{found-number}
-use Rattle.m3_sections.specs.Parts.{Program}
-use Rattle.m3_frames.specs.declared.frame.Frame.{Frame}
+use Rattle.m3_image_sections.specs.Parts.{Program}
+use Rattle.m3_run_frames.specs.declared.frame.Frame.{Frame}
 use Rattle.m3_roots.specs.RowMeaning.{AreFramesAt}
 use Rattle.m3_roots.specs.Gathering.{Gathers, StopsGathering}
 use Rattle.m3_roots.specs.Moving.{MovesWords}

@@ -1,7 +1,7 @@
 -- Derived words of a row, by their numbers.
-use Rattle.std.proofs.Common.{◌≡◌, ℕ, zero, suc, ◌≤◌, List, [], ◌∷◌, ◌++◌, length, drop, Option, Some, None, refl, sym, ap, ◌∙◌, arith}
+use Rattle.std.proofs.Common.{◌≡◌, ℕ, zero, suc, ◌+◌, ◌-◌, ◌≤◌, Bool, List, [], ◌∷◌, ◌++◌, length, take, drop, Option, Some, None, MatchOption, MatchBool, refl, sym, subst, ap, ◌∙◌, arith}
+use Rattle.std.proofs.lemmas.List.{map-append, take_all}
 use Rattle.std.specs.Option.{option_and_then, option_map_or}
-use Rattle.std.specs.List.{slice_get}
 use Rattle.m3_tables.specs.Rows.{Entry}
 use Rattle.m3_tables.specs.Fields.{entry_at, entries_in}
 use Rattle.m3_roots.specs.ThreadWords.{Derived, derived_at, derived_from}
@@ -16,20 +16,6 @@ pub length-entries : (n : ℕ) (bytes : List ℕ) → length (entries_in n bytes
 unfolding entries_in
 length-entries zero bytes = omega arith
 length-entries (suc n) bytes = then_entries (entry_at bytes) n (length-entries n)
-
--- one more is put together
-pub together_step : (first : ℕ) (es : List Entry) (k : ℕ) (e : Entry) (words v : List ℕ) → slice_get es k ≡ Some e → together (drop (suc k) (derived_from first es)) words ≡ Some v → together (drop k (derived_from first es)) words ≡ together_at (derived_at first e) v
-together_step first [] k e words v found rest = absurd cc
-together_step first (x ∷ xs) zero e words v found rest =
-    let same : x ≡ e = cc in
-    ap (λ (o : Option (List ℕ)). option_and_then (together_at (derived_at first x)) o) rest ∙ ap (λ (y : Entry). together_at (derived_at first y) v) same
-together_step first (x ∷ xs) (suc k) e words v found rest = together_step first xs k e words v found rest
-
--- where a part isn't put together, the whole isn't
-pub together_none : (ds : List Derived) (k : ℕ) (words : List ℕ) → together (drop k ds) words ≡ None → together ds words ≡ None
-together_none ds zero words h = h
-together_none [] (suc k) words h = absurd cc
-together_none (d ∷ ds) (suc k) words h = ap (λ (o : Option (List ℕ)). option_and_then (together_at d) o) (together_none ds k words h)
 
 -- ---- one list after another
 
@@ -52,3 +38,64 @@ then_some (Some words) = refl
 pub together_append : (xs ys : List Derived) (words : List ℕ) → together (xs ++ ys) words ≡ option_and_then (together xs) (together ys words)
 together_append [] ys words = sym (then_some (together ys words))
 together_append (x ∷ xs) ys words = ap (λ (o : Option (List ℕ)). option_and_then (together_at x) o) (together_append xs ys words) ∙ together_then x xs (together ys words)
+
+-- ---- by halves
+
+past_end : (k : ℕ) (es : List Entry) → drop k es ≡ [] → drop (suc k) es ≡ []
+past_end zero [] h = refl
+past_end zero (e ∷ es) h = absurd cc
+past_end (suc k) [] h = refl
+past_end (suc k) (e ∷ es) h = past_end k es h
+
+past_one : (k : ℕ) (es : List Entry) (e : Entry) (t : List Entry) → drop k es ≡ e ∷ t → drop (suc k) es ≡ t
+past_one zero [] e t h = absurd cc
+past_one zero (x ∷ es) e t h = cc
+past_one (suc k) [] e t h = absurd cc
+past_one (suc k) (x ∷ es) e t h = past_one k es e t h
+
+one_past : (k : ℕ) (es : List Entry) → drop (suc k) es ≡ drop (k + 1) es
+one_past k es = let more : suc k ≡ k + 1 = omega arith in ap (λ (n : ℕ). drop n es) more
+
+-- what is behind one more
+pub one_less : {X : Type 0} (view : X → Entry) (k : ℕ) (es s t : List Entry) (r : Option X) → s ≡ drop k es → MatchOption r ((s ≡ []) × (t ≡ [])) (λ x. s ≡ view x ∷ t) → t ≡ drop (k + 1) es
+one_less view k es s t None at steps = steps.1 ∙ (sym (past_end k es (sym at ∙ steps.0)) ∙ one_past k es)
+one_less view k es s t (Some x) at steps = sym (past_one k es (view x) t (sym at ∙ steps)) ∙ one_past k es
+
+take_none : (n : ℕ) → take {A = Entry} n [] ≡ []
+take_none zero = refl
+take_none (suc n) = refl
+
+take_parts : (half count : ℕ) (es : List Entry) → half ≤ count → take count es ≡ take half es ++ take (count - half) (drop half es)
+take_parts zero count es h = let same : count ≡ count - 0 = omega arith in ap (λ (n : ℕ). take n es) same
+take_parts (suc half) zero es h = absurd (omega arith)
+take_parts (suc half) (suc count) [] h = sym (take_none (suc count - suc half))
+take_parts (suc half) (suc count) (e ∷ es) h =
+    let same : count - half ≡ suc count - suc half = omega arith in
+    ap (λ (rest : List Entry). e ∷ rest) (take_parts half count es (omega arith)) ∙ ap (λ (n : ℕ). e ∷ (take half es ++ take n (drop half es))) same
+
+parts_together : (first half count : ℕ) (es : List Entry) (words : List ℕ) → half ≤ count → together (derived_from first (take count es)) words ≡ option_and_then (together (derived_from first (take half es))) (together (derived_from first (take (count - half) (drop half es))) words)
+parts_together first half count es words h =
+    let front = take half es in
+    let back = take (count - half) (drop half es) in
+    ap (λ (xs : List Entry). together (derived_from first xs) words) (take_parts half count es h) ∙ (ap (λ (ds : List Derived). together ds words) (map-append (derived_at first) front back) ∙ together_append (derived_from first front) (derived_from first back) words)
+
+-- where the second half isn't put together, the whole isn't
+pub half_stops : (first half count : ℕ) (es back : List Entry) (words : List ℕ) → half ≤ count → back ≡ drop half es → together (derived_from first (take (count - half) back)) words ≡ None → together (derived_from first (take count es)) words ≡ None
+half_stops first half count es back words h is none =
+    parts_together first half count es words h
+    ∙ (ap (λ (xs : List Entry). option_and_then (together (derived_from first (take half es))) (together (derived_from first (take (count - half) xs)) words)) (sym is)
+    ∙ ap (λ (o : Option (List ℕ)). option_and_then (together (derived_from first (take half es))) o) none)
+
+-- and where it is, the first half decides
+pub both_halves : (b : Bool) (first half count : ℕ) (es back : List Entry) (words middle last : List ℕ) → half ≤ count → back ≡ drop half es → together (derived_from first (take (count - half) back)) words ≡ Some middle → MatchBool b (together (derived_from first (take half es)) middle ≡ Some last) (together (derived_from first (take half es)) middle ≡ None) → MatchBool b (together (derived_from first (take count es)) words ≡ Some last) (together (derived_from first (take count es)) words ≡ None)
+both_halves b first half count es back words middle last h is some rest =
+    let whole : together (derived_from first (take count es)) words ≡ together (derived_from first (take half es)) middle =
+    parts_together first half count es words h
+    ∙ (ap (λ (xs : List Entry). option_and_then (together (derived_from first (take half es))) (together (derived_from first (take (count - half) xs)) words)) (sym is)
+    ∙ ap (λ (o : Option (List ℕ)). option_and_then (together (derived_from first (take half es))) o) some) in
+    subst (λ (o : Option (List ℕ)). MatchBool b (o ≡ Some last) (o ≡ None)) (sym whole) rest
+
+pub all_of_them : (b : Bool) (first count : ℕ) (es all : List Entry) (words last : List ℕ) → es ≡ all → count ≡ length all → MatchBool b (together (derived_from first (take count es)) words ≡ Some last) (together (derived_from first (take count es)) words ≡ None) → MatchBool b (together (derived_from first all) words ≡ Some last) (together (derived_from first all) words ≡ None)
+all_of_them b first count es all words last same size h =
+    let those : take count es ≡ all = ap (take count) same ∙ (ap (λ (n : ℕ). take n all) size ∙ take_all (length all) all (omega arith)) in
+    subst (λ (xs : List Entry). MatchBool b (together (derived_from first xs) words ≡ Some last) (together (derived_from first xs) words ≡ None)) those h

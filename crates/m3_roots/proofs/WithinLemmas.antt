@@ -9,13 +9,13 @@ use Rattle.m3_tables.specs.Keeping.{RowKept}
 use Rattle.m3_tables.specs.Sections.{is_tidy, tidy_list, contents_in, is_listed, is_derived}
 use Rattle.m3_tables.proofs.KeepingLemmas.{choice, and_parts}
 use Rattle.m3_tables.proofs.SectionLemmas.{has_tidy_list}
-use Rattle.m3_sections.specs.declared.procs.ProcPart.{ProcPart}
-use Rattle.m3_sections.specs.Parts.{Program}
-use Rattle.m3_sections.specs.Forms.{proc_fits, follow_from, procs_fit, second_fits}
-use Rattle.m3_sections.specs.Ranges.{containing}
+use Rattle.m3_image_sections.specs.declared.procs.ProcPart.{ProcPart}
+use Rattle.m3_image_sections.specs.Parts.{Program}
+use Rattle.m3_image_sections.specs.Forms.{proc_fits, follow_from, procs_fit, second_fits}
+use Rattle.m3_image_sections.specs.Ranges.{containing}
 use Rattle.m3_image.specs.Sound.{IsInFrame, EntryPlaces, RowInFrame, IsSoundProgram}
-use Rattle.m3_frames.specs.declared.frame.Frame.{Frame}
-use Rattle.m3_frames.specs.Frames.{IsFrame}
+use Rattle.m3_run_frames.specs.declared.frame.Frame.{Frame}
+use Rattle.m3_run_frames.specs.Frames.{IsFrame}
 use Rattle.m3_roots.specs.ThreadWords.{places_from, Derived, derived_at, derived_from, place_of, path_list, path_places, base_places}
 use Rattle.m3_roots.specs.RowMeaning.{AreBelow, AreFramesAt, HaveRows, tidy_of_frame, arguments_of_frame, tidy_below, newest_arguments, tidy_places, derived_of_frame, derived_words}
 use Rattle.m3_roots.specs.RowLists.{derived_places}

@@ -9,9 +9,9 @@ use Rattle.m3_heap.specs.Reach.{IsReachable, IsBadPointer, HasBadPointer}
 use Rattle.m3_heap.specs.Heap.{Heap, CountsOne, MakesRoom}
 use Rattle.m3_threads.specs.declared.status.Thread.{Thread}
 use Rattle.m3_threads.specs.All.{Everyone, base_of, words_of}
-use Rattle.m3_sections.specs.Parts.{Program}
-use Rattle.m3_sections.specs.Shapes.{shape_of}
-use Rattle.m3_frames.specs.declared.frame.Frame.{Frame}
+use Rattle.m3_image_sections.specs.Parts.{Program}
+use Rattle.m3_image_sections.specs.Shapes.{shape_of}
+use Rattle.m3_run_frames.specs.declared.frame.Frame.{Frame}
 use Rattle.m3_roots.specs.ThreadWords.{word_at_place, Derived, way_at}
 use Rattle.m3_roots.specs.RowMeaning.{AreFramesAt, tidy_places, derived_words}
 use Rattle.m3_roots.specs.RowLists.{ListsFit}

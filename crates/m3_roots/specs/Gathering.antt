@@ -2,8 +2,8 @@
 use Rattle.std.specs.Prelude.{ℕ, ◌≡◌, List, ◌++◌, None, Some}
 use Rattle.m3_heap.specs.Cells.{Cell}
 use Rattle.m3_heap.specs.Moves.{Move}
-use Rattle.m3_sections.specs.Parts.{Program}
-use Rattle.m3_frames.specs.declared.frame.Frame.{Frame}
+use Rattle.m3_image_sections.specs.Parts.{Program}
+use Rattle.m3_run_frames.specs.declared.frame.Frame.{Frame}
 use Rattle.m3_roots.specs.RowMeaning.{tidy_places, derived_words}
 use Rattle.m3_roots.specs.RowLists.{ListsFit}
 use Rattle.m3_roots.specs.TakingApart.{apart}

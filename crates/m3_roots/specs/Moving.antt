@@ -4,8 +4,8 @@ use Rattle.m3_base.specs.Words.{add_words, sub_words}
 use Rattle.m3_tables.specs.Numbers.{has}
 use Rattle.m3_tables.specs.Rows.{Bases}
 use Rattle.m3_heap.specs.Moves.{Move, forwarded}
-use Rattle.m3_sections.specs.Parts.{Program}
-use Rattle.m3_frames.specs.declared.frame.Frame.{Frame}
+use Rattle.m3_image_sections.specs.Parts.{Program}
+use Rattle.m3_run_frames.specs.declared.frame.Frame.{Frame}
 use Rattle.m3_roots.specs.ThreadWords.{word_at_place, Derived, place_of, way_at, bases_by_way}
 use Rattle.m3_roots.specs.RowMeaning.{tidy_places, derived_words}
 

@@ -5,8 +5,8 @@ use Rattle.m3_base.specs.Words.{sub_words}
 use Rattle.m3_tables.specs.Rows.{Bases}
 use Rattle.m3_threads.specs.declared.status.Thread.{Thread}
 use Rattle.m3_threads.specs.All.{Everyone}
-use Rattle.m3_sections.specs.Parts.{Program}
-use Rattle.m3_frames.specs.declared.frame.Frame.{Frame}
+use Rattle.m3_image_sections.specs.Parts.{Program}
+use Rattle.m3_run_frames.specs.declared.frame.Frame.{Frame}
 use Rattle.m3_roots.specs.ThreadWords.{word_at_place, places_from, Derived, place_of, way_at}
 use Rattle.m3_roots.specs.RowMeaning.{derived_words}
 use Rattle.m3_roots.specs.Collected.{words_at, AreFrames}

@@ -1,7 +1,7 @@
 -- The marks that are made for the rows of a thread's frames.
 use Rattle.std.specs.Prelude.{List, [], ◌∷◌, ◌++◌, map}
-use Rattle.m3_sections.specs.Parts.{Program}
-use Rattle.m3_frames.specs.declared.frame.Frame.{Frame}
+use Rattle.m3_image_sections.specs.Parts.{Program}
+use Rattle.m3_run_frames.specs.declared.frame.Frame.{Frame}
 use Rattle.m3_roots.specs.RowMeaning.{tidy_of_frame, newest_arguments, derived_of_frame}
 use Rattle.m3_roots.specs.RowLists.{derived_places}
 use Rattle.m3_roots.specs.BarActs.{bar_acts}

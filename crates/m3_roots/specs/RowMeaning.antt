@@ -4,9 +4,9 @@ use Rattle.std.specs.Prelude.{ℕ, ◌≡◌, ◌+◌, ◌<◌, List, [], ◌∷
 use Rattle.std.specs.List.{AllByRecursion}
 use Rattle.m3_tables.specs.Numbers.{word_in}
 use Rattle.m3_tables.specs.Sections.{tidy_list, contents_in}
-use Rattle.m3_sections.specs.Parts.{Program}
-use Rattle.m3_frames.specs.declared.frame.Frame.{Frame}
-use Rattle.m3_frames.specs.Frames.{IsFrame, IsOlder}
+use Rattle.m3_image_sections.specs.Parts.{Program}
+use Rattle.m3_run_frames.specs.declared.frame.Frame.{Frame}
+use Rattle.m3_run_frames.specs.Frames.{IsFrame, IsOlder}
 use Rattle.m3_roots.specs.ThreadWords.{places_from, Derived, derived_from}
 
 -- ---- frames

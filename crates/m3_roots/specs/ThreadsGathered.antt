@@ -8,8 +8,8 @@ use Rattle.m3_heap.specs.Heap.{Heap}
 use Rattle.m3_threads.specs.declared.status.Thread.{Thread}
 use Rattle.m3_threads.specs.All.{Everyone, AreSoundThreads, words_of}
 use Rattle.m3_threads.specs.Lending.{with_regs, with_words}
-use Rattle.m3_sections.specs.Parts.{Program}
-use Rattle.m3_frames.specs.declared.frame.Frame.{Frame}
+use Rattle.m3_image_sections.specs.Parts.{Program}
+use Rattle.m3_run_frames.specs.declared.frame.Frame.{Frame}
 use Rattle.m3_roots.specs.Collected.{Parts, with_registers, words_at, AreFrames, frames_at, tidy_words}
 use Rattle.m3_roots.specs.Gathering.{Gathers, StopsGathering, GoesOn}
 use Rattle.m3_roots.specs.Moving.{MovesWords}

@@ -1,15 +1,15 @@
 //! The derived words of all frames of a thread, taken apart and put together again.
 ghost use Rattle.std.specs.Prelude.{◌≡◌, ◌++◌, Some, None};
 ghost use Rattle.std.specs.Bool.{MatchBool};
-ghost use Rattle.m3_decoded.specs.Ready.{image_of};
+ghost use Rattle.m3_image_decoded.specs.Ready.{image_of};
 ghost use Rattle.m3_roots.specs.RowMeaning.{HaveRows, derived_words};
 ghost use Rattle.m3_roots.specs.TakingApart.{apart, together};
 
 use crate::bases::{put_row_together, take_row_apart};
 use crate::walk::row_of;
-use m3_decoded::Decoded;
-use m3_frames::Frame;
 use m3_heap::Steps;
+use m3_image_decoded::Decoded;
+use m3_run_frames::Frame;
 use std::sync::ledger::Ledger;
 
 /// Subtracts the bases of all derived words from them, from the newest frame to the oldest. False

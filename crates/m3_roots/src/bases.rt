@@ -1,8 +1,8 @@
 //! Derived words of one frame, taken apart and put together again.
-ghost use Rattle.std.specs.Prelude.{◌≡◌, ◌++◌, length, Some, None};
+ghost use Rattle.std.specs.Prelude.{◌≡◌, ◌++◌, length, take, drop, Some, None};
 ghost use Rattle.std.specs.Bool.{MatchBool};
 ghost use Rattle.std.specs.Option.{option_map};
-ghost use Rattle.m3_tables.specs.Views.{numbers_of, bases_of, entry_of};
+ghost use Rattle.m3_tables.specs.Views.{numbers_of, bases_of, entry_of, entries_of};
 ghost use Rattle.m3_tables.specs.Tables.{derived_in};
 ghost use Rattle.m3_roots.specs.ThreadWords.{places_from, derived_at, derived_from, way_at, sum_at};
 ghost use Rattle.m3_roots.specs.ThreadWords.{bases_by_way};
@@ -10,7 +10,7 @@ ghost use Rattle.m3_roots.specs.TakingApart.{apart_at, apart, together_at, toget
 
 use crate::places::{set_word, word_at};
 use m3_heap::Steps;
-use m3_tables::{Derivation, Numbers, Row, WayView};
+use m3_tables::{Derivation, Entries, Numbers, Row, WayView};
 use std::sync::ledger::Ledger;
 
 /// The sum of the words at some places, modulo 2^64.
@@ -147,6 +147,64 @@ fn count_of(row: &Row<'_>) -> u32
     count
 }
 
+/// The derived words behind the first so many.
+fn behind<'a>(entries: Entries<'a>, count: u32) -> Entries<'a>
+    ensures { entries_of result ≡ drop count (entries_of entries.entry) }
+{
+    let mut later = entries;
+    for _ in 0..count {
+        later.next();
+    }
+    later
+}
+
+/// Adds the bases of the first one of some derived words to it, where there is one.
+fn put_one_together<L: Ledger>(
+    entries: Entries<'_>,
+    first: usize,
+    r: &mut [u64; 16],
+    stack: &mut [u64],
+    steps: &mut Steps<L>,
+) -> bool
+    ensures { let ds = derived_from first (take 1 (entries_of entries.entry)) in
+        MatchBool result (together ds (r.old ++ stack.old) ≡ Some (r.new ++ stack.new))
+        (together ds (r.old ++ stack.old) ≡ None) }
+{
+    let mut entries = entries;
+    match entries.next() {
+        Some(entry) => add(first, &entry, r, stack, steps),
+        None => true,
+    }
+}
+
+/// Adds the bases of the first so many of some derived words to them, from the last to the first.
+/// They can be read forward only, so the second half of them comes first, and so on in each half.
+fn put_many_together<L: Ledger>(
+    entries: Entries<'_>,
+    count: u32,
+    first: usize,
+    r: &mut [u64; 16],
+    stack: &mut [u64],
+    steps: &mut Steps<L>,
+) -> bool
+    ensures { let ds = derived_from first (take count (entries_of entries.entry)) in
+        MatchBool result (together ds (r.old ++ stack.old) ≡ Some (r.new ++ stack.new))
+        (together ds (r.old ++ stack.old) ≡ None) }
+{
+    if count == 0 {
+        return true;
+    }
+    if count == 1 {
+        return put_one_together(entries, first, r, stack, steps);
+    }
+    let half = count / 2;
+    let later = behind(entries, half);
+    if !put_many_together(later, count - half, first, r, stack, steps) {
+        return false;
+    }
+    put_many_together(entries, half, first, r, stack, steps)
+}
+
 /// Adds the bases of a row's derived words to them, from the last to the first.
 pub fn put_row_together<L: Ledger>(
     row: &Row<'_>,
@@ -159,15 +217,5 @@ pub fn put_row_together<L: Ledger>(
         MatchBool result (together ds (r.old ++ stack.old) ≡ Some (r.new ++ stack.new))
         (together ds (r.old ++ stack.old) ≡ None) }
 {
-    let mut k = count_of(row);
-    while k > 0 {
-        k -= 1;
-        let Some(entry) = row.derived(k) else {
-            return false;
-        };
-        if !add(first, &entry, r, stack, steps) {
-            return false;
-        }
-    }
-    true
+    put_many_together(row.derivations(), count_of(row), first, r, stack, steps)
 }

@@ -4,7 +4,7 @@ ghost use Rattle.std.specs.Bool.{OnTrue, OnFalse};
 ghost use Rattle.m3_heap.specs.Cells.{Cell};
 ghost use Rattle.m3_heap.specs.Moves.{Move};
 ghost use Rattle.m3_heap.specs.Shapes.{Shape};
-ghost use Rattle.m3_decoded.specs.Ready.{image_of};
+ghost use Rattle.m3_image_decoded.specs.Ready.{image_of};
 ghost use Rattle.m3_roots.specs.RowMeaning.{AreFramesAt};
 ghost use Rattle.m3_roots.specs.Visiting.{KeepsHeap};
 ghost use Rattle.m3_roots.specs.Moving.{MovesWords};
@@ -14,9 +14,9 @@ use crate::apart::{put_together, take_apart};
 use crate::lists::lists_fit;
 use crate::marks::Mark;
 use crate::tidy::visit_frames;
-use m3_decoded::Decoded;
-use m3_frames::Frame;
 use m3_heap::{Steps, Store};
+use m3_image_decoded::Decoded;
+use m3_run_frames::Frame;
 use std::sync::ledger::Ledger;
 
 /// Takes the derived words of a thread with these frames apart and visits its tidy words. False

@@ -3,8 +3,8 @@
 ghost use Rattle.std.specs.Prelude.{◌≡◌, ◌≤◌, ◌<◌, ◌+◌, ◌^◌, ℕ, List, length, map, true, false};
 ghost use Rattle.std.specs.List.{AllByRecursion};
 ghost use Rattle.m3_tables.specs.Numbers.{word_in};
-ghost use Rattle.m3_decoded.specs.Ready.{image_of};
-ghost use Rattle.m3_frames.specs.declared.frame.Frame.{Frame as AFrame};
+ghost use Rattle.m3_image_decoded.specs.Ready.{image_of};
+ghost use Rattle.m3_run_frames.specs.declared.frame.Frame.{Frame as AFrame};
 ghost use Rattle.m3_roots.specs.RowMeaning.{HaveRows, AreFramesAt, newest_arguments};
 ghost use Rattle.m3_roots.specs.RowLists.{ListsFit};
 ghost use Rattle.m3_roots.specs.Marking.{Lists, MarksAll};
@@ -13,8 +13,8 @@ ghost use Rattle.m3_roots.specs.RowActs.{frame_acts, acts_below, acts_of};
 use crate::listing::{bar_all, list_numbers, list_row};
 use crate::marks::{Mark, clear};
 use crate::walk::row_of;
-use m3_decoded::Decoded;
-use m3_frames::Frame;
+use m3_image_decoded::Decoded;
+use m3_run_frames::Frame;
 
 /// Marks what the row of a frame lists.
 fn mark_frame(image: &Decoded<'_>, marks: &mut [Mark], frame: &Frame) -> bool

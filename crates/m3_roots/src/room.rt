@@ -3,7 +3,7 @@ ghost use Rattle.m3_roots.specs.RoomSizes.{IsRoomFor};
 
 use crate::marks::{BLANK, Mark};
 use m3_base::NoMemory;
-use m3_frames::Frame;
+use m3_run_frames::Frame;
 use std::alloc::Global;
 
 /// What a collection needs beside the machine's words, for one thread at a time: a list of frames,

@@ -3,16 +3,16 @@ ghost use Rattle.std.specs.Prelude.{◌≡◌, ◌<◌, ◌++◌, ◌∷◌, [],
 ghost use Rattle.m3_roots.specs.ThreadWords.{word_at_place};
 ghost use Rattle.m3_tables.specs.Numbers.{word_in};
 ghost use Rattle.m3_heap.specs.Shapes.{Shape};
-ghost use Rattle.m3_decoded.specs.Ready.{image_of};
+ghost use Rattle.m3_image_decoded.specs.Ready.{image_of};
 ghost use Rattle.m3_roots.specs.RowMeaning.{HaveRows, tidy_of_frame, tidy_below, newest_arguments};
 ghost use Rattle.m3_roots.specs.RowMeaning.{tidy_places};
 ghost use Rattle.m3_roots.specs.Visiting.{VisitEnds, KeepsHeap};
 
 use crate::visits::{visit_list, visit_numbers};
 use crate::walk::row_of;
-use m3_decoded::Decoded;
-use m3_frames::Frame;
 use m3_heap::{Steps, Store};
+use m3_image_decoded::Decoded;
+use m3_run_frames::Frame;
 use std::sync::ledger::Ledger;
 
 /// Visits the tidy words of a frame.

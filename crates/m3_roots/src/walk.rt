@@ -3,13 +3,13 @@ ghost use Rattle.std.specs.Prelude.{IfNone};
 ghost use Rattle.std.specs.Bool.{OnTrue};
 ghost use Rattle.m3_tables.specs.Numbers.{word_in};
 ghost use Rattle.m3_tables.specs.Tables.{section_of_row, number_of_row};
-ghost use Rattle.m3_decoded.specs.Ready.{image_of};
-ghost use Rattle.m3_frames.specs.declared.frame.Frame.{Frame as AFrame};
+ghost use Rattle.m3_image_decoded.specs.Ready.{image_of};
+ghost use Rattle.m3_run_frames.specs.declared.frame.Frame.{Frame as AFrame};
 ghost use Rattle.m3_roots.specs.RowMeaning.{AreFramesAt};
 
-use m3_decoded::Decoded;
-use m3_frames::{Frame, frame_at, older_frame};
+use m3_image_decoded::Decoded;
 use m3_isa::Regs;
+use m3_run_frames::{Frame, frame_at, older_frame};
 use m3_tables::Row;
 
 /// The row of a frame. None exactly where there is no row of its number.

@@ -2,9 +2,9 @@
 use Rattle.std.proofs.Common.{◌≡◌, ℕ, ◌+◌, ◌<◌, true, List, Option, Some, None, sym, ◌∙◌, ap, subst, arith}
 use Rattle.std.specs.Prelude.{MatchOption}
 use Rattle.std.specs.List.{slice_get}
-use Rattle.m3_sections.specs.Parts.{Program}
-use Rattle.m3_frames.specs.declared.frame.Frame.{Frame}
-use Rattle.m3_frames.specs.Frames.{IsFrame, IsOlder, is_call_at}
+use Rattle.m3_image_sections.specs.Parts.{Program}
+use Rattle.m3_run_frames.specs.declared.frame.Frame.{Frame}
+use Rattle.m3_run_frames.specs.Frames.{IsFrame, IsOlder, is_call_at}
 
 pub older_found : (p : Program) (base : ℕ) (stack : List ℕ) (newer : Frame) (first instr back start : ℕ) (o : Option Frame) → slice_get stack newer.first ≡ Some back → slice_get stack (newer.first + 1) ≡ Some start → back ≡ instr + 1
     → start ≡ base + first → first < newer.first → is_call_at p instr ≡ true → MatchOption o ((f : Frame) → IsFrame p stack first instr f → ⊥) (λ f. IsFrame p stack first instr f)

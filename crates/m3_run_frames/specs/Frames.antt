@@ -5,10 +5,10 @@ use Rattle.std.specs.Option.{option_map_or}
 use Rattle.m3_image.specs.Programs.{is_call}
 use Rattle.m3_tables.specs.Numbers.{word_in}
 use Rattle.m3_tables.specs.Sections.{instruction_in}
-use Rattle.m3_sections.specs.declared.procs.ProcPart.{ProcPart}
-use Rattle.m3_sections.specs.Parts.{Program}
-use Rattle.m3_sections.specs.Ranges.{containing}
-use Rattle.m3_frames.specs.declared.frame.Frame.{Frame}
+use Rattle.m3_image_sections.specs.declared.procs.ProcPart.{ProcPart}
+use Rattle.m3_image_sections.specs.Parts.{Program}
+use Rattle.m3_image_sections.specs.Ranges.{containing}
+use Rattle.m3_run_frames.specs.declared.frame.Frame.{Frame}
 
 -- a frame begins at a place of the stack and has an instruction: the row is that instruction's, and the frame has as
 -- many words as that of the procedure that the instruction is in, all of them in the stack

@@ -1,10 +1,10 @@
 ghost use Rattle.std.specs.Prelude.{◌≡◌, ◌<◌, ◌^◌, ℕ, MatchOption};
-ghost use Rattle.m3_decoded.specs.Ready.{image_of};
+ghost use Rattle.m3_image_decoded.specs.Ready.{image_of};
 ghost use Rattle.m3_image.specs.Programs.{is_call};
-ghost use Rattle.m3_frames.specs.Frames.{IsFrame, IsOlder, is_call_at};
+ghost use Rattle.m3_run_frames.specs.Frames.{IsFrame, IsOlder, is_call_at};
 
 use crate::frame::Frame;
-use m3_decoded::Decoded;
+use m3_image_decoded::Decoded;
 use m3_isa::Op;
 
 /// The frame that begins at a place of a stack and has an instruction. None exactly where the

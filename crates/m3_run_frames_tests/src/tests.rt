@@ -1,6 +1,6 @@
-use m3_decoded::Decoded;
-use m3_frames::{Frame, frame_at, older_frame};
 use m3_image::ImageView;
+use m3_image_decoded::Decoded;
+use m3_run_frames::{Frame, frame_at, older_frame};
 use std::test::Fail;
 
 /// An image with something in each section.

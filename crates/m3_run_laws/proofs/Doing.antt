@@ -21,24 +21,24 @@ use Rattle.m3_threads.specs.All.{Everyone, is_named}
 use Rattle.m3_threads.specs.Going.{IsAwake, IsAwakeAt, status_at, status_at_of, with_status}
 use Rattle.m3_threads.specs.Actions.{After, IsAfter, Forks, forked, started, ends, joins, acquires, releases, waits, wakes, broadcasts, alerts, tests_alert, alert_waits, alert_joins}
 use Rattle.m3_threads.proofs.Places.{found-number}
-use Rattle.m3_sections.specs.declared.procs.ProcPart.{ProcPart}
-use Rattle.m3_sections.specs.Parts.{Program, CellType}
-use Rattle.m3_sections.specs.Ranges.{containing, is_point_at}
-use Rattle.m3_strides.specs.State.{State, outside, settable, can_set, running_thread, with_regs, with_all, memory_of}
-use Rattle.m3_strides.specs.Act as act
-use Rattle.m3_strides.specs.Act.{Act}
-use Rattle.m3_strides.specs.Progress.{Progress, Goes, Rests, Ends, GoesOver, Follows, became}
-use Rattle.m3_strides.specs.Calls.{place_of, stack_of, number_before, method_called}
-use Rattle.m3_strides.specs.Acts.{fault_kinds, puts_number, puts_byte, tells_end}
-use Rattle.m3_strides.specs.Making.{GivesCell, Makes_fixed, not_fixed, makes_fixed}
-use Rattle.m3_strides.specs.NewTexts.{Fills, FillsText, GivesText, Makes_text, Cats, Subs, GivesOpen, Makes_open, not_open, no_sizes, makes_open, standing_at, Starts_thread, GivesThread, Forks_thread, too_many, makes_thread}
-use Rattle.m3_strides.specs.OnThreads.{Acts_on_threads, answer_of, answer_of_end, On_threads}
-use Rattle.m3_strides.specs.Steps.{Plainly, goes, trap, Acts, Does}
-use Rattle.m3_turns.specs.Standing.{AtPoint, InTurnOf, BeginsAtPoints}
-use Rattle.m3_turns.proofs.ThreadLists.{but_one_more, has_more, length_more}
-use Rattle.m3_turns.proofs.ThreadSteps.{GoOn, Leaves_turn, Ends_turn, By, Ends_by, anyone, acquires_leaves, releases_leaves, waits_leaves, wakes_leaves, broadcasts_leaves, joins_leaves, alerts_leaves, tests_leaves, alert_waits_leaves, alert_joins_leaves, ends_leaves}
-use Rattle.m3_turns.proofs.Ending.{FailsOtherwise, StopsOtherwise, by-trap, before-fails, from-fails, call-stops, return-stops, method-stops, type-stops, fault-stops, is-uncaught-stops, text-stops, get-stops, self-stops, fixed-fails, open-fails, sizes-fail, lengths-fail}
-use Rattle.m3_turns.proofs.Stays.{SameCounts, Stays, taken_stays, words_stay, KeepsTurn, Keeps, stays_then, ends_so, goes_so, goes_later, Made, makes_keep}
+use Rattle.m3_image_sections.specs.declared.procs.ProcPart.{ProcPart}
+use Rattle.m3_image_sections.specs.Parts.{Program, CellType}
+use Rattle.m3_image_sections.specs.Ranges.{containing, is_point_at}
+use Rattle.m3_run_meaning.specs.State.{State, outside, settable, can_set, running_thread, with_regs, with_all, memory_of}
+use Rattle.m3_run_meaning.specs.Act as act
+use Rattle.m3_run_meaning.specs.Act.{Act}
+use Rattle.m3_run_meaning.specs.Progress.{Progress, Goes, Rests, Ends, GoesOver, Follows, became}
+use Rattle.m3_run_meaning.specs.Calls.{place_of, stack_of, number_before, method_called}
+use Rattle.m3_run_meaning.specs.Acts.{fault_kinds, puts_number, puts_byte, tells_end}
+use Rattle.m3_run_meaning.specs.Making.{GivesCell, Makes_fixed, not_fixed, makes_fixed}
+use Rattle.m3_run_meaning.specs.NewTexts.{Fills, FillsText, GivesText, Makes_text, Cats, Subs, GivesOpen, Makes_open, not_open, no_sizes, makes_open, standing_at, Starts_thread, GivesThread, Forks_thread, too_many, makes_thread}
+use Rattle.m3_run_meaning.specs.OnThreads.{Acts_on_threads, answer_of, answer_of_end, On_threads}
+use Rattle.m3_run_meaning.specs.Steps.{Plainly, goes, trap, Acts, Does}
+use Rattle.m3_run_laws.specs.Standing.{AtPoint, InTurnOf, BeginsAtPoints}
+use Rattle.m3_run_laws.proofs.ThreadLists.{but_one_more, has_more, length_more}
+use Rattle.m3_run_laws.proofs.ThreadSteps.{GoOn, Leaves_turn, Ends_turn, By, Ends_by, anyone, acquires_leaves, releases_leaves, waits_leaves, wakes_leaves, broadcasts_leaves, joins_leaves, alerts_leaves, tests_leaves, alert_waits_leaves, alert_joins_leaves, ends_leaves}
+use Rattle.m3_run_laws.proofs.Ending.{FailsOtherwise, StopsOtherwise, by-trap, before-fails, from-fails, call-stops, return-stops, method-stops, type-stops, fault-stops, is-uncaught-stops, text-stops, get-stops, self-stops, fixed-fails, open-fails, sizes-fail, lengths-fail}
+use Rattle.m3_run_laws.proofs.Stays.{SameCounts, Stays, taken_stays, words_stay, KeepsTurn, Keeps, stays_then, ends_so, goes_so, goes_later, Made, makes_keep}
 
 no-counts : (s : State) → SameCounts s s
 no-counts s = record { points = refl; instructions = refl }

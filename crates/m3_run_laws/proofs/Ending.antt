@@ -10,18 +10,18 @@ use Rattle.m3_isa.specs.Memory.{Memory}
 use Rattle.m3_isa.specs.Effects.{reg, answered}
 use Rattle.m3_isa.specs.declared.registers.Regs.{Regs}
 use Rattle.m3_isa.specs.declared.instructions.Instr.{Instr}
-use Rattle.m3_sections.specs.declared.procs.ProcPart.{ProcPart}
-use Rattle.m3_sections.specs.Parts.{Program, CellType}
-use Rattle.m3_sections.specs.Ranges.{containing}
-use Rattle.m3_strides.specs.declared.near.Stack.{Stack}
-use Rattle.m3_strides.specs.declared.near.Place.{Place}
-use Rattle.m3_turns.specs.Courses.{IsOther}
-use Rattle.m3_strides.specs.Act as act
-use Rattle.m3_strides.specs.Act.{Act, using, finding, or_trap}
-use Rattle.m3_strides.specs.Calls.{place_of, come_to, entering, entering_from, frame_in, framed, calls, number_before, method_from, method_at, method_in, kind_at, kind_told, returning, back_to, returns, tells_method, TellsType, Tests_type}
-use Rattle.m3_strides.specs.Acts.{faults, uncaught, is_uncaught, puts_bytes, puts_text, has_text, gets, tells_self}
-use Rattle.m3_strides.specs.Making.{fixed_words}
-use Rattle.m3_strides.specs.NewTexts.{lengths_at, open_type, Fails_at_size, not_there, too_large}
+use Rattle.m3_image_sections.specs.declared.procs.ProcPart.{ProcPart}
+use Rattle.m3_image_sections.specs.Parts.{Program, CellType}
+use Rattle.m3_image_sections.specs.Ranges.{containing}
+use Rattle.m3_run_meaning.specs.declared.near.Stack.{Stack}
+use Rattle.m3_run_meaning.specs.declared.near.Place.{Place}
+use Rattle.m3_run_laws.specs.Courses.{IsOther}
+use Rattle.m3_run_meaning.specs.Act as act
+use Rattle.m3_run_meaning.specs.Act.{Act, using, finding, or_trap}
+use Rattle.m3_run_meaning.specs.Calls.{place_of, come_to, entering, entering_from, frame_in, framed, calls, number_before, method_from, method_at, method_in, kind_at, kind_told, returning, back_to, returns, tells_method, TellsType, Tests_type}
+use Rattle.m3_run_meaning.specs.Acts.{faults, uncaught, is_uncaught, puts_bytes, puts_text, has_text, gets, tells_self}
+use Rattle.m3_run_meaning.specs.Making.{fixed_words}
+use Rattle.m3_run_meaning.specs.NewTexts.{lengths_at, open_type, Fails_at_size, not_there, too_large}
 
 -- where something ends the run, it does so by another outcome
 abbrev pub FailsOtherwise : {A : Type 0} → Result A Outcome → Type 0

@@ -17,16 +17,16 @@ use Rattle.m3_threads.specs.declared.status.Status.TheVariants.{Ready, Wants, Wa
 use Rattle.m3_threads.specs.All.{Everyone, is_named, updated, thread_named}
 use Rattle.m3_threads.specs.Spaces.{held}
 use Rattle.m3_threads.specs.Going.{IsAwake, IsAwakeAt, IsChoice, may_go, may_go_if, may_go_at, status_at, with_status}
-use Rattle.m3_sections.specs.Parts.{Program}
-use Rattle.m3_strides.specs.State.{State, outside, executed}
-use Rattle.m3_strides.specs.Progress.{Progress}
-use Rattle.m3_strides.specs.Points.{first_entry, Collected_if, left, made, stuck, passed, runs_on, Chooses, StopsAtPoint, nobody, trapped, nobody_left, Says_spent, deadlock, points_used}
-use Rattle.m3_strides.specs.Runs.{Place, Config, turn_limit, Settles, goes_on, comes_to_point, leaves_code, lasts_too_long, rests, run_ends, Carries_out, Moves, in_turn, at_point, stops, spent, Leads, stays, moves, starting}
-use Rattle.m3_turns.specs.Standing.{AtPoint, Has, AllAtPoints, InTurnOf, BeginsAtPoints}
-use Rattle.m3_turns.specs.Courses.{SoundTurn, SoundPoint, SoundEnd, IsOther, EndsSoundly, IsSound}
-use Rattle.m3_turns.proofs.ThreadLists.{all_changed, but_of_all, all_of_but, length_changed}
-use Rattle.m3_turns.proofs.Stays.{SameCounts, Stays, collects_stay, Keeps}
-use Rattle.m3_turns.proofs.Doing.{does_keep}
+use Rattle.m3_image_sections.specs.Parts.{Program}
+use Rattle.m3_run_meaning.specs.State.{State, outside, executed}
+use Rattle.m3_run_meaning.specs.Progress.{Progress}
+use Rattle.m3_run_meaning.specs.Points.{first_entry, Collected_if, left, made, stuck, passed, runs_on, Chooses, StopsAtPoint, nobody, trapped, nobody_left, Says_spent, deadlock, points_used}
+use Rattle.m3_run_meaning.specs.Runs.{Place, Config, turn_limit, Settles, goes_on, comes_to_point, leaves_code, lasts_too_long, rests, run_ends, Carries_out, Moves, in_turn, at_point, stops, spent, Leads, stays, moves, starting}
+use Rattle.m3_run_laws.specs.Standing.{AtPoint, Has, AllAtPoints, InTurnOf, BeginsAtPoints}
+use Rattle.m3_run_laws.specs.Courses.{SoundTurn, SoundPoint, SoundEnd, IsOther, EndsSoundly, IsSound}
+use Rattle.m3_run_laws.proofs.ThreadLists.{all_changed, but_of_all, all_of_but, length_changed}
+use Rattle.m3_run_laws.proofs.Stays.{SameCounts, Stays, collects_stay, Keeps}
+use Rattle.m3_run_laws.proofs.Doing.{does_keep}
 
 pub next-turn : (n turn : ℕ) → (n + 1) * turn ≡ n * turn + turn
 next-turn n turn = ap (λ (k : ℕ). k * turn) (add-one n) ∙ suc-mul n turn

@@ -8,15 +8,15 @@ use Rattle.m3_threads.specs.declared.status.Thread.{Thread}
 use Rattle.m3_threads.specs.All.{Everyone, is_named}
 use Rattle.m3_threads.specs.Going.{IsAwake}
 use Rattle.m3_threads.specs.Actions.{without}
-use Rattle.m3_sections.specs.Parts.{Program}
+use Rattle.m3_image_sections.specs.Parts.{Program}
 use Rattle.m3_roots.specs.Collected.{with_registers}
-use Rattle.m3_strides.specs.State.{State, HasOtherWords, regs_set, with_regs}
-use Rattle.m3_strides.specs.Progress.{Progress, Goes, Rests, Ends}
-use Rattle.m3_strides.specs.Collecting.{Collects, Spoils}
-use Rattle.m3_strides.specs.Making.{Makes, Makes_late, at_once, late, made_late, full_late, stuck_late}
-use Rattle.m3_turns.specs.Courses.{IsOther}
-use Rattle.m3_turns.specs.Standing.{AtPoint, Has, AllAtPoints, InTurnOf}
-use Rattle.m3_turns.proofs.ThreadSteps.{SameThreads, turn_stays, points_stay, still}
+use Rattle.m3_run_meaning.specs.State.{State, HasOtherWords, regs_set, with_regs}
+use Rattle.m3_run_meaning.specs.Progress.{Progress, Goes, Rests, Ends}
+use Rattle.m3_run_meaning.specs.Collecting.{Collects, Spoils}
+use Rattle.m3_run_meaning.specs.Making.{Makes, Makes_late, at_once, late, made_late, full_late, stuck_late}
+use Rattle.m3_run_laws.specs.Courses.{IsOther}
+use Rattle.m3_run_laws.specs.Standing.{AtPoint, Has, AllAtPoints, InTurnOf}
+use Rattle.m3_run_laws.proofs.ThreadSteps.{SameThreads, turn_stays, points_stay, still}
 
 -- ---- lists of threads that differ in their registers
 

@@ -6,7 +6,7 @@ use Rattle.m3_threads.specs.declared.status.Thread.{Thread}
 use Rattle.m3_threads.specs.All.{is_named, updated}
 use Rattle.m3_threads.specs.Actions.{without}
 use Rattle.m3_threads.proofs.Places.{find-updated}
-use Rattle.m3_turns.specs.Standing.{Has}
+use Rattle.m3_run_laws.specs.Standing.{Has}
 
 -- a change of a thread leaves a fact, or its number
 abbrev pub Leaves : (Thread → Type 0) → (Thread → Thread) → Type 0

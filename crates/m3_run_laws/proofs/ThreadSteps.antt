@@ -17,10 +17,10 @@ use Rattle.m3_threads.specs.All.{Everyone, is_named, updated, with_stack}
 use Rattle.m3_threads.specs.Going.{IsAwake, IsAwakeAt}
 use Rattle.m3_threads.specs.Spaces.{held, replaceable, is_in_stack, put_inside, put_outside}
 use Rattle.m3_threads.specs.Actions.{After, traps, with_threads, loading, putting, changes, gone_on, gone_on_with, given, jumped_to, alert_cleared, acquires, holder_at, frees, releases, sleeps, asleep, waits, waits_at, woken, woken_at, woken_on, sleeps_on, wakes, wakened_by, broadcasts, joins, without, ended, ends, alerted_at, alert_marked, alerts, tests_alert, alert_waits, alert_waits_at, alert_joins}
-use Rattle.m3_sections.specs.Parts.{Program}
-use Rattle.m3_sections.specs.Ranges.{is_point_at}
-use Rattle.m3_turns.specs.Standing.{AtPoint, Has, AllAtPoints, InTurnOf}
-use Rattle.m3_turns.proofs.ThreadLists.{Leaves, KeepsNumber, all_changed, all_of_but, others_stay, but_changed, but_mapped, has_own, has_changed, has_mapped, length_changed, length_mapped, length_without}
+use Rattle.m3_image_sections.specs.Parts.{Program}
+use Rattle.m3_image_sections.specs.Ranges.{is_point_at}
+use Rattle.m3_run_laws.specs.Standing.{AtPoint, Has, AllAtPoints, InTurnOf}
+use Rattle.m3_run_laws.proofs.ThreadLists.{Leaves, KeepsNumber, all_changed, all_of_but, others_stay, but_changed, but_mapped, has_own, has_changed, has_mapped, length_changed, length_mapped, length_without}
 
 -- the threads of a turn go on, with stacks of so many words; or each stands at a point
 abbrev pub GoOn : Program → ℕ → ℕ → Everyone → Type 0

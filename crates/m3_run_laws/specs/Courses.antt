@@ -2,10 +2,10 @@
 use Rattle.std.specs.Prelude.{ℕ, ◌≡◌, ◌≤◌, ◌<◌, ◌+◌, ◌*◌}
 use Rattle.m3_base.specs.declared.outcomes.Outcome.{Outcome}
 use Rattle.m3_base.specs.declared.outcomes.Outcome.TheVariants.{Spent}
-use Rattle.m3_sections.specs.Parts.{Program}
-use Rattle.m3_strides.specs.State.{State}
-use Rattle.m3_strides.specs.Runs.{Place, In_turn, At_point, Over, turn_limit}
-use Rattle.m3_turns.specs.Standing.{AllAtPoints, InTurnOf}
+use Rattle.m3_image_sections.specs.Parts.{Program}
+use Rattle.m3_run_meaning.specs.State.{State}
+use Rattle.m3_run_meaning.specs.Runs.{Place, In_turn, At_point, Over, turn_limit}
+use Rattle.m3_run_laws.specs.Standing.{AllAtPoints, InTurnOf}
 
 -- in a turn: of each turn before it as many instructions were executed as a turn may have, or fewer
 pub record SoundTurn (p : Program) (allowed : ℕ) (from s : State) (k : ℕ) : Type 0 where

@@ -5,9 +5,9 @@ use Rattle.m3_threads.specs.declared.status.Thread.{Thread}
 use Rattle.m3_threads.specs.All.{Everyone, is_named}
 use Rattle.m3_threads.specs.Going.{IsAwake}
 use Rattle.m3_threads.specs.Actions.{without}
-use Rattle.m3_sections.specs.declared.procs.ProcPart.{ProcPart}
-use Rattle.m3_sections.specs.Parts.{Program}
-use Rattle.m3_sections.specs.Ranges.{is_point_at}
+use Rattle.m3_image_sections.specs.declared.procs.ProcPart.{ProcPart}
+use Rattle.m3_image_sections.specs.Parts.{Program}
+use Rattle.m3_image_sections.specs.Ranges.{is_point_at}
 
 -- a thread stands at a point instruction
 abbrev pub AtPoint : Program → Thread → Type 0

@@ -4,11 +4,11 @@
 
 ghost use Rattle.std.specs.Prelude.{◌≤◌, ◌<◌, ◌^◌, ℕ, List};
 ghost use Rattle.m3_base.specs.declared.outcomes.Entry.{Entry};
-ghost use Rattle.m3_sections.specs.Parts.{Program};
-ghost use Rattle.m3_strides.specs.State.{State};
-ghost use Rattle.m3_strides.specs.Runs.{Config, Leads, starting};
-ghost use Rattle.m3_turns.specs.Standing.{BeginsAtPoints, AllAtPoints};
-ghost use Rattle.m3_turns.specs.Courses.{IsSound};
+ghost use Rattle.m3_image_sections.specs.Parts.{Program};
+ghost use Rattle.m3_run_meaning.specs.State.{State};
+ghost use Rattle.m3_run_meaning.specs.Runs.{Config, Leads, starting};
+ghost use Rattle.m3_run_laws.specs.Standing.{BeginsAtPoints, AllAtPoints};
+ghost use Rattle.m3_run_laws.specs.Courses.{IsSound};
 
 /// Wherever a run leads from a state between two turns, its threads stand as they may: each at a
 /// point instruction, but for the one that runs, which is awake. And it has executed no more

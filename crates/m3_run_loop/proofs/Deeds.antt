@@ -19,20 +19,20 @@ use Rattle.m3_heap.specs.Cells.{AddsCell, new_cell}
 use Rattle.m3_threads.specs.declared.status.Thread.{Thread}
 use Rattle.m3_threads.specs.All.{Everyone, updated}
 use Rattle.m3_threads.specs.Spaces.{held, replaceable}
-use Rattle.m3_sections.specs.Parts.{Program}
-use Rattle.m3_memory.specs.Addresses.{outside_of, settable_of}
-use Rattle.m3_memory.specs.Kept.{KeepsStacks, KeepsMemory}
-use Rattle.m3_strides.specs.declared.near.Stack.{Stack}
-use Rattle.m3_strides.specs.declared.near.Place.{Place}
-use Rattle.m3_strides.specs.State.{State, memory_of, can_set, regs_set, with_regs, executed, Becomes}
-use Rattle.m3_strides.specs.Act.{Act, Proceeds as Goes_with, Writes, using}
-use Rattle.m3_strides.specs.Progress.{Progress, Goes, Ends}
-use Rattle.m3_strides.specs.Calls.{stack_of, come_to, entering, framed, calls, callee_by, callee_of, returning, returns, method_at, tells_method, kind_at, TellsType}
-use Rattle.m3_strides.specs.Making.{Allocates, GivesCell, fixed_words, makes_fixed, at_once}
-use Rattle.m3_strides.specs.Steps.{Plainly, Acts, Acted, Does}
-use Rattle.m3_strides.specs.State.{seen}
-use Rattle.m3_strides.specs.Leading.{Goes_on}
-use Rattle.m3_strides.proofs.PlainSteps.{twice, found-again, others-threads, goes-on, traps-at, not-plain}
+use Rattle.m3_image_sections.specs.Parts.{Program}
+use Rattle.m3_run_memory.specs.Addresses.{outside_of, settable_of}
+use Rattle.m3_run_memory.specs.Kept.{KeepsStacks, KeepsMemory}
+use Rattle.m3_run_meaning.specs.declared.near.Stack.{Stack}
+use Rattle.m3_run_meaning.specs.declared.near.Place.{Place}
+use Rattle.m3_run_meaning.specs.State.{State, memory_of, can_set, regs_set, with_regs, executed, Becomes}
+use Rattle.m3_run_meaning.specs.Act.{Act, Proceeds as Goes_with, Writes, using}
+use Rattle.m3_run_meaning.specs.Progress.{Progress, Goes, Ends}
+use Rattle.m3_run_meaning.specs.Calls.{stack_of, come_to, entering, framed, calls, callee_by, callee_of, returning, returns, method_at, tells_method, kind_at, TellsType}
+use Rattle.m3_run_meaning.specs.Making.{Allocates, GivesCell, fixed_words, makes_fixed, at_once}
+use Rattle.m3_run_meaning.specs.Steps.{Plainly, Acts, Acted, Does}
+use Rattle.m3_run_meaning.specs.State.{seen}
+use Rattle.m3_run_loop.specs.Leading.{Goes_on}
+use Rattle.m3_run_loop.proofs.PlainSteps.{twice, found-again, others-threads, goes-on, traps-at, not-plain}
 
 -- what holds of an operation holds of an instruction that has it
 pub acts_by : (p : Program) (input : List ℕ) (t : Thread) (i : Instr) (s : State) (bytes : List ℕ) (progress : Progress) (o q : Op) → o ≡ q

@@ -14,18 +14,18 @@ use Rattle.m3_threads.specs.declared.status.Status.TheVariants.{Ready}
 use Rattle.m3_threads.specs.All.{Everyone, is_named, updated, base_of, words_of}
 use Rattle.m3_threads.specs.Spaces.{held}
 use Rattle.m3_threads.specs.Going.{IsChoice, may_go, may_go_if, may_go_at, status_at, with_status}
-use Rattle.m3_sections.specs.Parts.{Program}
-use Rattle.m3_memory.specs.Kept.{KeepsStacks}
-use Rattle.m3_strides.specs.declared.near.Stack.{Stack}
-use Rattle.m3_strides.specs.State.{State, outside, regs_set, running_thread, with_all, executed, raised}
-use Rattle.m3_strides.specs.Progress.{Progress, Goes, Ends}
-use Rattle.m3_strides.specs.Calls.{stack_of}
-use Rattle.m3_strides.specs.Points.{Chooses, left as uncollected, passed, runs_on, first_entry, later_entries}
-use Rattle.m3_strides.specs.Steps.{Does}
-use Rattle.m3_strides.specs.State.{seen}
-use Rattle.m3_strides.specs.Runs.{Place, In_turn, At_point, Over, Settles, goes_on, comes_to_point, run_ends, Leads, moves, in_turn, at_point, then_at, turn_limit, stands}
-use Rattle.m3_strides.specs.Leading.{config, Track, LeadsTo, Went, Enters, Goes_on, Standing, further}
-use Rattle.m3_strides.proofs.PlainSteps.{found-again, found_still}
+use Rattle.m3_image_sections.specs.Parts.{Program}
+use Rattle.m3_run_memory.specs.Kept.{KeepsStacks}
+use Rattle.m3_run_meaning.specs.declared.near.Stack.{Stack}
+use Rattle.m3_run_meaning.specs.State.{State, outside, regs_set, running_thread, with_all, executed, raised}
+use Rattle.m3_run_meaning.specs.Progress.{Progress, Goes, Ends}
+use Rattle.m3_run_meaning.specs.Calls.{stack_of}
+use Rattle.m3_run_meaning.specs.Points.{Chooses, left as uncollected, passed, runs_on, first_entry, later_entries}
+use Rattle.m3_run_meaning.specs.Steps.{Does}
+use Rattle.m3_run_meaning.specs.State.{seen}
+use Rattle.m3_run_meaning.specs.Runs.{Place, In_turn, At_point, Over, Settles, goes_on, comes_to_point, run_ends, Leads, moves, in_turn, at_point, then_at, turn_limit, stands}
+use Rattle.m3_run_loop.specs.Leading.{config, Track, LeadsTo, Went, Enters, Goes_on, Standing, further}
+use Rattle.m3_run_loop.proofs.PlainSteps.{found-again, found_still}
 
 -- ---- into an instruction, and over it
 

@@ -1,5 +1,4 @@
 pub mod PlainSteps
-pub mod Calling
 pub mod Leading
 pub mod Deeds
 pub mod Keeping

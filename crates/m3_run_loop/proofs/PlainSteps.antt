@@ -14,12 +14,12 @@ use Rattle.m3_heap.specs.Heap.{Heap}
 use Rattle.m3_threads.specs.declared.status.Thread.{Thread}
 use Rattle.m3_threads.specs.All.{Everyone, is_named, updated, thread_named}
 use Rattle.m3_threads.specs.Spaces.{held}
-use Rattle.m3_sections.specs.Parts.{Program}
-use Rattle.m3_memory.specs.Addresses.{outside_of}
-use Rattle.m3_memory.specs.Kept.{KeepsMemory, KeepsStacks}
-use Rattle.m3_strides.specs.State.{State, regs_set, with_regs, seen, executed, Becomes}
-use Rattle.m3_strides.specs.Progress.{Goes, Ends}
-use Rattle.m3_strides.specs.Steps.{Plainly, goes, trap, Breaks_off}
+use Rattle.m3_image_sections.specs.Parts.{Program}
+use Rattle.m3_run_memory.specs.Addresses.{outside_of}
+use Rattle.m3_run_memory.specs.Kept.{KeepsMemory, KeepsStacks}
+use Rattle.m3_run_meaning.specs.State.{State, regs_set, with_regs, seen, executed, Becomes}
+use Rattle.m3_run_meaning.specs.Progress.{Goes, Ends}
+use Rattle.m3_run_meaning.specs.Steps.{Plainly, goes, trap, Breaks_off}
 
 -- ---- the running thread's registers
 

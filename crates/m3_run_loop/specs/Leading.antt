@@ -11,20 +11,20 @@ use Rattle.m3_heap.specs.declared.store.Store.{Ghosts}
 use Rattle.m3_threads.specs.declared.status.Thread.{Thread}
 use Rattle.m3_threads.specs.declared.status.Status.TheVariants.{Ready}
 use Rattle.m3_threads.specs.All.{Everyone, thread_named}
-use Rattle.m3_sections.specs.Parts.{Program}
-use Rattle.m3_memory.specs.Kept.{KeepsStacks}
-use Rattle.m3_memory.specs.declared.memory.Memory.{Memory}
-use Rattle.m3_strides.specs.declared.near.Stack.{Stack}
-use Rattle.m3_strides.specs.declared.near.Place.{Place as At}
-use Rattle.m3_strides.specs.declared.halts.Halt.{Halt}
-use Rattle.m3_strides.specs.declared.strides.Fuel.{Fuel}
-use Rattle.m3_strides.specs.declared.halts.Halt.TheVariants.{Used, Trapped}
-use Rattle.m3_strides.specs.State.{State, regs_set, executed}
-use Rattle.m3_strides.specs.Progress.{Goes}
-use Rattle.m3_strides.specs.Calls.{stack_of}
-use Rattle.m3_strides.specs.Steps.{Does}
-use Rattle.m3_strides.specs.State.{seen}
-use Rattle.m3_strides.specs.Runs.{Config, Place, Over, Settles, Carries_out, Leads}
+use Rattle.m3_image_sections.specs.Parts.{Program}
+use Rattle.m3_run_memory.specs.Kept.{KeepsStacks}
+use Rattle.m3_run_memory.specs.declared.memory.Memory.{Memory}
+use Rattle.m3_run_meaning.specs.declared.near.Stack.{Stack}
+use Rattle.m3_run_meaning.specs.declared.near.Place.{Place as At}
+use Rattle.m3_run_loop.specs.declared.halts.Halt.{Halt}
+use Rattle.m3_run_loop.specs.declared.strides.Fuel.{Fuel}
+use Rattle.m3_run_loop.specs.declared.halts.Halt.TheVariants.{Used, Trapped}
+use Rattle.m3_run_meaning.specs.State.{State, regs_set, executed}
+use Rattle.m3_run_meaning.specs.Progress.{Goes}
+use Rattle.m3_run_meaning.specs.Calls.{stack_of}
+use Rattle.m3_run_meaning.specs.Steps.{Does}
+use Rattle.m3_run_meaning.specs.State.{seen}
+use Rattle.m3_run_meaning.specs.Runs.{Config, Place, Over, Settles, Carries_out, Leads}
 
 abbrev pub config : Place → List Entry → List ℕ → Config
 config place entries output = record { place = place; entries = entries; output = output }

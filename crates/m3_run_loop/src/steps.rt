@@ -3,19 +3,21 @@
 ghost use Rattle.std.specs.Prelude.{◌≡◌, ◌<◌, ◌≤◌, length, slice_get, Ok, IfSome, IfNone};
 ghost use Rattle.m3_isa.specs.Effects.{at_hand};
 ghost use Rattle.m3_isa.specs.declared.instructions.Op.TheVariants.{Ret, Meth, Subt, New, Point};
-ghost use Rattle.m3_decoded.specs.Ready.{image_of};
+ghost use Rattle.m3_image_decoded.specs.Ready.{image_of};
 ghost use Rattle.m3_threads.specs.Spaces.{held};
-ghost use Rattle.m3_memory.specs.Addresses.{outside_of};
-ghost use Rattle.m3_strides.specs.Calls.{callee_of};
-ghost use Rattle.m3_strides.specs.Making.{fixed_words};
-ghost use Rattle.m3_strides.specs.Leading.{program_in, Goes_in, KeepsWhole};
+ghost use Rattle.m3_run_memory.specs.Addresses.{outside_of};
+ghost use Rattle.m3_run_meaning.specs.Calls.{callee_of};
+ghost use Rattle.m3_run_meaning.specs.Making.{fixed_words};
+ghost use Rattle.m3_run_loop.specs.Leading.{program_in, Goes_in, KeepsWhole};
 
-use crate::near::{Place, Stack, enter, give, is_of_type, leave, method_of, register, truth};
 use m3_base::Outcome;
-use m3_decoded::Decoded;
 use m3_heap::Store;
+use m3_image_decoded::Decoded;
 use m3_isa::Instr;
-use m3_memory::Memory;
+use m3_run_meaning::near::{
+    Place, Stack, enter, give, is_of_type, leave, method_of, register, truth,
+};
+use m3_run_memory::Memory;
 
 /// RET, where the caller's frame and its instruction are there.
 #[inline(always)]

@@ -6,25 +6,25 @@ ghost use Rattle.m3_isa.specs.Instructions.{IsInstruction, is_point, is_plain as
 ghost use Rattle.m3_isa.specs.declared.instructions.Instr.{Instr as Instruction};
 ghost use Rattle.m3_threads.specs.declared.status.Status.TheVariants.{Ready};
 ghost use Rattle.m3_threads.specs.Going.{status_at};
-ghost use Rattle.m3_decoded.specs.Ready.{image_of};
-ghost use Rattle.m3_strides.specs.Leading.{Track, Goes_in, Stands_in, Halts_in, KeepsWhole};
-ghost use Rattle.m3_strides.specs.Leading.{further, halted, Counts};
-ghost use Rattle.m3_strides.specs.declared.halts.Halt.TheVariants.{Used, Left, Other};
+ghost use Rattle.m3_image_decoded.specs.Ready.{image_of};
+ghost use Rattle.m3_run_loop.specs.Leading.{Track, Goes_in, Stands_in, Halts_in, KeepsWhole};
+ghost use Rattle.m3_run_loop.specs.Leading.{further, halted, Counts};
+ghost use Rattle.m3_run_loop.specs.declared.halts.Halt.TheVariants.{Used, Left, Other};
 
 use crate::halts::Halt;
-use crate::near::{Place, Stack, before, called_method, register};
 use crate::steps::{call_near, make_near, point_near, return_near, tell_near, test_near};
-use m3_decoded::Decoded;
 use m3_heap::Store;
+use m3_image_decoded::Decoded;
 use m3_isa::{Instr, Op, Step, carry_out};
-use m3_memory::Memory;
+use m3_run_meaning::near::{Place, Stack, before, called_method, register};
+use m3_run_memory::Memory;
 
 // After so many instructions the counts are added up.
 const MOST: u64 = 1 << 62;
 
 /// How many instructions a turn may have, how many this turn may still have, and how many points
 /// may be passed without a choice.
-#[derive(Clone, Copy, Debug)]
+#[derive(Clone, Copy)]
 pub struct Pace {
     pub limit: u64,
     pub left: u64,
@@ -33,7 +33,7 @@ pub struct Pace {
 
 /// What falls by one with each instruction, and where it is when the turn may have no more; and the
 /// points that may be passed without a choice.
-#[derive(Clone, Copy, Debug)]
+#[derive(Clone, Copy)]
 struct Fuel {
     left: u64,
     floor: u64,

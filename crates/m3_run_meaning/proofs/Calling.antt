@@ -4,11 +4,11 @@ use Rattle.std.proofs.Common.{sym, ap, ◌∙◌}
 use Rattle.m3_base.specs.Words.{add_words}
 use Rattle.m3_base.specs.declared.outcomes.Outcome.{Outcome}
 use Rattle.m3_isa.specs.Memory.{Memory}
-use Rattle.m3_sections.specs.declared.procs.ProcPart.{ProcPart}
-use Rattle.m3_sections.specs.Parts.{CellType}
-use Rattle.m3_strides.specs.declared.near.Place.{Place}
-use Rattle.m3_strides.specs.Act.{finding, or_trap}
-use Rattle.m3_strides.specs.Calls.{method_at, method_from, number_before}
+use Rattle.m3_image_sections.specs.declared.procs.ProcPart.{ProcPart}
+use Rattle.m3_image_sections.specs.Parts.{CellType}
+use Rattle.m3_run_meaning.specs.declared.near.Place.{Place}
+use Rattle.m3_run_meaning.specs.Act.{finding, or_trap}
+use Rattle.m3_run_meaning.specs.Calls.{method_at, method_from, number_before}
 
 pub method_refused : (found : Option ProcPart) (caller : ProcPart) (types : List CellType) (n : ℕ) (at : Place) (memory : Memory) (cell : ℕ) (outcome : Outcome)
     → found ≡ Some caller → memory (add_words at.fp (caller.body + 3)) ≡ Some cell → method_at types memory cell n ≡ Err outcome → Err outcome ≡ method_from found types n at memory

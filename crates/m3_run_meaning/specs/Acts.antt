@@ -11,10 +11,10 @@ use Rattle.m3_isa.specs.Arithmetic.{flag}
 use Rattle.m3_isa.specs.Effects.{reg, signed, every, next, jumped, answered}
 use Rattle.m3_isa.specs.declared.registers.Regs.{Regs}
 use Rattle.m3_isa.specs.declared.instructions.Instr.{Instr}
-use Rattle.m3_sections.specs.Parts.{Program}
-use Rattle.m3_strides.specs.declared.near.Stack.{Stack}
-use Rattle.m3_strides.specs.Act.{Act, Proceeds, Puts, Takes, Stops, stops_with_trap, loading}
-use Rattle.m3_strides.specs.Texts.{text_bytes}
+use Rattle.m3_image_sections.specs.Parts.{Program}
+use Rattle.m3_run_meaning.specs.declared.near.Stack.{Stack}
+use Rattle.m3_run_meaning.specs.Act.{Act, Proceeds, Puts, Takes, Stops, stops_with_trap, loading}
+use Rattle.m3_run_meaning.specs.Texts.{text_bytes}
 
 -- ---- ends
 

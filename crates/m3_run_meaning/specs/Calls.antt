@@ -13,13 +13,13 @@ use Rattle.m3_isa.specs.declared.instructions.Op.TheVariants.{Call, Callr, Callm
 use Rattle.m3_isa.specs.declared.instructions.Instr.{Instr}
 use Rattle.m3_threads.specs.declared.status.Thread.{Thread}
 use Rattle.m3_threads.specs.All.{Everyone, base_of, words_of}
-use Rattle.m3_sections.specs.declared.procs.ProcPart.{ProcPart}
-use Rattle.m3_sections.specs.Parts.{Program, CellType}
-use Rattle.m3_sections.specs.Ranges.{containing}
-use Rattle.m3_decoded.specs.Ancestors.{IsSubtype}
-use Rattle.m3_strides.specs.declared.near.Stack.{Stack}
-use Rattle.m3_strides.specs.declared.near.Place.{Place}
-use Rattle.m3_strides.specs.Act.{Act, Proceeds, Writes, using, finding, or_trap}
+use Rattle.m3_image_sections.specs.declared.procs.ProcPart.{ProcPart}
+use Rattle.m3_image_sections.specs.Parts.{Program, CellType}
+use Rattle.m3_image_sections.specs.Ranges.{containing}
+use Rattle.m3_image_decoded.specs.Ancestors.{IsSubtype}
+use Rattle.m3_run_meaning.specs.declared.near.Stack.{Stack}
+use Rattle.m3_run_meaning.specs.declared.near.Place.{Place}
+use Rattle.m3_run_meaning.specs.Act.{Act, Proceeds, Writes, using, finding, or_trap}
 
 -- where a thread's stack is
 abbrev pub stack_of : Everyone → Thread → Stack

@@ -1,8 +1,8 @@
 -- What a collection makes of a state.
 use Rattle.std.specs.Prelude.{◌≡◌}
 use Rattle.m3_roots.specs.Collected.{Parts, Collected, StopsCollection}
-use Rattle.m3_sections.specs.Parts.{Program}
-use Rattle.m3_strides.specs.State.{State, raised}
+use Rattle.m3_image_sections.specs.Parts.{Program}
+use Rattle.m3_run_meaning.specs.State.{State, raised}
 
 abbrev pub parts_of : State → Parts
 parts_of s = record { all = s.all; globals = s.globals; heap = s.heap }

@@ -11,4 +11,3 @@ pub mod OnThreads
 pub mod Steps
 pub mod Points
 pub mod Runs
-pub mod Leading

@@ -7,10 +7,10 @@ use Rattle.m3_isa.specs.declared.instructions.Instr.{Instr}
 use Rattle.m3_heap.specs.Cells.{Cell, AddsCell, new_cell}
 use Rattle.m3_heap.specs.Heap.{KeepsCounts}
 use Rattle.m3_threads.specs.declared.status.Thread.{Thread}
-use Rattle.m3_sections.specs.Parts.{Program, CellType}
-use Rattle.m3_strides.specs.State.{State, running_thread, with_regs}
-use Rattle.m3_strides.specs.Progress.{Progress, Goes, Ends}
-use Rattle.m3_strides.specs.Collecting.{Collects, Spoils}
+use Rattle.m3_image_sections.specs.Parts.{Program, CellType}
+use Rattle.m3_run_meaning.specs.State.{State, running_thread, with_regs}
+use Rattle.m3_run_meaning.specs.Progress.{Progress, Goes, Ends}
+use Rattle.m3_run_meaning.specs.Collecting.{Collects, Spoils}
 
 -- a cell with these words came to the heap, and nothing else is changed
 pub record Adds (cell : Cell) (old new : State) : Type 0 where

@@ -11,15 +11,15 @@ use Rattle.m3_threads.specs.declared.status.Thread.{Thread}
 use Rattle.m3_threads.specs.All.{Everyone, updated}
 use Rattle.m3_threads.specs.Going.{status_at, with_status}
 use Rattle.m3_threads.specs.Actions.{Forks}
-use Rattle.m3_sections.specs.declared.procs.ProcPart.{ProcPart}
-use Rattle.m3_sections.specs.Parts.{Program, CellType}
-use Rattle.m3_memory.specs.Addresses.{is_from}
-use Rattle.m3_strides.specs.State.{State, Becomes, memory_of, running_thread, with_regs, with_all}
-use Rattle.m3_strides.specs.Act.{finding, or_trap}
-use Rattle.m3_strides.specs.Acts.{has_text}
-use Rattle.m3_strides.specs.Progress.{Progress, Goes, Ends, ends_with_trap}
-use Rattle.m3_strides.specs.Texts.{text_words, text_bytes, text_rest}
-use Rattle.m3_strides.specs.Making.{Makes}
+use Rattle.m3_image_sections.specs.declared.procs.ProcPart.{ProcPart}
+use Rattle.m3_image_sections.specs.Parts.{Program, CellType}
+use Rattle.m3_run_memory.specs.Addresses.{is_from}
+use Rattle.m3_run_meaning.specs.State.{State, Becomes, memory_of, running_thread, with_regs, with_all}
+use Rattle.m3_run_meaning.specs.Act.{finding, or_trap}
+use Rattle.m3_run_meaning.specs.Acts.{has_text}
+use Rattle.m3_run_meaning.specs.Progress.{Progress, Goes, Ends, ends_with_trap}
+use Rattle.m3_run_meaning.specs.Texts.{text_words, text_bytes, text_rest}
+use Rattle.m3_run_meaning.specs.Making.{Makes}
 
 -- words stand at an address and behind it
 abbrev pub with_words : ℕ → List ℕ → Memory → Memory

@@ -10,11 +10,11 @@ use Rattle.m3_threads.specs.declared.answers.Done.TheVariants.{Went, Jumped, Sle
 use Rattle.m3_threads.specs.declared.status.Thread.{Thread}
 use Rattle.m3_threads.specs.All.{Everyone}
 use Rattle.m3_threads.specs.Actions.{IsAfter, Signals, acquires, releases, waits, broadcasts, joins, ends, alerts, tests_alert, alert_waits, alert_joins}
-use Rattle.m3_sections.specs.Parts.{Program}
-use Rattle.m3_strides.specs.declared.progress.Progress.{Progress as Answer}
-use Rattle.m3_strides.specs.declared.progress.Progress.TheVariants.{Goes, Rests, Ends}
-use Rattle.m3_strides.specs.State.{State, outside, settable, HasOtherWords, with_all}
-use Rattle.m3_strides.specs.Progress.{Progress, became}
+use Rattle.m3_image_sections.specs.Parts.{Program}
+use Rattle.m3_run_meaning.specs.declared.progress.Progress.{Progress as Answer}
+use Rattle.m3_run_meaning.specs.declared.progress.Progress.TheVariants.{Goes, Rests, Ends}
+use Rattle.m3_run_meaning.specs.State.{State, outside, settable, HasOtherWords, with_all}
+use Rattle.m3_run_meaning.specs.Progress.{Progress, became}
 
 -- THE TABLE of the operations on threads: the answer, the threads and the memory outside that such an operation of
 -- an awake thread leaves

@@ -4,9 +4,9 @@ use Rattle.m3_base.specs.declared.outcomes.Entry.{Entry}
 use Rattle.m3_base.specs.declared.outcomes.Outcome.{Outcome}
 use Rattle.m3_base.specs.declared.outcomes.Outcome.TheVariants.{Deadlock, Spent, Trap}
 use Rattle.m3_threads.specs.Going.{IsChoice, NoneGoes}
-use Rattle.m3_sections.specs.Parts.{Program}
-use Rattle.m3_strides.specs.State.{State, outside, raised}
-use Rattle.m3_strides.specs.Collecting.{Collects, Spoils}
+use Rattle.m3_image_sections.specs.Parts.{Program}
+use Rattle.m3_run_meaning.specs.State.{State, outside, raised}
+use Rattle.m3_run_meaning.specs.Collecting.{Collects, Spoils}
 
 -- past its last entry a schedule names no thread and asks for no collection
 abbrev pub first_entry : List Entry → Entry

@@ -3,12 +3,12 @@ use Rattle.std.specs.Prelude.{ℕ, ◌≡◌, ◌+◌}
 use Rattle.m3_base.specs.declared.outcomes.Outcome.{Outcome}
 use Rattle.m3_base.specs.declared.outcomes.Outcome.TheVariants.{Trap}
 use Rattle.m3_isa.specs.Memory.{Memory}
-use Rattle.m3_sections.specs.Parts.{Program}
-use Rattle.m3_strides.specs.declared.progress.Progress.{Progress as Answer}
-use Rattle.m3_strides.specs.declared.progress.Progress.TheVariants as answer
-use Rattle.m3_strides.specs.Act as act
-use Rattle.m3_strides.specs.Act.{Act}
-use Rattle.m3_strides.specs.State.{State, Becomes, with_regs}
+use Rattle.m3_image_sections.specs.Parts.{Program}
+use Rattle.m3_run_meaning.specs.declared.progress.Progress.{Progress as Answer}
+use Rattle.m3_run_meaning.specs.declared.progress.Progress.TheVariants as answer
+use Rattle.m3_run_meaning.specs.Act as act
+use Rattle.m3_run_meaning.specs.Act.{Act}
+use Rattle.m3_run_meaning.specs.State.{State, Becomes, with_regs}
 
 -- the thread goes on in its turn; or it rests since it fell asleep or ended; or the run ends
 pub data Progress : Type 0 where

@@ -6,13 +6,13 @@ use Rattle.m3_base.specs.declared.outcomes.Outcome.TheVariants.{Trap}
 use Rattle.m3_isa.specs.Instructions.{is_point}
 use Rattle.m3_isa.specs.declared.instructions.Instr.{Instr}
 use Rattle.m3_threads.specs.declared.status.Thread.{Thread}
-use Rattle.m3_sections.specs.Parts.{Program}
+use Rattle.m3_image_sections.specs.Parts.{Program}
 use Rattle.m3_heap.specs.Heap.{Heap}
-use Rattle.m3_strides.specs.State.{State, start, with_all, running_thread, executed}
-use Rattle.m3_strides.specs.Progress.{Progress, Goes, Rests, Ends}
-use Rattle.m3_strides.specs.NewTexts.{standing_at}
-use Rattle.m3_strides.specs.Steps.{Does}
-use Rattle.m3_strides.specs.Points.{Chooses, StopsAtPoint, Says_spent, first_entry, later_entries}
+use Rattle.m3_run_meaning.specs.State.{State, start, with_all, running_thread, executed}
+use Rattle.m3_run_meaning.specs.Progress.{Progress, Goes, Rests, Ends}
+use Rattle.m3_run_meaning.specs.NewTexts.{standing_at}
+use Rattle.m3_run_meaning.specs.Steps.{Does}
+use Rattle.m3_run_meaning.specs.Points.{Chooses, StopsAtPoint, Says_spent, first_entry, later_entries}
 
 -- where a run is: in a turn that has executed so many instructions, at a machine point, or over
 pub data Place : Type 0 where

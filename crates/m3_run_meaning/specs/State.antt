@@ -7,9 +7,9 @@ use Rattle.m3_threads.specs.declared.status.Thread.{Thread}
 use Rattle.m3_threads.specs.All.{Everyone, updated, thread_named}
 use Rattle.m3_threads.specs.Actions.{at_start}
 use Rattle.m3_threads.specs.Spaces.{held, replaceable}
-use Rattle.m3_sections.specs.Parts.{Program}
-use Rattle.m3_memory.specs.Addresses.{outside_of, settable_of}
-use Rattle.m3_memory.specs.Kept.{KeepsStacks}
+use Rattle.m3_image_sections.specs.Parts.{Program}
+use Rattle.m3_run_memory.specs.Addresses.{outside_of, settable_of}
+use Rattle.m3_run_memory.specs.Kept.{KeepsStacks}
 
 -- the threads with their stacks and the counts of forks and waits; the words of the globals; the heap; the
 -- thread that went last; how many bytes of the input were taken; and how many points were passed, instructions

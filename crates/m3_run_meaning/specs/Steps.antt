@@ -10,16 +10,16 @@ use Rattle.m3_isa.specs.declared.instructions.Op.{Op}
 use Rattle.m3_isa.specs.declared.instructions.Op.TheVariants as op
 use Rattle.m3_isa.specs.declared.instructions.Instr.{Instr}
 use Rattle.m3_threads.specs.declared.status.Thread.{Thread}
-use Rattle.m3_sections.specs.Parts.{Program}
-use Rattle.m3_strides.specs.State.{State, memory_of, can_set, Becomes, HasOtherWords, with_regs}
-use Rattle.m3_strides.specs.Act as act
-use Rattle.m3_strides.specs.Act.{Act, bytes_of, or_trap}
-use Rattle.m3_strides.specs.Progress.{Progress, Goes, Ends, Follows}
-use Rattle.m3_strides.specs.Calls.{stack_of, place_of, calls, number_before, method_called, returns, tells_method, Tests_type}
-use Rattle.m3_strides.specs.Acts.{faults_at, is_uncaught, puts_number, puts_byte, puts_text, gets, tells_end, tells_self}
-use Rattle.m3_strides.specs.OnThreads.{On_threads, answer_of, answer_of_end}
-use Rattle.m3_strides.specs.Making.{Makes_fixed, fixed_words}
-use Rattle.m3_strides.specs.NewTexts.{Makes_open, open_type, Cats, lengths_at, Makes_char, Subs, Forks_thread}
+use Rattle.m3_image_sections.specs.Parts.{Program}
+use Rattle.m3_run_meaning.specs.State.{State, memory_of, can_set, Becomes, HasOtherWords, with_regs}
+use Rattle.m3_run_meaning.specs.Act as act
+use Rattle.m3_run_meaning.specs.Act.{Act, bytes_of, or_trap}
+use Rattle.m3_run_meaning.specs.Progress.{Progress, Goes, Ends, Follows}
+use Rattle.m3_run_meaning.specs.Calls.{stack_of, place_of, calls, number_before, method_called, returns, tells_method, Tests_type}
+use Rattle.m3_run_meaning.specs.Acts.{faults_at, is_uncaught, puts_number, puts_byte, puts_text, gets, tells_end, tells_self}
+use Rattle.m3_run_meaning.specs.OnThreads.{On_threads, answer_of, answer_of_end}
+use Rattle.m3_run_meaning.specs.Making.{Makes_fixed, fixed_words}
+use Rattle.m3_run_meaning.specs.NewTexts.{Makes_open, open_type, Cats, lengths_at, Makes_char, Subs, Forks_thread}
 
 -- ---- plain instructions, by the instruction table
 

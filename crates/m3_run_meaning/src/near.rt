@@ -4,23 +4,23 @@ ghost use Rattle.std.specs.Prelude.{◌≡◌, ◌<◌, ◌+◌, ◌%◌, ◌^�
 ghost use Rattle.std.specs.Prelude.{OnErr};
 ghost use Rattle.m3_isa.specs.Arithmetic.{flag};
 ghost use Rattle.m3_isa.specs.Effects.{at_hand, answered};
-ghost use Rattle.m3_decoded.specs.Ready.{image_of};
-ghost use Rattle.m3_strides.specs.Calls.{place_of, entering, framed, number_before, returning};
-ghost use Rattle.m3_strides.specs.Calls.{kind_at, method_at, method_called, TellsType};
+ghost use Rattle.m3_image_decoded.specs.Ready.{image_of};
+ghost use Rattle.m3_run_meaning.specs.Calls.{place_of, entering, framed, number_before, returning};
+ghost use Rattle.m3_run_meaning.specs.Calls.{kind_at, method_at, method_called, TellsType};
 
 use m3_base::Outcome;
-use m3_decoded::Decoded;
+use m3_image_decoded::Decoded;
 use m3_isa::{Regs, Words};
 
 /// Where a thread stands: at which instruction, and with which frame as its newest.
-#[derive(Clone, Copy, Debug)]
+#[derive(Clone, Copy)]
 pub struct Place {
     pub pc: u32,
     pub fp: u64,
 }
 
 /// The first address of a stack, and how many words it has.
-#[derive(Clone, Copy, Debug)]
+#[derive(Clone, Copy)]
 pub struct Stack {
     pub base: u64,
     pub words: u64,

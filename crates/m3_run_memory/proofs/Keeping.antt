@@ -3,7 +3,7 @@ use Rattle.std.specs.Prelude.{ℕ, ◌≡◌, ◌+◌, ◌≤◌, Some}
 use Rattle.std.proofs.Common.{ap, ◌∙◌, arith}
 use Rattle.m3_threads.specs.declared.status.Thread.{Thread}
 use Rattle.m3_threads.specs.All.{Everyone, thread_named}
-use Rattle.m3_memory.specs.Kept.{KeepsStacks}
+use Rattle.m3_run_memory.specs.Kept.{KeepsStacks}
 
 counts : Everyone → ℕ
 counts all = all.forks + all.waits

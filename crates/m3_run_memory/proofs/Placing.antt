@@ -6,8 +6,8 @@ use Rattle.std.proofs.lemmas.Bool.{cases_Bool, cases_eq, eq-eqb, ne_eqb}
 use Rattle.std.proofs.lemmas.Bool.Decides.{nat_tests}
 use Rattle.m3_heap.specs.Cells.{Cell, cell_word_at, is_start, is_writable, IsInHeap}
 use Rattle.m3_heap.specs.CellWords.{set_get_same, set_get_other}
-use Rattle.m3_memory.specs.Addresses.{globals_base, constants_base, is_from, outside_of, settable_of}
-use Rattle.m3_memory.specs.OutsideLaws.{no_cell}
+use Rattle.m3_run_memory.specs.Addresses.{globals_base, constants_base, is_from, outside_of, settable_of}
+use Rattle.m3_run_memory.specs.OutsideLaws.{no_cell}
 
 -- the place of an address among the globals, as 64 bits compute it
 pub placed : (at words : ℕ) → at < 18446744073709551616 → words < 4294967296 → (at + 18446744069414584320) % 18446744073709551616 < words → (is_from globals_base words at ≡ true) × ((at + 18446744069414584320) % 18446744073709551616 ≡ at - 4294967296)

@@ -6,7 +6,7 @@ use Rattle.std.proofs.lemmas.Bool.Decides.{nat_tests}
 use Rattle.m3_isa.specs.Memory.{Memory}
 use Rattle.m3_threads.specs.All.{Everyone, stack_in, with_stack}
 use Rattle.m3_threads.specs.Spaces.{slot_at, place_at, is_in_stack, held, put_inside, put_outside}
-use Rattle.m3_memory.specs.Kept.{depths, KeepsStacks}
+use Rattle.m3_run_memory.specs.Kept.{depths, KeepsStacks}
 
 -- ---- one list of lists
 

@@ -7,8 +7,8 @@ use Rattle.m3_isa.specs.Memory.{Memory}
 use Rattle.m3_heap.specs.Heap.{Heap}
 use Rattle.m3_threads.specs.All.{Everyone, stack_in}
 use Rattle.m3_threads.specs.Spaces.{slot_at, place_at, is_in_stack, held, replaceable}
-use Rattle.m3_memory.specs.Kept.{KeepsMemory}
-use Rattle.m3_memory.specs.OutsideLaws.{outside_keeps_itself as outside-itself, outside_keeps_on as outside-on}
+use Rattle.m3_run_memory.specs.Kept.{KeepsMemory}
+use Rattle.m3_run_memory.specs.OutsideLaws.{outside_keeps_itself as outside-itself, outside_keeps_on as outside-on}
 
 here : Everyone → ℕ → Option ℕ
 here all x = Some (slice_index (stack_in all (slot_at x)) (place_at x))

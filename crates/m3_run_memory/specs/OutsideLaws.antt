@@ -8,8 +8,8 @@ use Rattle.std.proofs.lemmas.Option.{slice_get-get_or, slice_get_past}
 use Rattle.m3_heap.specs.Cells.{Cell, cell_word_at, is_start, is_writable, IsInHeap}
 use Rattle.m3_heap.specs.CellWords.{word_low}
 use Rattle.m3_heap.specs.Heap.{Heap}
-use Rattle.m3_memory.specs.Addresses.{globals_base, constants_base, is_from, outside_of, settable_of}
-use Rattle.m3_memory.specs.Kept.{KeepsOutside}
+use Rattle.m3_run_memory.specs.Addresses.{globals_base, constants_base, is_from, outside_of, settable_of}
+use Rattle.m3_run_memory.specs.Kept.{KeepsOutside}
 
 -- a place of a list has an element
 there : (words : List ℕ) (base at : ℕ) → is_from base (length words) at ≡ true → is_some (slice_get words (at - base)) ≡ true

@@ -14,11 +14,11 @@ impl<S: Store> Words for Memory<S> {
     ghost use Rattle.std.specs.Prelude.{length, List};
     ghost use Rattle.m3_heap.specs.Shapes.{Shape};
     ghost use Rattle.m3_threads.specs.Spaces.{held, replaceable};
-    ghost use Rattle.m3_memory.specs.Addresses.{outside_of, settable_of};
-    ghost use Rattle.m3_memory.specs.Kept.{KeepsMemory};
-    ghost use Rattle.m3_memory.specs.OutsideLaws.{readable_outside, low_outside};
-    ghost use Rattle.m3_memory.specs.MemoryLaws.{readable_memory, low_memory, keeps_itself};
-    ghost use Rattle.m3_memory.specs.MemoryLaws.{keeps_on};
+    ghost use Rattle.m3_run_memory.specs.Addresses.{outside_of, settable_of};
+    ghost use Rattle.m3_run_memory.specs.Kept.{KeepsMemory};
+    ghost use Rattle.m3_run_memory.specs.OutsideLaws.{readable_outside, low_outside};
+    ghost use Rattle.m3_run_memory.specs.MemoryLaws.{readable_memory, low_memory, keeps_itself};
+    ghost use Rattle.m3_run_memory.specs.MemoryLaws.{keeps_on};
 
     ghost holds = { λ m. held m.threads (outside_of m.outside.globals.items
         m.outside.constants.items (S.heap m.outside.heap.store).cells) };

@@ -51,10 +51,10 @@ impl<S: Store> Outside<S> {
 impl<S: Store> Words for Outside<S> {
     ghost use Rattle.std.specs.Prelude.{length, List};
     ghost use Rattle.m3_heap.specs.Shapes.{Shape};
-    ghost use Rattle.m3_memory.specs.Addresses.{outside_of, settable_of};
-    ghost use Rattle.m3_memory.specs.Kept.{KeepsOutside};
-    ghost use Rattle.m3_memory.specs.OutsideLaws.{readable_outside, low_outside};
-    ghost use Rattle.m3_memory.specs.OutsideLaws.{outside_keeps_itself, outside_keeps_on};
+    ghost use Rattle.m3_run_memory.specs.Addresses.{outside_of, settable_of};
+    ghost use Rattle.m3_run_memory.specs.Kept.{KeepsOutside};
+    ghost use Rattle.m3_run_memory.specs.OutsideLaws.{readable_outside, low_outside};
+    ghost use Rattle.m3_run_memory.specs.OutsideLaws.{outside_keeps_itself, outside_keeps_on};
 
     ghost holds = { λ m. outside_of m.globals.items m.constants.items (S.heap m.heap.store).cells };
 

@@ -3,7 +3,7 @@ use Rattle.std.proofs.Common.{◌≡◌, ℕ, true, false, cond, List, Some, sym
 use Rattle.std.specs.Prelude.{◌==◌, ◌-◌, ◌^◌, slice_index}
 use Rattle.std.proofs.lemmas.Bool.{cases_Bool, ne_eqb, false≢true}
 use Rattle.m3_heap.specs.Cells.{Cell, cell_word_at}
-use Rattle.m3_memory_tests.specs.Held.{is_global, holds_in}
+use Rattle.m3_run_memory_tests.specs.Held.{is_global, holds_in}
 
 pub stored_in : (globals : List ℕ) (cells new : List Cell) (at w x : ℕ) → is_global at ≡ false → ((y : ℕ) → cell_word_at new y ≡ cond (y == at) (Some w) (cell_word_at cells y)) → holds_in globals new x ≡ cond (x == at) (Some w) (holds_in globals cells x)
 stored_in globals cells new at w x out h =

@@ -16,8 +16,8 @@ pub struct Parts<S: Store> {
 impl<S: Store> Words for Parts<S> {
     ghost use Rattle.std.specs.Prelude.{◌≡◌};
     ghost use Rattle.m3_heap.specs.Heap.{HasOtherWords};
-    ghost use Rattle.m3_memory_tests.specs.Kept.{keeps_itself, keeps_on};
-    ghost use Rattle.m3_memory_tests.specs.Held.{holds_in, can_set, readable_in, low_in};
+    ghost use Rattle.m3_run_memory_tests.specs.Kept.{keeps_itself, keeps_on};
+    ghost use Rattle.m3_run_memory_tests.specs.Held.{holds_in, can_set, readable_in, low_in};
 
     ghost holds = { λ m. holds_in m.globals (S.heap m.heap.store).cells };
 

@@ -6,14 +6,14 @@ use Rattle.std.proofs.lemmas.List.{get_or_append_left, get_or-append_right, get_
 use Rattle.std.proofs.lemmas.List.FromFn.{length-map-range_with_len, get_or-map-range_with_len}
 use Rattle.std.proofs.lemmas.Bool.Decides.{nat_tests}
 use Rattle.m3_isa.specs.Memory.{Memory}
-use Rattle.m3_sections.specs.Parts.{Program}
-use Rattle.m3_memory.specs.Addresses.{is_from}
-use Rattle.m3_strides.specs.State.{State, memory_of}
-use Rattle.m3_strides.specs.Texts.{text_words, text_byte, packed, text_rest}
-use Rattle.m3_strides.specs.NewTexts.{with_words, both}
-use Rattle.m3_new_cells.specs.declared.texts.Part.{Part}
-use Rattle.m3_new_cells.specs.Blanks.{WasBlank, part_bytes, both_bytes}
-use Rattle.m3_new_cells.proofs.NewCells.{HasBlank, blank_held}
+use Rattle.m3_image_sections.specs.Parts.{Program}
+use Rattle.m3_run_memory.specs.Addresses.{is_from}
+use Rattle.m3_run_meaning.specs.State.{State, memory_of}
+use Rattle.m3_run_meaning.specs.Texts.{text_words, text_byte, packed, text_rest}
+use Rattle.m3_run_meaning.specs.NewTexts.{with_words, both}
+use Rattle.m3_run_state.specs.declared.texts.Part.{Part}
+use Rattle.m3_run_state.specs.Blanks.{WasBlank, part_bytes, both_bytes}
+use Rattle.m3_run_state.proofs.NewCells.{HasBlank, blank_held}
 
 -- ---- addresses of the new cell
 

@@ -4,13 +4,13 @@ use Rattle.std.specs.Bool.{OnTrue, OnFalse}
 use Rattle.std.proofs.Common.{sym, ap, subst, ◌∙◌}
 use Rattle.std.proofs.lemmas.Bool.{OnTrue_at, OnFalse_at}
 use Rattle.m3_heap.specs.declared.store.Store.{Ghosts}
-use Rattle.m3_sections.specs.Parts.{Program}
-use Rattle.m3_decoded.specs.Ready.{image_of}
+use Rattle.m3_image_sections.specs.Parts.{Program}
+use Rattle.m3_image_decoded.specs.Ready.{image_of}
 use Rattle.m3_roots.specs.Collected.{Collected, StopsCollection}
-use Rattle.m3_strides.specs.State.{State, raised}
-use Rattle.m3_strides.specs.Collecting.{parts_of, Collects, Spoils}
-use Rattle.m3_new_cells.specs.declared.parts.Parts.{Parts}
-use Rattle.m3_new_cells.specs.Seen.{program_of}
+use Rattle.m3_run_meaning.specs.State.{State, raised}
+use Rattle.m3_run_meaning.specs.Collecting.{parts_of, Collects, Spoils}
+use Rattle.m3_run_state.specs.declared.parts.Parts.{Parts}
+use Rattle.m3_run_state.specs.Seen.{program_of}
 
 with_constants : Program → List ℕ → Program
 with_constants p cs = record p { constants = cs }

@@ -8,10 +8,10 @@ use Rattle.m3_isa.specs.Memory.{Memory, put}
 use Rattle.m3_heap.specs.Heap.{Heap}
 use Rattle.m3_threads.specs.All.{Everyone, thread_named}
 use Rattle.m3_threads.specs.declared.status.Thread.{Thread}
-use Rattle.m3_memory.specs.Addresses.{is_from}
-use Rattle.m3_sections.specs.Parts.{Program}
-use Rattle.m3_strides.specs.State.{State, HasOtherWords, memory_of}
-use Rattle.m3_strides.specs.NewTexts.{with_words}
+use Rattle.m3_run_memory.specs.Addresses.{is_from}
+use Rattle.m3_image_sections.specs.Parts.{Program}
+use Rattle.m3_run_meaning.specs.State.{State, HasOtherWords, memory_of}
+use Rattle.m3_run_meaning.specs.NewTexts.{with_words}
 
 -- no words
 none_at : (from x : ℕ) → is_from from 0 x ≡ false

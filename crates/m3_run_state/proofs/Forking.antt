@@ -10,11 +10,11 @@ use Rattle.m3_threads.specs.declared.status.Status.{Status}
 use Rattle.m3_threads.specs.All.{Everyone, is_named, updated, thread_named}
 use Rattle.m3_threads.specs.Going.{status_at, with_status, of_thread}
 use Rattle.m3_threads.specs.Actions.{Forks}
-use Rattle.m3_sections.specs.declared.procs.ProcPart.{ProcPart}
-use Rattle.m3_sections.specs.Parts.{Program}
-use Rattle.m3_strides.specs.State.{State, Becomes, memory_of, with_all, with_regs}
-use Rattle.m3_strides.specs.Progress.{Progress, Goes}
-use Rattle.m3_strides.specs.NewTexts.{standing_at, Starts_thread}
+use Rattle.m3_image_sections.specs.declared.procs.ProcPart.{ProcPart}
+use Rattle.m3_image_sections.specs.Parts.{Program}
+use Rattle.m3_run_meaning.specs.State.{State, Becomes, memory_of, with_all, with_regs}
+use Rattle.m3_run_meaning.specs.Progress.{Progress, Goes}
+use Rattle.m3_run_meaning.specs.NewTexts.{standing_at, Starts_thread}
 
 -- a thread is found where others came behind it
 found_before-at : (n : ℕ) (x t : Thread) (xs ys : List Thread) (b : Bool) → (find (is_named n) xs ≡ Some t → find (is_named n) (xs ++ ys) ≡ Some t) → cond b (Some x) (find (is_named n) xs) ≡ Some t

@@ -8,9 +8,9 @@ use Rattle.std.proofs.lemmas.Bool.Decides.{nat_tests}
 use Rattle.m3_heap.specs.Cells.{Cell, covers, cell_from, cell_word_at, is_start, is_writable, new_cell, AddsCell, AreApart, AllApart, IsHeaded, IsInHeap, AreSound}
 use Rattle.m3_threads.specs.All.{Everyone, stack_in}
 use Rattle.m3_threads.specs.Spaces.{slot_at, place_at, is_in_stack}
-use Rattle.m3_sections.specs.Parts.{Program}
-use Rattle.m3_memory.specs.Addresses.{globals_base, constants_base, is_from}
-use Rattle.m3_strides.specs.State.{State, outside, settable, memory_of, can_set}
+use Rattle.m3_image_sections.specs.Parts.{Program}
+use Rattle.m3_run_memory.specs.Addresses.{globals_base, constants_base, is_from}
+use Rattle.m3_run_meaning.specs.State.{State, outside, settable, memory_of, can_set}
 
 -- a fact of all cells holds of the one in the middle
 of-middle : (P : Cell → Type 0) (front back : List Cell) (cell : Cell) → AllByRecursion P (front ++ cell ∷ back) → P cell

@@ -5,8 +5,8 @@ use Rattle.std.proofs.lemmas.Bool.{cases_lt}
 use Rattle.std.proofs.lemmas.Bool.Decides.{nat_tests}
 use Rattle.m3_base.specs.declared.outcomes.Outcome.{Outcome}
 use Rattle.m3_base.specs.declared.outcomes.Outcome.TheVariants.{Trap}
-use Rattle.m3_sections.specs.Parts.{CellType}
-use Rattle.m3_strides.specs.NewTexts.{product, open_words, open_type}
+use Rattle.m3_image_sections.specs.Parts.{CellType}
+use Rattle.m3_run_meaning.specs.NewTexts.{product, open_words, open_type}
 
 pub product_more : (sizes : List ℕ) (size : ℕ) → product (sizes ++ size ∷ []) ≡ product sizes * size
 product_more [] size = omega arith

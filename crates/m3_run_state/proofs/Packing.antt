@@ -4,8 +4,8 @@ use Rattle.std.specs.List.{range_with_len}
 use Rattle.std.specs.Int.{w64, from_le_bytes}
 use Rattle.std.proofs.Common.{refl, ap, ◌∙◌, arith, add-one, get_or}
 use Rattle.std.proofs.lemmas.List.FromFn.{fill_by_all}
-use Rattle.m3_strides.specs.Texts.{packed}
-use Rattle.m3_new_cells.proofs.TextBytes.{moved}
+use Rattle.m3_run_meaning.specs.Texts.{packed}
+use Rattle.m3_run_state.proofs.TextBytes.{moved}
 
 -- ---- a word of eight bytes
 

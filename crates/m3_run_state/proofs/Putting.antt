@@ -7,14 +7,14 @@ use Rattle.m3_isa.specs.Memory.{Memory}
 use Rattle.m3_isa.specs.Effects.{reg, next}
 use Rattle.m3_isa.specs.declared.instructions.Instr.{Instr}
 use Rattle.m3_isa.specs.declared.registers.Regs.{Regs}
-use Rattle.m3_sections.specs.Parts.{Program}
-use Rattle.m3_strides.specs.State.{State}
-use Rattle.m3_strides.specs.Act.{Act, Puts, bytes_of, stops_with_trap, loading}
-use Rattle.m3_strides.specs.Progress.{Progress, Follows}
-use Rattle.m3_strides.specs.Texts.{text_bytes}
-use Rattle.m3_strides.specs.Acts.{has_text, puts_text, puts_bytes}
-use Rattle.m3_new_cells.specs.Seen.{Took}
-use Rattle.m3_new_cells.proofs.TextBytes.{put_more, put_none}
+use Rattle.m3_image_sections.specs.Parts.{Program}
+use Rattle.m3_run_meaning.specs.State.{State}
+use Rattle.m3_run_meaning.specs.Act.{Act, Puts, bytes_of, stops_with_trap, loading}
+use Rattle.m3_run_meaning.specs.Progress.{Progress, Follows}
+use Rattle.m3_run_meaning.specs.Texts.{text_bytes}
+use Rattle.m3_run_meaning.specs.Acts.{has_text, puts_text, puts_bytes}
+use Rattle.m3_run_state.specs.Seen.{Took}
+use Rattle.m3_run_state.proofs.TextBytes.{put_more, put_none}
 
 -- the length was loaded, and its words were looked for
 pub put_loaded : (i : Instr) (regs : Regs) (memory : Memory) (text : ℕ) (o : Option ℕ) → text ≡ reg regs i.a → o ≡ memory (add_words text 1)

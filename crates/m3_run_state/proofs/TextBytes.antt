@@ -8,7 +8,7 @@ use Rattle.m3_base.specs.Words.{add_words}
 use Rattle.m3_isa.specs.Memory.{Memory}
 use Rattle.m3_isa.specs.Arithmetic.{byte_in}
 use Rattle.m3_isa.specs.Effects.{every}
-use Rattle.m3_strides.specs.Texts.{text_byte}
+use Rattle.m3_run_meaning.specs.Texts.{text_byte}
 
 -- a byte of a word, of the eight that it has
 eight : (j word : ℕ) → j < 8 → byte_at j word ≡ byte_in word j

@@ -3,10 +3,10 @@
 use Rattle.std.specs.Prelude.{ℕ, ◌≡◌, ◌+◌, ◌-◌, ◌<◌, ◌^◌, min, true, false, List, ◌++◌, Some, Result, Ok, Err}
 use Rattle.m3_base.specs.declared.outcomes.Outcome.{Outcome}
 use Rattle.m3_isa.specs.Memory.{Memory}
-use Rattle.m3_memory.specs.Addresses.{is_from}
-use Rattle.m3_strides.specs.Texts.{text_bytes}
-use Rattle.m3_strides.specs.NewTexts.{Sizes, Fails_at_size, product}
-use Rattle.m3_new_cells.specs.declared.texts.Part.{Part}
+use Rattle.m3_run_memory.specs.Addresses.{is_from}
+use Rattle.m3_run_meaning.specs.Texts.{text_bytes}
+use Rattle.m3_run_meaning.specs.NewTexts.{Sizes, Fails_at_size, product}
+use Rattle.m3_run_state.specs.declared.texts.Part.{Part}
 
 -- a memory as it was before the words of a new cell behind its header were put: they were 0
 pub record WasBlank (start words : ℕ) (before now : Memory) : Type 0 where

@@ -3,12 +3,12 @@ use Rattle.std.specs.Prelude.{ℕ, ◌≡◌, ◌++◌, Bool, true, false, List,
 use Rattle.m3_heap.specs.declared.store.Store.{Ghosts}
 use Rattle.m3_threads.specs.declared.status.Thread.{Thread}
 use Rattle.m3_threads.specs.All.{thread_named}
-use Rattle.m3_sections.specs.Parts.{Program}
-use Rattle.m3_decoded.specs.Ready.{image_of}
-use Rattle.m3_new_cells.specs.declared.parts.Parts.{Parts}
-use Rattle.m3_strides.specs.declared.progress.Progress.{Progress as Answer}
-use Rattle.m3_strides.specs.declared.progress.Progress.TheVariants.{Ends}
-use Rattle.m3_strides.specs.State.{State}
+use Rattle.m3_image_sections.specs.Parts.{Program}
+use Rattle.m3_image_decoded.specs.Ready.{image_of}
+use Rattle.m3_run_state.specs.declared.parts.Parts.{Parts}
+use Rattle.m3_run_meaning.specs.declared.progress.Progress.{Progress as Answer}
+use Rattle.m3_run_meaning.specs.declared.progress.Progress.TheVariants.{Ends}
+use Rattle.m3_run_meaning.specs.State.{State}
 
 abbrev pub state_of : {S : Type 0} {g : Ghosts S} → Parts S g → State
 state_of {g = g} m = record {

@@ -4,22 +4,22 @@ ghost use Rattle.std.specs.Prelude.{IfSome, MatchResult};
 ghost use Rattle.std.specs.Int.{cast_unsigned, w32};
 ghost use Rattle.m3_base.specs.declared.outcomes.Outcome.{Outcome as End};
 ghost use Rattle.m3_threads.specs.declared.status.Thread.{Thread};
-ghost use Rattle.m3_sections.specs.Parts.{CellType};
-ghost use Rattle.m3_sections.specs.PartViews.{type_of};
-ghost use Rattle.m3_strides.specs.State.{State, memory_of, Becomes};
-ghost use Rattle.m3_strides.specs.Progress.{became};
-ghost use Rattle.m3_strides.specs.Making.{Allocates, Makes, Makes_late, Makes_fixed, fixed_words};
-ghost use Rattle.m3_strides.specs.Making.{HasNew};
-ghost use Rattle.m3_strides.specs.NewTexts.{with_words, open_type, GivesOpen, Makes_open};
-ghost use Rattle.m3_new_cells.specs.Blanks.{Reads};
-ghost use Rattle.m3_new_cells.specs.Seen.{state_of, program_of, rest_of, IsGoing, goes_on, Running};
+ghost use Rattle.m3_image_sections.specs.Parts.{CellType};
+ghost use Rattle.m3_image_sections.specs.PartViews.{type_of};
+ghost use Rattle.m3_run_meaning.specs.State.{State, memory_of, Becomes};
+ghost use Rattle.m3_run_meaning.specs.Progress.{became};
+ghost use Rattle.m3_run_meaning.specs.Making.{Allocates, Makes, Makes_late, Makes_fixed, fixed_words};
+ghost use Rattle.m3_run_meaning.specs.Making.{HasNew};
+ghost use Rattle.m3_run_meaning.specs.NewTexts.{with_words, open_type, GivesOpen, Makes_open};
+ghost use Rattle.m3_run_state.specs.Blanks.{Reads};
+ghost use Rattle.m3_run_state.specs.Seen.{state_of, program_of, rest_of, IsGoing, goes_on, Running};
 
 use crate::parts::Parts;
 use m3_base::Outcome;
 use m3_heap::Store;
 use m3_image::TypeView;
 use m3_isa::{Instr, Words};
-use m3_strides::Progress;
+use m3_run_meaning::Progress;
 
 /// The words of a cell of so many dimensions, by the product of its sizes and the words of an
 /// element, as far as a word can say it.

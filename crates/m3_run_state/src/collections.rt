@@ -1,17 +1,17 @@
 ghost use Rattle.std.specs.Prelude.{◌≡◌, ℕ, true, false, map, length};
 ghost use Rattle.std.specs.Bool.{OnTrue, OnFalse};
-ghost use Rattle.m3_sections.specs.Shapes.{shape_of};
-ghost use Rattle.m3_decoded.specs.Ready.{image_of};
+ghost use Rattle.m3_image_sections.specs.Shapes.{shape_of};
+ghost use Rattle.m3_image_decoded.specs.Ready.{image_of};
 ghost use Rattle.m3_roots.specs.RoomSizes.{IsRoomFor};
 ghost use Rattle.m3_roots.specs.Collected.{Collected, StopsCollection};
-ghost use Rattle.m3_strides.specs.Collecting.{Collects, Spoils};
-ghost use Rattle.m3_new_cells.specs.Seen.{state_of, program_of, rest_of, IsGoing};
+ghost use Rattle.m3_run_meaning.specs.Collecting.{Collects, Spoils};
+ghost use Rattle.m3_run_state.specs.Seen.{state_of, program_of, rest_of, IsGoing};
 
 use crate::parts::Parts;
-use m3_decoded::Decoded;
 use m3_heap::{Closed, Steps, Store};
-use m3_memory::Outside;
+use m3_image_decoded::Decoded;
 use m3_roots::{Room, collect};
+use m3_run_memory::Outside;
 use m3_threads::Threads;
 use std::marker::Brand;
 use std::sync::ledger::{Blank, Ledger};

@@ -5,18 +5,18 @@ ghost use Rattle.m3_isa.specs.Instructions.{IsInstruction};
 ghost use Rattle.m3_isa.specs.Memory.{put};
 ghost use Rattle.m3_isa.specs.Effects.{answered};
 ghost use Rattle.m3_isa.specs.declared.instructions.Instr.{Instr as Instruction};
-ghost use Rattle.m3_sections.specs.declared.procs.ProcPart.{ProcPart as Procedure};
-ghost use Rattle.m3_strides.specs.State.{State, memory_of, with_all, with_regs, Becomes};
-ghost use Rattle.m3_strides.specs.Progress.{Goes, became};
-ghost use Rattle.m3_strides.specs.Making.{HasNew};
-ghost use Rattle.m3_strides.specs.NewTexts.{standing_at, GivesThread, Forks_thread};
-ghost use Rattle.m3_new_cells.specs.Seen.{state_of, program_of, rest_of, IsGoing, goes_on, Running};
+ghost use Rattle.m3_image_sections.specs.declared.procs.ProcPart.{ProcPart as Procedure};
+ghost use Rattle.m3_run_meaning.specs.State.{State, memory_of, with_all, with_regs, Becomes};
+ghost use Rattle.m3_run_meaning.specs.Progress.{Goes, became};
+ghost use Rattle.m3_run_meaning.specs.Making.{HasNew};
+ghost use Rattle.m3_run_meaning.specs.NewTexts.{standing_at, GivesThread, Forks_thread};
+ghost use Rattle.m3_run_state.specs.Seen.{state_of, program_of, rest_of, IsGoing, goes_on, Running};
 
 use crate::parts::Parts;
 use m3_base::Outcome;
 use m3_heap::Store;
 use m3_isa::Instr;
-use m3_strides::Progress;
+use m3_run_meaning::Progress;
 
 impl<'a, S: Store> Parts<'a, S> {
     /// A thread, if it is there, stands at an instruction.

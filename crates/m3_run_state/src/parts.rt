@@ -1,14 +1,14 @@
 ghost use Rattle.std.specs.Prelude.{◌≡◌, ◌≤◌, ◌+◌, ℕ, false, map, length, slice_get, vec_capacity};
 ghost use Rattle.std.specs.Prelude.{Some};
-ghost use Rattle.m3_sections.specs.Parts.{CellType};
-ghost use Rattle.m3_sections.specs.Shapes.{shape_of};
-ghost use Rattle.m3_decoded.specs.Ready.{image_of};
+ghost use Rattle.m3_image_sections.specs.Parts.{CellType};
+ghost use Rattle.m3_image_sections.specs.Shapes.{shape_of};
+ghost use Rattle.m3_image_decoded.specs.Ready.{image_of};
 ghost use Rattle.m3_roots.specs.RoomSizes.{IsRoomFor};
 
-use m3_decoded::Decoded;
 use m3_heap::Store;
-use m3_memory::Memory;
+use m3_image_decoded::Decoded;
 use m3_roots::Room;
+use m3_run_memory::Memory;
 
 /// What a machine has: the image that it runs, the input, its words, the thread that went last, the
 /// place in the input, and how many points were passed, instructions executed and collections made.

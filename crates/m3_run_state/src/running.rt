@@ -5,16 +5,16 @@ ghost use Rattle.m3_isa.specs.Effects.{reg, next, answered, jumped};
 ghost use Rattle.m3_threads.specs.All.{thread_named};
 ghost use Rattle.m3_threads.specs.declared.status.Thread.{Thread};
 ghost use Rattle.m3_threads.specs.Going.{IsAwake};
-ghost use Rattle.m3_strides.specs.State.{memory_of, can_set, with_regs, HasOtherWords};
-ghost use Rattle.m3_strides.specs.Progress.{Goes, became};
-ghost use Rattle.m3_strides.specs.Calls.{come_to, stack_of};
-ghost use Rattle.m3_new_cells.specs.Seen.{state_of, program_of, rest_of, Running};
+ghost use Rattle.m3_run_meaning.specs.State.{memory_of, can_set, with_regs, HasOtherWords};
+ghost use Rattle.m3_run_meaning.specs.Progress.{Goes, became};
+ghost use Rattle.m3_run_meaning.specs.Calls.{come_to, stack_of};
+ghost use Rattle.m3_run_state.specs.Seen.{state_of, program_of, rest_of, Running};
 
 use crate::parts::Parts;
 use m3_heap::Store;
 use m3_isa::{Regs, Words};
-use m3_strides::Progress;
-use m3_strides::near::{Place, Stack};
+use m3_run_meaning::Progress;
+use m3_run_meaning::near::{Place, Stack};
 use m3_threads::Status;
 
 // No run carries out more forks and waits: each of them passes a point.

@@ -7,26 +7,26 @@ ghost use Rattle.m3_base.specs.Words.{add_words};
 ghost use Rattle.m3_isa.specs.Memory.{Memory};
 ghost use Rattle.m3_isa.specs.Effects.{reg, every};
 ghost use Rattle.m3_threads.specs.declared.status.Thread.{Thread};
-ghost use Rattle.m3_memory.specs.Addresses.{is_from};
-ghost use Rattle.m3_strides.specs.State.{memory_of, Becomes};
-ghost use Rattle.m3_strides.specs.Act.{bytes_of, or_trap};
-ghost use Rattle.m3_strides.specs.Progress.{Follows, became};
-ghost use Rattle.m3_strides.specs.Texts.{text_words, text_byte, text_bytes, packed, text_rest};
-ghost use Rattle.m3_strides.specs.Making.{HasNew};
-ghost use Rattle.m3_strides.specs.NewTexts.{with_words, both, part_of, FillsText, GivesText};
-ghost use Rattle.m3_strides.specs.NewTexts.{Makes_text, Makes_char, Cats, lengths_at, sub_count};
-ghost use Rattle.m3_strides.specs.NewTexts.{Subs};
-ghost use Rattle.m3_strides.specs.Acts.{has_text, puts_text};
-ghost use Rattle.m3_new_cells.specs.Blanks.{WasBlank, IsWithin, both_bytes};
-ghost use Rattle.m3_new_cells.specs.Seen.{state_of, program_of, rest_of, IsGoing, goes_on, Running};
-ghost use Rattle.m3_new_cells.specs.Seen.{Took};
+ghost use Rattle.m3_run_memory.specs.Addresses.{is_from};
+ghost use Rattle.m3_run_meaning.specs.State.{memory_of, Becomes};
+ghost use Rattle.m3_run_meaning.specs.Act.{bytes_of, or_trap};
+ghost use Rattle.m3_run_meaning.specs.Progress.{Follows, became};
+ghost use Rattle.m3_run_meaning.specs.Texts.{text_words, text_byte, text_bytes, packed, text_rest};
+ghost use Rattle.m3_run_meaning.specs.Making.{HasNew};
+ghost use Rattle.m3_run_meaning.specs.NewTexts.{with_words, both, part_of, FillsText, GivesText};
+ghost use Rattle.m3_run_meaning.specs.NewTexts.{Makes_text, Makes_char, Cats, lengths_at, sub_count};
+ghost use Rattle.m3_run_meaning.specs.NewTexts.{Subs};
+ghost use Rattle.m3_run_meaning.specs.Acts.{has_text, puts_text};
+ghost use Rattle.m3_run_state.specs.Blanks.{WasBlank, IsWithin, both_bytes};
+ghost use Rattle.m3_run_state.specs.Seen.{state_of, program_of, rest_of, IsGoing, goes_on, Running};
+ghost use Rattle.m3_run_state.specs.Seen.{Took};
 
 use crate::parts::Parts;
 use m3_base::Outcome;
 use m3_heap::Store;
 use m3_isa::{Instr, Words};
 use m3_ports::{Sink, SinkFailed};
-use m3_strides::Progress;
+use m3_run_meaning::Progress;
 
 /// A new text cell that is being filled: its address, and how many words it has.
 #[derive(Clone, Copy)]

@@ -1,6 +1,7 @@
-use crate::frames::value_words;
-use m3_sizes::SizedTypes;
+use crate::frames::{known_words, value_words};
+use m3_core::{CoreExpr, Value};
 use m3_types::TypeId;
+use m3_types_sizes::SizedTypes;
 
 /// What stands in a procedure's body: its nodes, the words of the values that its calls,
 /// constructors and bindings handle, its points, the words of its constants, and the types of cells
@@ -8,6 +9,7 @@ use m3_types::TypeId;
 #[derive(Drop)]
 pub struct Counts<'c, 'a> {
     pub types: &'c SizedTypes<'a>,
+    values: &'c [Value<'a>],
     /// For each type the parts of a cell or value of it.
     parts: &'c [u64],
     pub nodes: u64,
@@ -18,9 +20,14 @@ pub struct Counts<'c, 'a> {
 }
 
 impl<'c, 'a> Counts<'c, 'a> {
-    pub fn new(types: &'c SizedTypes<'a>, parts: &'c [u64]) -> Counts<'c, 'a> {
+    pub fn new(
+        types: &'c SizedTypes<'a>,
+        values: &'c [Value<'a>],
+        parts: &'c [u64],
+    ) -> Counts<'c, 'a> {
         Counts {
             types,
+            values,
             parts,
             nodes: 0,
             words: 0,
@@ -56,15 +63,16 @@ impl<'c, 'a> Counts<'c, 'a> {
     }
 
     /// The node of a set, array or record, with its value.
-    pub fn add_constructor(&mut self, kind: TypeId) {
+    pub fn add_constructor(&mut self, e: &CoreExpr<'_>) {
         self.add_node();
-        self.add_value(Some(kind));
+        let words = known_words(self.types, self.values, e);
+        self.add_words(words);
     }
 
     /// The node of a constant, with its words.
-    pub fn add_constant(&mut self, kind: TypeId) {
+    pub fn add_constant(&mut self, e: &CoreExpr<'_>) {
         self.add_node();
-        let words = value_words(self.types, kind);
+        let words = known_words(self.types, self.values, e);
         self.constants = self.constants.saturating_add(u128::from(words));
     }
 

@@ -10,10 +10,10 @@ use m3_types::TypeId;
 #[cycle(expressions)]
 pub fn count_expression(counts: &mut Counts<'_, '_>, e: &CoreExpr<'_>) {
     match e {
-        CoreExpr::Number { kind, .. }
-        | CoreExpr::Nil { kind, .. }
-        | CoreExpr::Procedure { kind, .. }
-        | CoreExpr::Constant { kind, .. } => counts.add_constant(*kind),
+        CoreExpr::Number { .. }
+        | CoreExpr::Nil { .. }
+        | CoreExpr::Procedure { .. }
+        | CoreExpr::Constant { .. } => counts.add_constant(e),
         CoreExpr::Text { .. } | CoreExpr::InnerProcedure { .. } => counts.add_node(),
         CoreExpr::Chain(chain) => count_chain(counts, chain),
         CoreExpr::Builtin(call) => count_builtin(counts, call),
@@ -29,16 +29,16 @@ pub fn count_expression(counts: &mut Counts<'_, '_>, e: &CoreExpr<'_>) {
             count_expression(counts, first);
             count_operations(counts, rest);
         }
-        CoreExpr::SetOf { kind, elements, .. } => {
-            counts.add_constructor(*kind);
+        CoreExpr::SetOf { elements, .. } => {
+            counts.add_constructor(e);
             count_elements(counts, elements);
         }
-        CoreExpr::ArrayOf { kind, elements, .. } => {
-            counts.add_constructor(*kind);
+        CoreExpr::ArrayOf { elements, .. } => {
+            counts.add_constructor(e);
             count_row(counts, elements);
         }
-        CoreExpr::RecordOf { kind, fields, .. } => {
-            counts.add_constructor(*kind);
+        CoreExpr::RecordOf { fields, .. } => {
+            counts.add_constructor(e);
             count_fields(counts, fields);
         }
         CoreExpr::New {
@@ -198,7 +198,7 @@ fn passes_point(routine: Routine) -> bool {
 }
 
 /// The type of an expression; none of a call without result.
-fn kind_of(e: &CoreExpr<'_>) -> Option<TypeId> {
+pub fn kind_of(e: &CoreExpr<'_>) -> Option<TypeId> {
     match e {
         CoreExpr::Number { kind, .. }
         | CoreExpr::Text { kind, .. }

@@ -1,11 +1,13 @@
 use crate::counts::Counts;
+use crate::expressions::kind_of;
+use crate::shapes::KnownShape;
 use crate::statements::count_statements;
-use m3_core::{Actual, Core, ProcDef, VarDef, VarKind};
-use m3_sizes::SizedTypes;
+use m3_core::{Actual, Core, CoreExpr, ProcDef, Value, VarDef, VarKind};
 use m3_types::{TypeId, TypeNode};
+use m3_types_sizes::SizedTypes;
 
 /// The sizes of a procedure that count towards its frame and its image.
-#[derive(Clone, Copy, Debug, PartialEq, Eq)]
+#[derive(Clone, Copy, PartialEq, Eq)]
 pub struct Sizes {
     pub frame: u64,
     pub points: u64,
@@ -44,6 +46,28 @@ pub fn value_words(types: &SizedTypes, t: TypeId) -> u64 {
     } else {
         words(types, t)
     }
+}
+
+/// The words of a constructor or constant, of which constants fix the shape.
+pub fn known_words(types: &SizedTypes, values: &[Value], e: &CoreExpr) -> u64 {
+    let Some(kind) = kind_of(e) else {
+        return 0;
+    };
+    let shape = KnownShape::of(e);
+    let count = shape.elements(&types.graph, values, open_dims(types, kind));
+    count.saturating_mul(words(types, innermost(types, kind)))
+}
+
+/// The type of the elements below the open dimensions of a type.
+fn innermost(types: &SizedTypes, t: TypeId) -> TypeId {
+    let mut at = t;
+    for _ in 0..types.graph.nodes.len() {
+        match types.graph.nodes.get(at.0 as usize) {
+            Some(TypeNode::OpenArray(element)) => at = *element,
+            _ => break,
+        }
+    }
+    at
 }
 
 /// What the sizes of an open array add to an alias, a formal or an actual.
@@ -86,7 +110,7 @@ fn words_of_row(types: &SizedTypes, row: &[VarDef]) -> u64 {
 
 /// The sizes of a procedure, by the parts of each type.
 pub fn sizes_of(core: &Core, parts: &[u64], proc: &ProcDef) -> Sizes {
-    let mut counts = Counts::new(&core.types, parts);
+    let mut counts = Counts::new(&core.types, core.values, parts);
     count_statements(&mut counts, proc.body);
     let formals = words_of_row(&core.types, proc.formals);
     let locals = words_of_row(&core.types, proc.locals);

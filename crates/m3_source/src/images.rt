@@ -1,7 +1,7 @@
 use crate::frames::{open_dims, sizes_of};
 use crate::parts::{Measures, number_of};
 use m3_base::NoMemory;
-use m3_core::{Core, ProcDef, VarDef, VarKind};
+use m3_core::{Core, ProcDef, Text, VarDef, VarKind};
 use m3_types::{TypeId, TypeNode};
 use std::alloc::Global;
 
@@ -74,6 +74,17 @@ fn names_of(row: &[VarDef]) -> u128 {
     size
 }
 
+/// The bytes of the text literals, used or not. Texts that `&` makes of them count nothing.
+fn literals(row: &[Text]) -> u128 {
+    let mut size = 0u128;
+    for text in row {
+        if let Text::Literal(bytes) = text {
+            size = size.saturating_add(bytes.len() as u128);
+        }
+    }
+    size
+}
+
 fn bytes_of(row: &[&[u8]]) -> u128 {
     let mut size = 0u128;
     for text in row {
@@ -82,9 +93,9 @@ fn bytes_of(row: &[&[u8]]) -> u128 {
     size
 }
 
-/// The bytes of texts, files, exceptions and global variables.
+/// The bytes of text literals, files, exceptions and global variables.
 fn names(core: &Core) -> u128 {
-    let mut size = bytes_of(core.texts)
+    let mut size = literals(core.texts)
         .saturating_add(bytes_of(core.files))
         .saturating_add(names_of(core.globals));
     for exception in core.exceptions {

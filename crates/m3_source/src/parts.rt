@@ -1,12 +1,12 @@
 use m3_base::NoMemory;
-use m3_sizes::SizedTypes;
 use m3_types::{Field, Secret, TypeId, TypeNode};
+use m3_types_sizes::SizedTypes;
 use std::alloc::Global;
 
 /// What is counted of a type, in itself: the parts and the pointers of a value of it (of an open
 /// array, of an element), and, of an object type, those of all its fields and its methods,
 /// ancestors included.
-#[derive(Clone, Copy, Debug, PartialEq, Eq)]
+#[derive(Clone, Copy, PartialEq, Eq)]
 pub struct Measure {
     pub parts: u64,
     pub pointers: u64,
@@ -19,7 +19,7 @@ const NOTHING: Measure = Measure {
     methods: 0,
 };
 
-#[derive(Clone, Copy, Debug, PartialEq, Eq)]
+#[derive(Clone, Copy, PartialEq, Eq)]
 enum State {
     Unknown,
     Waiting,

@@ -1,11 +1,11 @@
 use crate::sequences::statements;
-use m3_core::Else;
-use m3_heads::{condition, handler, ranges, tested, type_head};
-use m3_syntax::Stmt;
-use m3_walk::Walk;
-use m3_wholes::{
-    add_arm, add_case, add_handler, add_type_branch, put_case, put_if, put_try, put_type_case,
+use m3_check_statement_parts::{
+    add_arm, add_case, add_handler, add_type_branch, condition, handler, put_case, put_if, put_try,
+    put_type_case, ranges, tested, type_head,
 };
+use m3_check_statement_state::Walk;
+use m3_core::Else;
+use m3_syntax::Stmt;
 
 /// IF with its ELSIFs.
 #[cycle(statements)]

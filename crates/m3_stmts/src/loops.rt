@@ -1,8 +1,7 @@
 use crate::sequences::statements;
-use m3_heads::{condition, counted};
+use m3_check_statement_parts::{condition, counted, put_for, put_loop, put_repeat, put_while};
+use m3_check_statement_state::Walk;
 use m3_syntax::Stmt;
-use m3_walk::Walk;
-use m3_wholes::{put_for, put_loop, put_repeat, put_while};
 
 /// LOOP, WHILE, REPEAT and FOR. What stands beside the statements of a loop counts as inside
 /// it too, since no EXIT stands there.

@@ -1,10 +1,9 @@
 use crate::sequences::statements;
-use m3_bodies::Heading;
-use m3_heads::{enter, initial, locals};
+use m3_check_bodies::Heading;
+use m3_check_names::judge_declaration;
+use m3_check_statement_parts::{enter, initial, leave, locals, put_block};
+use m3_check_statement_state::Walk;
 use m3_syntax::{Block, Decl};
-use m3_type_names::judge_declaration;
-use m3_walk::Walk;
-use m3_wholes::{leave, put_block};
 
 /// Checks the procedure that a declaration declares with a body, and those inside it. `around`
 /// is the procedure around it.

@@ -1,8 +1,7 @@
 use crate::sequences::statements;
-use m3_heads::{bindings, mutex};
+use m3_check_statement_parts::{bindings, mutex, put_finally, put_lock, put_with};
+use m3_check_statement_state::Walk;
 use m3_syntax::Stmt;
-use m3_walk::Walk;
-use m3_wholes::{put_finally, put_lock, put_with};
 
 /// WITH, LOCK and TRY FINALLY.
 #[cycle(statements)]

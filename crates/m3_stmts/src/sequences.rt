@@ -2,10 +2,10 @@ use crate::branches::{alternatives, choice, handled, type_choice};
 use crate::loops::repeated;
 use crate::procedures::block;
 use crate::scopes::enclosed;
+use m3_check_statement_parts::put_leaf;
+use m3_check_statement_state::Walk;
 use m3_core::CoreStmt;
 use m3_syntax::Stmt;
-use m3_walk::Walk;
-use m3_wholes::put_leaf;
 
 /// The checked statements of a row; those that were refused are left out.
 #[cycle(statements)]

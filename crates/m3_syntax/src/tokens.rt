@@ -4,7 +4,7 @@ ghost use Rattle.m3_syntax.specs.Spellings.{text_of_word};
 use m3_base::Pos;
 
 /// A token of a source: what it is, its bytes in the source, and the place of its first byte.
-#[derive(Clone, Copy, Debug)]
+#[derive(Clone, Copy)]
 pub struct Token<'a> {
     pub kind: TokenKind,
     pub text: &'a [u8],

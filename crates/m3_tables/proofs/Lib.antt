@@ -3,4 +3,7 @@ pub mod FieldLemmas
 pub mod SectionLemmas
 pub mod ViewLemmas
 pub mod KeepingLemmas
+pub mod WindowLemmas
+pub mod LowestLemmas
+pub mod MarkLemmas
 pub mod OnceLemmas

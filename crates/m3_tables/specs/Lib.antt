@@ -3,6 +3,7 @@ pub mod Places
 pub mod Fields
 pub mod Rows
 pub mod Sections
+pub mod Windows
 pub mod Views
 pub mod Tables
 pub mod Keeping

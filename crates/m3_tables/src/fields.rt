@@ -231,35 +231,6 @@ pub(crate) fn listing_at(bytes: &[u8]) -> Option<(Listing<'_>, &[u8])>
     }
 }
 
-impl<'a> Entries<'a> {
-    ghost use Rattle.m3_tables.specs.Sections.{is_derived, is_path};
-    ghost use Rattle.m3_tables.specs.Views.{entries_of};
-
-    /// Whether a place is that of an entry.
-    pub(crate) fn is_derived(self, place: u32) -> bool
-        ensures { result ≡ is_derived (entries_of self.entry) place }
-    {
-        for entry in self {
-            if entry.location == place {
-                return true;
-            }
-        }
-        false
-    }
-
-    /// Whether a place is the path of an entry.
-    pub(crate) fn has_path(self, place: u32) -> bool
-        ensures { result ≡ is_path (entries_of self.entry) place }
-    {
-        for entry in self {
-            if entry.path_number() == Some(place) {
-                return true;
-            }
-        }
-        false
-    }
-}
-
 impl<'a> Contents<'a> {
     ghost use Rattle.m3_tables.specs.Rows.{nothing};
 

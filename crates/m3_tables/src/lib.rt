@@ -6,6 +6,7 @@ mod bounds;
 mod derivation;
 mod fields;
 mod form;
+mod marks;
 mod numbers;
 mod place;
 mod row;

@@ -1,13 +1,15 @@
 //! Which rows of a section are bad, in the order of their numbers.
-ghost use Rattle.std.specs.Prelude.{◌≡◌, ◌≢◌, ◌≤◌, ◌<◌, ◌+◌, ◌*◌, ℕ, IsTrue, not, ◌==◌, length};
+ghost use Rattle.std.specs.Prelude.{◌≡◌, ◌≢◌, ◌≤◌, ◌<◌, ◌+◌, ◌*◌, ℕ, IsTrue, true, not, ◌==◌, length};
 ghost use Rattle.std.specs.List.{list_all};
 ghost use Rattle.std.specs.Option.{option_map};
 ghost use Rattle.m3_tables.specs.Numbers.{word_in};
 ghost use Rattle.m3_tables.specs.Sections.{row_in, body_of, was_tidy, is_tidy, past_row, past_contents, tidies_rise, tidies_fit, rest_fits, start_of, instruction_rises, row_rises, row_fits, is_good, first_bad};
 ghost use Rattle.m3_tables.specs.Views.{numbers_of, tidies_of};
+ghost use Rattle.m3_tables.specs.Windows.{AreClear};
 
 use crate::fields::{Listing, contents_at};
 use crate::form::Candidate;
+use crate::marks::MARKS;
 use crate::numbers::{Numbers, word};
 use crate::section::Section;
 
@@ -92,10 +94,20 @@ impl<'a> Section<'a> {
     }
 
     /// Whether the rest of a row has its form.
-    fn rest_fits(&self, row: usize, listing: Listing<'_>, rest: &'a [u8]) -> bool
+    fn rest_fits(
+        &self,
+        row: usize,
+        listing: Listing<'_>,
+        rest: &'a [u8],
+        marks: &mut [bool],
+    ) -> bool
         requires row { row < word_in self.now.bytes.now }
         requires rises { (k : ℕ) → k ≤ row → IsTrue (row_rises self.now.bytes.now k) }
-        ensures { result ≡ rest_fits (is_tidy self.now.bytes.now row) (tidies_of listing.entry) rest.now }
+        requires clear { AreClear marks.old }
+        requires length { length marks.old ≡ 65536 }
+        ensures value { result ≡ rest_fits (is_tidy self.now.bytes.now row) (tidies_of listing.entry) rest.now }
+        ensures clear { result ≡ true → AreClear marks.new }
+        ensures length { length marks.new ≡ length marks.old }
     {
         if let Listing::Same = listing {
             return true;
@@ -112,18 +124,22 @@ impl<'a> Section<'a> {
             row,
             contents,
         }
-        .fits()
+        .fits(marks)
     }
 
-    fn row_fits(&self, row: usize) -> bool
+    fn row_fits(&self, row: usize, marks: &mut [bool]) -> bool
         requires row { row < word_in self.now.bytes.now }
         requires rises { (k : ℕ) → k ≤ row → IsTrue (row_rises self.now.bytes.now k) }
-        ensures { result ≡ row_fits self.now.bytes.now row }
+        requires clear { AreClear marks.old }
+        requires length { length marks.old ≡ 65536 }
+        ensures value { result ≡ row_fits self.now.bytes.now row }
+        ensures clear { result ≡ true → AreClear marks.new }
+        ensures length { length marks.new ≡ length marks.old }
     {
         let Some((listing, rest)) = self.listing(row) else {
             return false;
         };
-        self.listing_fits(row, listing) && self.rest_fits(row, listing, rest)
+        self.listing_fits(row, listing) && self.rest_fits(row, listing, rest, marks)
     }
 
     fn row_rises(&self, row: usize) -> bool
@@ -145,16 +161,20 @@ impl<'a> Section<'a> {
 
     /// Whether a row is good, where those before it are, by where it has to begin.
     #[tactic(auto, unfolding(crate::specs::Sections::is_good))]
-    fn is_good(&self, row: usize, start: usize) -> bool
+    fn is_good(&self, row: usize, start: usize, marks: &mut [bool]) -> bool
         requires row { row < word_in self.now.bytes.now }
         requires start { start ≡ start_of self.now.bytes.now row }
         requires before { (k : ℕ) → k < row → IsTrue (row_rises self.now.bytes.now k) }
-        ensures { result ≡ is_good self.now.bytes.now row }
+        requires clear { AreClear marks.old }
+        requires length { length marks.old ≡ 65536 }
+        ensures value { result ≡ is_good self.now.bytes.now row }
+        ensures clear { result ≡ true → AreClear marks.new }
+        ensures length { length marks.new ≡ length marks.old }
     {
         self.instruction_rises(row)
             && self.offset(row) as usize == start
             && self.row_rises(row)
-            && self.row_fits(row)
+            && self.row_fits(row, marks)
     }
 
     /// Where the row after this one has to begin.
@@ -176,9 +196,10 @@ impl<'a> Section<'a> {
     pub(crate) fn first_bad(&self) -> Option<u32>
         ensures { result ≡ first_bad self.now.bytes.now (word_in self.now.bytes.now) }
     {
+        let mut marks = [false; MARKS];
         let mut start = 0;
         for row in 0..word(self.bytes) {
-            if !self.is_good(row as usize, start) {
+            if !self.is_good(row as usize, start, &mut marks) {
                 return Some(row);
             }
             start = self.start_after(row as usize);

@@ -3,12 +3,12 @@ use Rattle.std.proofs.Common.{◌≡◌, ℕ, zero, suc, ◌+◌, ◌*◌, ◌�
 use Rattle.std.specs.Prelude.{map}
 use Rattle.std.specs.List.{AllByRecursion}
 use Rattle.std.proofs.lemmas.List.{map_push}
-use Rattle.m3_table_writer.specs.declared.plain.RowPlain.{RowPlain}
+use Rattle.m3_tables_writer.specs.declared.plain.RowPlain.{RowPlain}
 use Rattle.m3_tables.specs.Numbers.{rises}
 use Rattle.m3_tables.specs.Rows.{nothing}
-use Rattle.m3_table_writer.specs.Plain.{Plain, plain_of, plains_of, tidy_plain, contents_plain, IsRow}
-use Rattle.m3_table_writer.specs.Writing.{word_bytes, list_bytes, contents_bytes, ground_bytes, row_bytes, body_bytes, directory_bytes, table_bytes}
-use Rattle.m3_table_writer.proofs.PlainFits.{same_instructions}
+use Rattle.m3_tables_writer.specs.Plain.{Plain, plain_of, plains_of, tidy_plain, contents_plain, IsRow}
+use Rattle.m3_tables_writer.specs.Writing.{word_bytes, list_bytes, contents_bytes, ground_bytes, row_bytes, body_bytes, directory_bytes, table_bytes}
+use Rattle.m3_tables_writer.proofs.PlainFits.{same_instructions}
 
 abbrev pub plain_row : ℕ → Plain
 plain_row instr = record { instr = instr; tidy = 3 ∷ 18 ∷ []; contents = record { arguments = []; passed = []; derived = [] } }

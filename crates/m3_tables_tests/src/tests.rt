@@ -1,13 +1,13 @@
 ghost use Rattle.std.specs.Prelude.{◌≡◌, ◌≤◌, [], ◌∷◌, map, length, IfOk, IsTrue};
 ghost use Rattle.std.specs.List.{AllByRecursion};
 ghost use Rattle.m3_tables.specs.Numbers.{rises};
-ghost use Rattle.m3_table_writer.specs.Plain.{tidy_plain, contents_plain, plains_of, IsRow};
-ghost use Rattle.m3_table_writer.specs.Writing.{table_bytes};
+ghost use Rattle.m3_tables_writer.specs.Plain.{tidy_plain, contents_plain, plains_of, IsRow};
+ghost use Rattle.m3_tables_writer.specs.Writing.{table_bytes};
 ghost use Rattle.m3_tables.specs.Rows.{nothing};
 
 use m3_base::NoMemory;
-use m3_table_writer::{RowPlain, write_rows};
 use m3_tables::{Location, TableView};
+use m3_tables_writer::{RowPlain, write_rows};
 use std::alloc::Global;
 use std::fmt::{Debug, Display};
 use std::process::Abort;

@@ -9,9 +9,9 @@ use Rattle.byteorder.specs.Numbers.{little_number-reads_back}
 use Rattle.m3_tables.specs.Numbers.{word_in, half_in, numbers}
 use Rattle.m3_tables.specs.Rows.{Bases, Entry, Contents, All_of, Changed, Unchanged}
 use Rattle.m3_tables.specs.Fields.{word_at, half_at, list_at, bases_at, ways_in, past_ways, path_of, entry_at, entries_in, past_entries, contents_at, tidies_at}
-use Rattle.m3_table_writer.specs.Plain.{Plain}
-use Rattle.m3_table_writer.specs.Writing.{word_bytes, half_bytes, list_bytes, bases_bytes, entry_bytes, contents_bytes, ground_bytes, change_bytes, missing}
-use Rattle.m3_table_writer.proofs.WriteLemmas.{length-word_bytes, length-half_bytes, length-words}
+use Rattle.m3_tables_writer.specs.Plain.{Plain}
+use Rattle.m3_tables_writer.specs.Writing.{word_bytes, half_bytes, list_bytes, bases_bytes, entry_bytes, contents_bytes, ground_bytes, change_bytes, missing}
+use Rattle.m3_tables_writer.proofs.WriteLemmas.{length-word_bytes, length-half_bytes, length-words}
 
 -- ---- numbers
 

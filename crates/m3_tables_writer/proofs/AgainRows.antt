@@ -9,13 +9,13 @@ use Rattle.m3_tables.specs.Numbers.{word_in, has, rises}
 use Rattle.m3_tables.specs.Rows.{Contents, Tidies, All_of, Changed, Unchanged}
 use Rattle.m3_tables.specs.Fields.{tidies_at, contents_at}
 use Rattle.m3_tables.specs.Sections.{instruction_in, offset_in, body_of, row_in, tidies, is_tidy, was_tidy, contents_in, past_contents, past_row, contents_fit, tidies_rise, tidies_fit, rest_fits, start_of, instruction_rises, row_rises, row_fits, is_good, first_bad, directory_fault, end_fault, fault_of}
-use Rattle.m3_table_writer.specs.Plain.{Plain}
-use Rattle.m3_table_writer.specs.Writing.{word_bytes, contents_bytes, ground_bytes, change_bytes, after_bytes, missing, same_row, row_bytes, body_bytes, directory_bytes, table_bytes}
-use Rattle.m3_table_writer.specs.Tabulates.{SaysRow, Tabulates}
-use Rattle.m3_table_writer.proofs.WriteLemmas.{length-list_bytes, contents_parts, ground_parts, change_parts, length-directory_bytes, length-table_bytes}
+use Rattle.m3_tables_writer.specs.Plain.{Plain}
+use Rattle.m3_tables_writer.specs.Writing.{word_bytes, contents_bytes, ground_bytes, change_bytes, after_bytes, missing, same_row, row_bytes, body_bytes, directory_bytes, table_bytes}
+use Rattle.m3_tables_writer.specs.Tabulates.{SaysRow, Tabulates}
+use Rattle.m3_tables_writer.proofs.WriteLemmas.{length-list_bytes, contents_parts, ground_parts, change_parts, length-directory_bytes, length-table_bytes}
 use Rattle.m3_tables.proofs.SectionLemmas.{tidy_is, contents_at_row, first_bad-zero, first_bad-more}
-use Rattle.m3_table_writer.proofs.Again.{word_again, after_word, AreSmall, IsSmallContents, IsShort, contents_at_again, ground_again, change_again, same_again}
-use Rattle.m3_table_writer.proofs.Missing.{both, test, has_missing, rises_filter, small_filter, all_kept, all_there, changed_is, same_tidy, same_contents}
+use Rattle.m3_tables_writer.proofs.Again.{word_again, after_word, AreSmall, IsSmallContents, IsShort, contents_at_again, ground_again, change_again, same_again}
+use Rattle.m3_tables_writer.proofs.Missing.{both, test, has_missing, rises_filter, small_filter, all_kept, all_there, changed_is, same_tidy, same_contents}
 
 -- what a row must be to be written
 pub record FitsPlain (row : Plain) : Type 0 where

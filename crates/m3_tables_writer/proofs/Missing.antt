@@ -7,9 +7,9 @@ use Rattle.std.proofs.lemmas.Bool.{ltb-true, lt-ltb, eqb-true}
 use Rattle.std.proofs.lemmas.Bool.Decides.{nat_tests}
 use Rattle.m3_tables.specs.Numbers.{has, rises}
 use Rattle.m3_tables.specs.Rows.{Bases, Entry}
-use Rattle.m3_table_writer.specs.Plain.{Plain}
-use Rattle.m3_table_writer.specs.Writing.{missing, same_bases, same_path, same_entry, same_row}
-use Rattle.m3_table_writer.proofs.Again.{AreSmall}
+use Rattle.m3_tables_writer.specs.Plain.{Plain}
+use Rattle.m3_tables_writer.specs.Writing.{missing, same_bases, same_path, same_entry, same_row}
+use Rattle.m3_tables_writer.proofs.Again.{AreSmall}
 
 pub both : (a b : Bool) → (a && b) ≡ true → (a ≡ true) × (b ≡ true)
 both true b e = (refl, e)

@@ -8,13 +8,13 @@ use Rattle.std.proofs.lemmas.Bool.{ltb-true}
 use Rattle.std.proofs.lemmas.List.{length-map, take_more, take_all}
 use Rattle.m3_tables.specs.declared.place.Location.{Location}
 use Rattle.m3_tables.specs.declared.place.Location.TheVariants.{Register, Slot}
-use Rattle.m3_table_writer.specs.declared.plain.Way.{Way}
-use Rattle.m3_table_writer.specs.declared.plain.DerivedPlain.{DerivedPlain}
-use Rattle.m3_table_writer.specs.declared.plain.RowPlain.{RowPlain}
-use Rattle.m3_table_writer.specs.Plain.{place_number, place_numbers, bases_plain, entry_plain, plain_of, plains_of, IsDerived, IsRow}
-use Rattle.m3_table_writer.proofs.Missing.{test}
-use Rattle.m3_table_writer.proofs.Again.{AreSmall, IsSmallBases, IsSmallEntry}
-use Rattle.m3_table_writer.proofs.AgainRows.{FitsPlain}
+use Rattle.m3_tables_writer.specs.declared.plain.Way.{Way}
+use Rattle.m3_tables_writer.specs.declared.plain.DerivedPlain.{DerivedPlain}
+use Rattle.m3_tables_writer.specs.declared.plain.RowPlain.{RowPlain}
+use Rattle.m3_tables_writer.specs.Plain.{place_number, place_numbers, bases_plain, entry_plain, plain_of, plains_of, IsDerived, IsRow}
+use Rattle.m3_tables_writer.proofs.Missing.{test}
+use Rattle.m3_tables_writer.proofs.Again.{AreSmall, IsSmallBases, IsSmallEntry}
+use Rattle.m3_tables_writer.proofs.AgainRows.{FitsPlain}
 
 place_small : (l : Location) → place_number l < 2 ^ 32
 place_small (Register r) =

@@ -3,10 +3,10 @@ use Rattle.std.proofs.Common.{◌≡◌, ℕ, suc, ◌+◌, ◌*◌, ◌<◌, �
 use Rattle.std.specs.Prelude.{unwrap_or, ◌-◌, ◌^◌}
 use Rattle.std.specs.List.{flat_map}
 use Rattle.std.proofs.lemmas.List.{append-nil, drop_more}
-use Rattle.m3_table_writer.specs.declared.plain.RowPlain.{RowPlain}
+use Rattle.m3_tables_writer.specs.declared.plain.RowPlain.{RowPlain}
 use Rattle.m3_tables.specs.Rows.{Entry, Contents}
-use Rattle.m3_table_writer.specs.Plain.{Plain}
-use Rattle.m3_table_writer.specs.Writing.{word_bytes, half_bytes, list_bytes, bases_bytes, entry_bytes, contents_bytes, ground_bytes, change_bytes, missing, row_bytes, body_bytes, directory_bytes, table_bytes}
+use Rattle.m3_tables_writer.specs.Plain.{Plain}
+use Rattle.m3_tables_writer.specs.Writing.{word_bytes, half_bytes, list_bytes, bases_bytes, entry_bytes, contents_bytes, ground_bytes, change_bytes, missing, row_bytes, body_bytes, directory_bytes, table_bytes}
 
 pub length-word_bytes : (n : ℕ) → length (word_bytes n) ≡ 4
 unfolding word_bytes

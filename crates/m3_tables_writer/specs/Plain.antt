@@ -3,9 +3,9 @@ use Rattle.std.specs.Prelude.{ℕ, ◌<◌, ◌^◌, ◌-◌, List, map, length,
 use Rattle.std.specs.Option.{option_map}
 use Rattle.std.specs.List.{AllByRecursion}
 use Rattle.m3_tables.specs.declared.place.Location.{Location}
-use Rattle.m3_table_writer.specs.declared.plain.Way.{Way}
-use Rattle.m3_table_writer.specs.declared.plain.DerivedPlain.{DerivedPlain}
-use Rattle.m3_table_writer.specs.declared.plain.RowPlain.{RowPlain}
+use Rattle.m3_tables_writer.specs.declared.plain.Way.{Way}
+use Rattle.m3_tables_writer.specs.declared.plain.DerivedPlain.{DerivedPlain}
+use Rattle.m3_tables_writer.specs.declared.plain.RowPlain.{RowPlain}
 use Rattle.m3_tables.specs.Numbers.{has, rises}
 use Rattle.m3_tables.specs.Places.{number_of}
 use Rattle.m3_tables.specs.Rows.{Bases, Entry, Contents}

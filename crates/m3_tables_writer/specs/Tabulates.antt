@@ -2,7 +2,7 @@
 use Rattle.std.specs.Prelude.{◌≡◌, ℕ, List, length, Some, None}
 use Rattle.std.specs.List.{slice_get}
 use Rattle.m3_tables.specs.Numbers.{word_in, has}
-use Rattle.m3_table_writer.specs.Plain.{Plain}
+use Rattle.m3_tables_writer.specs.Plain.{Plain}
 use Rattle.m3_tables.specs.Sections.{instruction_in, is_tidy, contents_in, fault_of}
 
 -- a row of a section says this

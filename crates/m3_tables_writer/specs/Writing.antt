@@ -6,7 +6,7 @@ use Rattle.std.specs.Prelude.{nat_eq}
 use Rattle.byteorder.specs.Endian.{little_bytes}
 use Rattle.m3_tables.specs.Numbers.{has}
 use Rattle.m3_tables.specs.Rows.{Bases, Entry, Contents}
-use Rattle.m3_table_writer.specs.Plain.{Plain}
+use Rattle.m3_tables_writer.specs.Plain.{Plain}
 
 -- ---- fields
 

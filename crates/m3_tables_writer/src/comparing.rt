@@ -2,10 +2,10 @@
 ghost use Rattle.std.specs.Prelude.{◌≡◌, ◌==◌, length, map, nat_eq, IfOk, IsTrue};
 ghost use Rattle.std.specs.Cmp.Lexicographic.{pointwise};
 ghost use Rattle.m3_tables.specs.Numbers.{rises, has};
-ghost use Rattle.m3_table_writer.specs.Plain.{place_number, place_numbers, bases_plain};
-ghost use Rattle.m3_table_writer.specs.Plain.{entry_plain, plain_of};
-ghost use Rattle.m3_table_writer.specs.Writing.{missing, same_bases, same_path, same_entry};
-ghost use Rattle.m3_table_writer.specs.Writing.{same_row};
+ghost use Rattle.m3_tables_writer.specs.Plain.{place_number, place_numbers, bases_plain};
+ghost use Rattle.m3_tables_writer.specs.Plain.{entry_plain, plain_of};
+ghost use Rattle.m3_tables_writer.specs.Writing.{missing, same_bases, same_path, same_entry};
+ghost use Rattle.m3_tables_writer.specs.Writing.{same_row};
 
 use crate::plain::{DerivedPlain, RowPlain, Way};
 use m3_base::NoMemory;

@@ -14,7 +14,7 @@ pub enum Status {
 
 /// A thread that has not ended: its number, which is never used again, the slot of its stack, its
 /// registers, what it waits for, and its alert mark.
-#[derive(Clone, Copy, Debug, PartialEq, Eq)]
+#[derive(Clone, Copy, PartialEq, Eq)]
 pub struct Thread {
     pub number: u64,
     pub slot: u32,

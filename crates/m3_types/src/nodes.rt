@@ -3,7 +3,7 @@
 pub struct TypeId(pub u32);
 
 /// A constant that types contain, by its place in the list of definitions.
-#[derive(Clone, Copy, Debug, PartialEq, Eq, PartialOrd, Ord, Hash)]
+#[derive(Clone, Copy, PartialEq, Eq, PartialOrd, Ord, Hash)]
 pub struct ConstId(pub u32);
 
 /// The value of a constant that a type contains. Its type is that of the place where it stands.
@@ -35,7 +35,7 @@ pub enum Brand<'a> {
 
 /// A default of a field, formal or method: its value, which counts when types are compared, and the
 /// number under which whoever built the graph keeps the expression, which doesn't.
-#[derive(Clone, Copy, Debug)]
+#[derive(Clone, Copy)]
 pub struct Initial {
     pub value: ConstId,
     pub source: u32,
@@ -50,7 +50,7 @@ pub struct Field<'a> {
 }
 
 /// How an actual is passed.
-#[derive(Clone, Copy, Debug, PartialEq, Eq)]
+#[derive(Clone, Copy, PartialEq, Eq)]
 pub enum Mode {
     Value,
     Var,
@@ -90,7 +90,7 @@ pub enum Raises<'a> {
 
 /// What stands behind an opaque type: the type that a full reveal of the program gives, or one of the
 /// two types of the interface Thread that no program reveals.
-#[derive(Clone, Copy, Debug, PartialEq, Eq)]
+#[derive(Clone, Copy, PartialEq, Eq)]
 pub enum Secret {
     Revealed,
     Thread,
@@ -134,7 +134,7 @@ pub enum TypeNode<'a> {
 
 /// A revelation of an opaque type, in a unit where it applies: that its bound is a supertype, or,
 /// where it is full, that it is the type itself.
-#[derive(Clone, Copy, Debug, PartialEq, Eq)]
+#[derive(Clone, Copy, PartialEq, Eq)]
 pub struct Reveal {
     pub view: u32,
     pub opaque: TypeId,

@@ -4,7 +4,7 @@ use m3_types::{TypeNode, heads_match_at};
 use std::alloc::Global;
 
 /// A definition with the mark that it is sorted by.
-#[derive(Clone, Copy, Debug, PartialEq, Eq, PartialOrd, Ord)]
+#[derive(Clone, Copy, PartialEq, Eq, PartialOrd, Ord)]
 struct Marked {
     mark: u64,
     place: u32,

@@ -3,14 +3,14 @@ use m3_base::{NoMemory, place_number};
 use std::alloc::Global;
 
 /// A row of nodes in the order of a partition.
-#[derive(Clone, Copy, Debug, PartialEq, Eq)]
+#[derive(Clone, Copy, PartialEq, Eq)]
 struct Segment {
     first: u32,
     count: u32,
 }
 
 /// A node one of whose parts has moved to another class: its own class and that of the part.
-#[derive(Clone, Copy, Debug, PartialEq, Eq, PartialOrd, Ord)]
+#[derive(Clone, Copy, PartialEq, Eq, PartialOrd, Ord)]
 struct Dirty {
     class: u32,
     target: u32,

@@ -3,7 +3,7 @@ use m3_types::{TypeNode, parts_at};
 use std::alloc::Global;
 
 /// That a definition has another one as its part of a number.
-#[derive(Clone, Copy, Debug, PartialEq, Eq, PartialOrd, Ord)]
+#[derive(Clone, Copy, PartialEq, Eq, PartialOrd, Ord)]
 pub(crate) struct Use {
     pub(crate) part: u32,
     pub(crate) label: u32,

@@ -10,7 +10,7 @@ use Rattle.m3_types.specs.declared.nodes.TypeNode.{TypeNode}
 use Rattle.m3_types.specs.declared.nodes.TypeNode.TheVariants.{Reserved, Integer, Boolean, Character, Enumeration, Subrange, FixedArray, OpenArray, Fields, SetOf, RefTo, Object, Procedure, Opaque, Null, RefAny, Text, Mutex, Root, Constant}
 use Rattle.m3_types.specs.Definitions.{node_at, head_at}
 use Rattle.m3_types.specs.Kinds.{size_of}
-use Rattle.m3_sizes.specs.Sizes.{most_words, field_words, words_of_node, words_to_depth, EachField, EachPart, HasParts, IsSized, known_at, Known, known_words, IsRight, AreSized, having, HasSize, AreWords, IsLow, IsFull, CanBeTold, IsTold}
+use Rattle.m3_types_sizes.specs.Sizes.{most_words, field_words, words_of_node, words_to_depth, EachField, EachPart, HasParts, IsSized, known_at, Known, known_words, IsRight, AreSized, having, HasSize, AreWords, IsLow, IsFull, CanBeTold, IsTold}
 
 each_field : (P Q : ℕ → Type 0) → ((j : ℕ) → P j → Q j) → (fs : List Field) → EachField P fs → EachField Q fs
 each_field P Q h [] p = tt

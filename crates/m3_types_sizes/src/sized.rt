@@ -1,5 +1,5 @@
 ghost use Rattle.std.specs.Prelude.{◌≡◌, ◌↔◌, length, IfOk, IsTrue};
-ghost use Rattle.m3_sizes.specs.Sizes.{IsRight, AreSized, IsFull, IsShallow, IsSized, HasSize, AreWords};
+ghost use Rattle.m3_types_sizes.specs.Sizes.{IsRight, AreSized, IsFull, IsShallow, IsSized, HasSize, AreWords};
 
 use crate::words::{known, table_of_words};
 use m3_base::NoMemory;

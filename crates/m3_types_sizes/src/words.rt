@@ -1,5 +1,5 @@
 ghost use Rattle.std.specs.Prelude.{Some, None, ◌≡◌, ◌≤◌, ◌<◌, ◌+◌, ◌*◌, ◌/◌, ℕ, length, max, IfSome, IfNone, IfOk, slice_get, true, false};
-ghost use Rattle.m3_sizes.specs.Sizes.{most_words, set_words, field_words, words_of_node, EachField, EachPart, Known, known_at, known_words, IsRight, AreSized, IsLow, IsFull, CanBeTold, IsTold, lacking};
+ghost use Rattle.m3_types_sizes.specs.Sizes.{most_words, set_words, field_words, words_of_node, EachField, EachPart, Known, known_at, known_words, IsRight, AreSized, IsLow, IsFull, CanBeTold, IsTold, lacking};
 
 use m3_base::NoMemory;
 use m3_types::{Field, TypeNode, node_at, size_at};

@@ -12,8 +12,8 @@ use Rattle.std.proofs.lemmas.List.Elements.{All-push}
 use Rattle.std.proofs.lemmas.List.Folds.{list_any-append}
 use Rattle.std.proofs.lemmas.Map.Keys.{IsDistinct-push}
 use Rattle.std.proofs.lemmas.Map.Steps.{length-le_from_distinct_below}
-use Rattle.m3_same.proofs.Parents.{elsewhere}
-use Rattle.m3_subtype.specs.Reaching.{Has, IsVisited, Extends}
+use Rattle.m3_types_subtype.proofs.Parents.{elsewhere}
+use Rattle.m3_types_subtype.specs.Reaching.{Has, IsVisited, Extends}
 
 pub kept_empty : (seen : BTreeSet ℕ) → seen.keys ≡ [] → IsVisited seen []
 unfolding IsDistinct

@@ -4,9 +4,9 @@ use Rattle.std.proofs.Common.{◌≡◌, ℕ, zero, suc, ◌<◌, List, [], ◌�
 use Rattle.std.proofs.lemmas.List.Elements.{All-contains}
 use Rattle.m3_types.specs.declared.nodes.TypeNode.{TypeNode}
 use Rattle.m3_types.specs.Definitions.{parts_at}
-use Rattle.m3_same.specs.Sameness.{Matched, EqualToDepth, Same}
-use Rattle.m3_same.specs.Classes.{SameClass}
-use Rattle.m3_same.specs.Assumptions.{Linked, given, itself, turned, chained, Agrees}
+use Rattle.m3_types_subtype.specs.Sameness.{Matched, EqualToDepth, Same}
+use Rattle.m3_types_subtype.specs.Classes.{SameClass}
+use Rattle.m3_types_subtype.specs.Assumptions.{Linked, given, itself, turned, chained, Agrees}
 
 pub pairwise_weaker : (R S : ℕ → ℕ → Type 0) → ((i j : ℕ) → R i j → S i j) → (xs ys : List ℕ) → Matched R xs ys → Matched S xs ys
 pairwise_weaker R S h [] [] p = tt

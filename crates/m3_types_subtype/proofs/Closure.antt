@@ -3,12 +3,12 @@ use Rattle.std.proofs.Common.{◌≡◌, ℕ, List, Some, true, false, refl, sym
 use Rattle.m3_types.specs.declared.nodes.TypeNode.{TypeNode}
 use Rattle.m3_types.specs.declared.nodes.Reveal.{Reveal}
 use Rattle.m3_types.specs.Definitions.{node_at, types_at, Head, head_at, ASubrange, AFixedArray, AnOpenArray, AProcedure, AnOpaque, ANull, ARefAny, ARoot}
-use Rattle.m3_same.specs.Sameness.{Matched, Same}
+use Rattle.m3_types_subtype.specs.Sameness.{Matched, Same}
 use Rattle.m3_types.specs.Kinds.{named_above}
-use Rattle.m3_subtype.specs.Subtypes.{Directly, same, null, refany, root, subrange, array, procedure, Subtype, directly, transitive, above, revealed, hidden, Step, up, reveal, hide, nil, Steps, start, further}
-use Rattle.m3_same.proofs.Agreement.{same_itself}
-use Rattle.m3_subtype.proofs.Shapes.{same_head, same_above, same_opaque, is_upward, up_shape, shape_up, one_part}
-use Rattle.m3_subtype.proofs.Transitivity.{directly_chained, array_right}
+use Rattle.m3_types_subtype.specs.Subtypes.{Directly, same, null, refany, root, subrange, array, procedure, Subtype, directly, transitive, above, revealed, hidden, Step, up, reveal, hide, nil, Steps, start, further}
+use Rattle.m3_types_subtype.proofs.Agreement.{same_itself}
+use Rattle.m3_types_subtype.proofs.Shapes.{same_head, same_above, same_opaque, is_upward, up_shape, shape_up, one_part}
+use Rattle.m3_types_subtype.proofs.Transitivity.{directly_chained, array_right}
 
 module _ (nodes : List TypeNode) (reveals : List Reveal) (view : ℕ) where
   -- from the first type upwards, and from there the second directly

@@ -3,9 +3,9 @@ use Rattle.std.proofs.Common.{◌≡◌, ℕ, zero, suc, ◌+◌, ◌-◌, ◌<�
 use Rattle.std.proofs.lemmas.List.Elements.{All-more, All-weaker}
 use Rattle.std.proofs.lemmas.List.{take_all}
 use Rattle.m3_types.specs.declared.nodes.TypeNode.{TypeNode}
-use Rattle.m3_same.specs.Classes.{SameClass}
-use Rattle.m3_same.specs.Assumptions.{Agrees}
-use Rattle.m3_same.proofs.Agreement.{agrees_weaker}
+use Rattle.m3_types_subtype.specs.Classes.{SameClass}
+use Rattle.m3_types_subtype.specs.Assumptions.{Agrees}
+use Rattle.m3_types_subtype.proofs.Agreement.{agrees_weaker}
 
 pub at_place : {A : Type 0} (P : A → Type 0) (xs : List A) (k : ℕ) (x : A) → All P xs → k < length xs → x ≡ get_or xs k x → P x
 at_place P xs k x all l e = subst P (sym e) (all k x l)

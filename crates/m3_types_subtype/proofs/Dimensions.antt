@@ -2,9 +2,9 @@
 use Rattle.std.proofs.Common.{◌≡◌, ℕ, zero, suc, ◌<◌, List, length, Option, Some, None, true, sym, ◌∙◌, ap, subst, arith}
 use Rattle.std.specs.Prelude.{is_some}
 use Rattle.m3_types.specs.declared.nodes.TypeNode.{TypeNode}
-use Rattle.m3_same.specs.Sameness.{Same}
-use Rattle.m3_subtype.specs.Subtypes.{dimension_at, DimensionsFit, ElementsOf, FitsBelow, OpenFirst, ArrayBelow}
-use Rattle.m3_subtype.proofs.Shapes.{same_dimension, size_is, element_is}
+use Rattle.m3_types_subtype.specs.Sameness.{Same}
+use Rattle.m3_types_subtype.specs.Subtypes.{dimension_at, DimensionsFit, ElementsOf, FitsBelow, OpenFirst, ArrayBelow}
+use Rattle.m3_types_subtype.proofs.Shapes.{same_dimension, size_is, element_is}
 
 module _ (nodes : List TypeNode) where
   pub open_first_end : (n x : ℕ) → dimension_at nodes x ≡ None → OpenFirst nodes n x

@@ -7,10 +7,10 @@ use Rattle.std.proofs.lemmas.Map.Views.{Contains-from_any}
 use Rattle.std.proofs.lemmas.Bool.Decides.{nat_tests}
 use Rattle.m3_types.specs.declared.nodes.TypeNode.{TypeNode}
 use Rattle.m3_types.specs.declared.nodes.Reveal.{Reveal}
-use Rattle.m3_subtype.specs.Subtypes.{Steps, start, further, Subtype}
-use Rattle.m3_subtype.specs.Reaching.{Has, Extends, IsDone}
-use Rattle.m3_subtype.proofs.Adding.{has_stays}
-use Rattle.m3_subtype.proofs.Closure.{subtype_reaches}
+use Rattle.m3_types_subtype.specs.Subtypes.{Steps, start, further, Subtype}
+use Rattle.m3_types_subtype.specs.Reaching.{Has, Extends, IsDone}
+use Rattle.m3_types_subtype.proofs.Adding.{has_stays}
+use Rattle.m3_types_subtype.proofs.Closure.{subtype_reaches}
 
 pub extends_longer : (old new : List ℕ) → Extends old new → length old ≤ length new
 extends_longer old new e = let l : length new ≡ length (old ++ e.0) = ap length e.1 in omega (arith, length-append old e.0)

@@ -3,7 +3,7 @@ use Rattle.std.proofs.Common.{◌≡◌, ◌≢◌, ℕ, zero, suc, ◌+◌, ◌
 use Rattle.std.specs.Prelude.{◌==◌, if◌then◌else◌}
 use Rattle.std.proofs.lemmas.Bool.{cases_eq}
 use Rattle.std.proofs.lemmas.Bool.Decides.{nat_tests}
-use Rattle.m3_same.specs.Classes.{ancestor, root_of, root_count}
+use Rattle.m3_types_subtype.specs.Classes.{ancestor, root_of, root_count}
 
 -- a forest: no parent is above its child
 abbrev pub Descends : (ℕ → ℕ) → Type 0

@@ -3,9 +3,9 @@ use Rattle.std.proofs.Common.{◌≡◌, ℕ, ◌⊎◌, inl, inr, List, refl, s
 use Rattle.m3_types.specs.declared.nodes.TypeNode.{TypeNode}
 use Rattle.m3_types.specs.Definitions.{head_at, ANull}
 use Rattle.m3_types.specs.Marks.{mark_of, mark_at}
-use Rattle.m3_subtype.specs.Subtypes.{Directly, same, null, refany, root, subrange, array, procedure}
-use Rattle.m3_subtype.proofs.Shapes.{same_head}
-use Rattle.m3_subtype.proofs.Transitivity.{array_right}
+use Rattle.m3_types_subtype.specs.Subtypes.{Directly, same, null, refany, root, subrange, array, procedure}
+use Rattle.m3_types_subtype.proofs.Shapes.{same_head}
+use Rattle.m3_types_subtype.proofs.Transitivity.{array_right}
 
 -- the second has a mark of 0 or that of the first, or the first is NULL
 pub hidden_mark : (nodes : List TypeNode) (x z : ℕ) → Directly nodes x z → ((mark_at nodes z ≡ 0) ⊎ (mark_at nodes z ≡ mark_at nodes x)) ⊎ (head_at nodes x ≡ ANull)

@@ -1,6 +1,6 @@
 -- What joining the classes of a and b makes of the classes: p has the root of each number before, q after.
 use Rattle.std.proofs.Common.{◌≡◌, ◌≢◌, ℕ, ◌⊎◌, inl, inr, sym, ◌∙◌, ⊎_elim}
-use Rattle.m3_same.specs.Classes.{MovesRoot, Joins}
+use Rattle.m3_types_subtype.specs.Classes.{MovesRoot, Joins}
 
 module _ (p q : ℕ → ℕ) (high low a b : ℕ) (apart : low ≢ high) (moves : (j : ℕ) → MovesRoot high low (p j) (q j)) (ends : ((p a ≡ high) × (p b ≡ low)) ⊎ ((p a ≡ low) × (p b ≡ high))) where
   of_high : (j : ℕ) → p j ≡ high → q j ≡ low

@@ -3,11 +3,11 @@ use Rattle.std.proofs.Common.{◌≡◌, ℕ, ◌+◌, ◌<◌, ◌≤◌, ◌^�
 use Rattle.std.proofs.lemmas.List.Elements.{All-nil, All-push, All-weaker, Contains-append_left, Contains-push}
 use Rattle.std.proofs.lemmas.List.{take-append-le}
 use Rattle.m3_types.specs.declared.nodes.TypeNode.{TypeNode}
-use Rattle.m3_same.specs.Sameness.{Same}
-use Rattle.m3_same.specs.Classes.{root_count, SameClass, Joins}
-use Rattle.m3_same.specs.Assumptions.{Linked, given, itself, turned, chained, IsKept, AddsPair}
-use Rattle.m3_same.proofs.Forest.{root_of_root, root_count_all}
-use Rattle.m3_same.proofs.Agreement.{linked_more}
+use Rattle.m3_types_subtype.specs.Sameness.{Same}
+use Rattle.m3_types_subtype.specs.Classes.{root_count, SameClass, Joins}
+use Rattle.m3_types_subtype.specs.Assumptions.{Linked, given, itself, turned, chained, IsKept, AddsPair}
+use Rattle.m3_types_subtype.proofs.Forest.{root_of_root, root_count_all}
+use Rattle.m3_types_subtype.proofs.Agreement.{linked_more}
 
 linked_equal : (pairs : List (ℕ × ℕ)) (i j : ℕ) → i ≡ j → Linked pairs i j
 linked_equal pairs i j e = subst (λ k. Linked pairs i k) e itself

@@ -4,10 +4,10 @@ use Rattle.std.specs.Prelude.{IfSome}
 use Rattle.m3_types.specs.declared.nodes.TypeNode.{TypeNode}
 use Rattle.m3_types.specs.Definitions.{node_at}
 use Rattle.m3_types.specs.Kinds.{named_above}
-use Rattle.m3_same.specs.Sameness.{Same}
-use Rattle.m3_same.proofs.Agreement.{same_turned}
-use Rattle.m3_subtype.specs.Heights.{HasHeight, top, below}
-use Rattle.m3_subtype.proofs.Shapes.{same_above}
+use Rattle.m3_types_subtype.specs.Sameness.{Same}
+use Rattle.m3_types_subtype.proofs.Agreement.{same_turned}
+use Rattle.m3_types_subtype.specs.Heights.{HasHeight, top, below}
+use Rattle.m3_types_subtype.proofs.Shapes.{same_above}
 
 some_is : {A : Type 0} {x y : A} → Some x ≡ Some y → x ≡ y
 some_is h = cc

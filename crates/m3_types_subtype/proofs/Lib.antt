@@ -1,3 +1,9 @@
+pub mod Forest
+pub mod Parents
+pub mod Joining
+pub mod Agreement
+pub mod Keeping
+pub mod Comparing
 pub mod Shapes
 pub mod Transitivity
 pub mod Closure

@@ -6,7 +6,7 @@ use Rattle.std.specs.BTreeMap.{BTreeMap, Updates, IsUnchanged, is_at}
 use Rattle.std.proofs.lemmas.Bool.{cases_eq}
 use Rattle.std.proofs.lemmas.Grind.{common_steps}
 use Rattle.std.specs.Map.{lookup}
-use Rattle.m3_same.specs.Classes.{parent_of}
+use Rattle.m3_types_subtype.specs.Classes.{parent_of}
 
 pub elsewhere : (k q : ℕ) → q ≢ k → is_at (nat_cmp k) q ≡ false
 elsewhere k q ne = grind (arith, common_steps)

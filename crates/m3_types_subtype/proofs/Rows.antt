@@ -6,7 +6,7 @@ use Rattle.std.specs.BTreeSet.{BTreeSet, contains, Updates}
 use Rattle.std.proofs.lemmas.Bool.{cases_eq}
 use Rattle.std.proofs.lemmas.List.{take_more}
 use Rattle.std.proofs.lemmas.List.Elements.{Contains-append_left, Contains-push, Contains-push_cases}
-use Rattle.m3_same.proofs.Parents.{elsewhere}
+use Rattle.m3_types_subtype.proofs.Parents.{elsewhere}
 
 module _ (m n : BTreeSet ℕ) (row : List ℕ) (i : ℕ) (l : i < length row) (u : Updates nat_cmp m n (get_or row i 0) true) (was : (e : ℕ) → IsTrue (contains nat_cmp m e) ↔ Contains (take i row) e) where
   added : (e : ℕ) → e ≡ get_or row i 0 → IsTrue (contains nat_cmp n e)

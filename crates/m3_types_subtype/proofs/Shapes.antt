@@ -9,10 +9,10 @@ use Rattle.m3_types.specs.declared.nodes.Formal.{Formal}
 use Rattle.m3_types.specs.declared.nodes.Method.{Method}
 use Rattle.m3_types.specs.declared.nodes.TypeId.{TypeId}
 use Rattle.m3_types.specs.Definitions.{node_at, head_of, types_of, types_at, constants_of, parts_of, parts_at, result_part, head_of_field, head_of_formal, head_of_method, Head, head_at, Missing, ASubrange, AFixedArray, AnOpenArray, ARecord, ASet, ARef, AnObject, AProcedure, AnOpaque}
-use Rattle.m3_same.specs.Sameness.{Matched, Same}
+use Rattle.m3_types_subtype.specs.Sameness.{Matched, Same}
 use Rattle.m3_types.specs.Kinds.{size_of, named_above}
-use Rattle.m3_subtype.specs.Subtypes.{dimension_of, dimension_at}
-use Rattle.m3_same.proofs.Agreement.{same_agrees, same_itself}
+use Rattle.m3_types_subtype.specs.Subtypes.{dimension_of, dimension_at}
+use Rattle.m3_types_subtype.proofs.Agreement.{same_agrees, same_itself}
 
 -- the head and the parts of what stands at a place
 abbrev pub head_in : ℕ → Option TypeNode → Head

@@ -2,7 +2,7 @@
 use Rattle.std.proofs.Common.{◌≡◌, List, [], ◌∷◌, map, Bool, refl, sym, ◌∙◌, ap, subst}
 use Rattle.m3_types.specs.declared.nodes.Formal.{Formal}
 use Rattle.m3_types.specs.Definitions.{FormalHead, RaisesHead, Head, Missing, AProcedure, head_of_formal}
-use Rattle.m3_subtype.specs.Subtypes.{RaisesWithin, modes_of, SignaturesFit}
+use Rattle.m3_types_subtype.specs.Subtypes.{RaisesWithin, modes_of, SignaturesFit}
 
 pub modes_of_heads : (fs : List Formal) → modes_of (map head_of_formal fs) ≡ map (λ f. f.mode) fs
 modes_of_heads [] = refl

@@ -9,9 +9,9 @@ use Rattle.std.specs.Option.{option_map_or}
 use Rattle.std.proofs.lemmas.Bool.{cases_lt}
 use Rattle.m3_types.specs.Definitions.{node_at, head_at, head_of, Missing, AnOpaque}
 use Rattle.m3_types.specs.Kinds.{has_nil, named_above}
-use Rattle.m3_subtype.specs.Subtypes.{NullBelow, Directly, Step, up, reveal, hide, nil, Steps, further}
-use Rattle.m3_subtype.specs.Reaching.{AddsSteps, BoundAbove, OpaqueAbove, Has}
-use Rattle.m3_subtype.proofs.Adding.{extends_itself, extends_chained, extends_added, all_added}
+use Rattle.m3_types_subtype.specs.Subtypes.{NullBelow, Directly, Step, up, reveal, hide, nil, Steps, further}
+use Rattle.m3_types_subtype.specs.Reaching.{AddsSteps, BoundAbove, OpaqueAbove, Has}
+use Rattle.m3_types_subtype.proofs.Adding.{extends_itself, extends_chained, extends_added, all_added}
 
 module _ (nodes : List TypeNode) (reveals : List Reveal) (view x : ℕ) where
   pub adds_nothing : (old : List ℕ) → AddsSteps nodes reveals view x old old

@@ -4,11 +4,11 @@ use Rattle.std.specs.Prelude.{IsTrue}
 use Rattle.std.proofs.lemmas.Int.{ints}
 use Rattle.m3_types.specs.declared.nodes.TypeNode.{TypeNode}
 use Rattle.m3_types.specs.Definitions.{node_at, types_at, FormalHead, RaisesHead, AnyException, Exceptions, Head, head_at, ASubrange, AFixedArray, AnOpenArray, AnObject, AProcedure, ANull, ARefAny, AMutex, ARoot}
-use Rattle.m3_same.specs.Sameness.{Matched, Same}
+use Rattle.m3_types_subtype.specs.Sameness.{Matched, Same}
 use Rattle.m3_types.specs.Kinds.{has_nil, is_below_refany, is_below_root}
-use Rattle.m3_subtype.specs.Subtypes.{IsWithin, SubrangeBelow, FitsDimension, DimensionsFit, OpenFirst, ArrayBelow, RaisesWithin, ProcedureBelow, modes_of, Directly, same, null, refany, root, subrange, array, procedure}
-use Rattle.m3_same.proofs.Agreement.{pairwise_chained, same_chained, same_turned}
-use Rattle.m3_subtype.proofs.Shapes.{same_head, same_named, same_dimension, dimension_shape, size_is, element_is}
+use Rattle.m3_types_subtype.specs.Subtypes.{IsWithin, SubrangeBelow, FitsDimension, DimensionsFit, OpenFirst, ArrayBelow, RaisesWithin, ProcedureBelow, modes_of, Directly, same, null, refany, root, subrange, array, procedure}
+use Rattle.m3_types_subtype.proofs.Agreement.{pairwise_chained, same_chained, same_turned}
+use Rattle.m3_types_subtype.proofs.Shapes.{same_head, same_named, same_dimension, dimension_shape, size_is, element_is}
 
 -- ---- small relations
 

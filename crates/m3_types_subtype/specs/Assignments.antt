@@ -1,14 +1,14 @@
 -- What may be assigned to what, and where that needs a check when the program runs.
 use Rattle.std.specs.Prelude.{◌≡◌, ℕ, ℤ, pos, negsuc, ◌-ℤ◌, ◌≤ℤ◌, ◌⊎◌, Bool, true, IsTrue, List, length, Option, Some, None}
-use Rattle.m3_subtype.specs.declared.assign.Assign.{Assign}
-use Rattle.m3_subtype.specs.declared.assign.Assign.TheVariants.{Yes, Checked, No}
+use Rattle.m3_types_subtype.specs.declared.assign.Assign.{Assign}
+use Rattle.m3_types_subtype.specs.declared.assign.Assign.TheVariants.{Yes, Checked, No}
 use Rattle.m3_types.specs.declared.nodes.Reveal.{Reveal}
 use Rattle.m3_types.specs.declared.nodes.TypeNode.{TypeNode}
 use Rattle.m3_types.specs.declared.nodes.TypeNode.TheVariants.{Integer, Boolean, Character, Enumeration, Subrange}
 use Rattle.m3_types.specs.Definitions.{Head, node_at, head_at, AFixedArray, AnOpenArray}
-use Rattle.m3_same.specs.Sameness.{Same}
+use Rattle.m3_types_subtype.specs.Sameness.{Same}
 use Rattle.m3_types.specs.Kinds.{is_reference}
-use Rattle.m3_subtype.specs.Subtypes.{Subtype}
+use Rattle.m3_types_subtype.specs.Subtypes.{Subtype}
 
 -- the members of an ordinal type: its base type, and the numbers of the first and the last
 pub record Members : Type 0 where

@@ -3,8 +3,8 @@
 use Rattle.std.specs.Prelude.{◌≡◌, ℕ, ◌+◌, ◌^◌, ◌≤◌, ◌⊎◌, List, [], ◌∷◌, ◌++◌, length, take, All, Contains}
 use Rattle.m3_types.specs.declared.nodes.TypeNode.{TypeNode}
 use Rattle.m3_types.specs.Definitions.{head_at, parts_at}
-use Rattle.m3_same.specs.Sameness.{Matched, Same}
-use Rattle.m3_same.specs.Classes.{SameClass, root_count}
+use Rattle.m3_types_subtype.specs.Sameness.{Matched, Same}
+use Rattle.m3_types_subtype.specs.Classes.{SameClass, root_count}
 
 -- the two are equal if the two of each pair are
 pub data Linked : List (ℕ × ℕ) → ℕ → ℕ → Type 0 where

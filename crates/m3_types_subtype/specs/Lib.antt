@@ -1,3 +1,6 @@
+pub mod Sameness
+pub mod Classes
+pub mod Assumptions
 pub mod Subtypes
 pub mod Assignments
 pub mod Heights

@@ -6,7 +6,7 @@ use Rattle.std.specs.BTreeSet.{BTreeSet, contains}
 use Rattle.m3_types.specs.declared.nodes.TypeNode.{TypeNode}
 use Rattle.m3_types.specs.declared.nodes.Reveal.{Reveal}
 use Rattle.m3_types.specs.Definitions.{head_at, AnOpaque}
-use Rattle.m3_subtype.specs.Subtypes.{Directly, Step, Steps}
+use Rattle.m3_types_subtype.specs.Subtypes.{Directly, Step, Steps}
 
 -- the list has the place
 abbrev pub Has : List ℕ → ℕ → Type 0

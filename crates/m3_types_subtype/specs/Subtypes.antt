@@ -7,7 +7,7 @@ use Rattle.m3_types.specs.declared.nodes.TypeNode.{TypeNode}
 use Rattle.m3_types.specs.declared.nodes.TypeNode.TheVariants.{FixedArray, OpenArray}
 use Rattle.m3_types.specs.Definitions.{node_at, types_at, FormalHead, RaisesHead, AnyException, Exceptions, Head, head_at, AnInteger, ABoolean, ACharacter, AnEnumeration, ASubrange, ARef, AnObject, AProcedure, AnOpaque, ANull, ARefAny, AText, AMutex, ARoot}
 use Rattle.m3_types.specs.Kinds.{is_below_refany, is_below_root, has_nil, size_of, named_above}
-use Rattle.m3_same.specs.Sameness.{Matched, Same}
+use Rattle.m3_types_subtype.specs.Sameness.{Matched, Same}
 
 -- ---- ordinal types
 

@@ -1,9 +1,9 @@
 ghost use Rattle.std.specs.Prelude.{◌≡◌, ◌↔◌, ◌<◌, ℕ, length, true, false, Some, None, is_some, IsTrue, IfOk, IfSome, IfNone};
-ghost use Rattle.m3_same.specs.Sameness.{Same};
-ghost use Rattle.m3_subtype.specs.Subtypes.{dimension_at, FitsDimension, ElementsOf, FitsBelow, OpenFirst, ArrayBelow};
+ghost use Rattle.m3_types_subtype.specs.Sameness.{Same};
+ghost use Rattle.m3_types_subtype.specs.Subtypes.{dimension_at, FitsDimension, ElementsOf, FitsBelow, OpenFirst, ArrayBelow};
 
+use crate::sameness::same_types;
 use m3_base::NoMemory;
-use m3_same::same_types;
 use m3_types::{TypeNode, size_at};
 use std::alloc::Global;
 

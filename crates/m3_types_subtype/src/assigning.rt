@@ -1,13 +1,13 @@
 ghost use Rattle.std.specs.Prelude.{◌≡◌, ◌↔◌, ℕ, Some, None, IsTrue, IfOk, IfSome, IfNone, true, false};
 ghost use Rattle.std.specs.Option.{option_map};
 ghost use Rattle.m3_types.specs.Definitions.{head_at};
-ghost use Rattle.m3_subtype.specs.Ranges.{members};
-ghost use Rattle.m3_subtype.specs.Assignments.{Members, members_of, members_at, CommonMember, ShareMember, is_array_or_reference, NeedsCheck, IsAssign};
+ghost use Rattle.m3_types_subtype.specs.Ranges.{members};
+ghost use Rattle.m3_types_subtype.specs.Assignments.{Members, members_of, members_at, CommonMember, ShareMember, is_array_or_reference, NeedsCheck, IsAssign};
 
 use crate::assign::Assign;
+use crate::sameness::same_types;
 use crate::upward::is_below;
 use m3_base::NoMemory;
-use m3_same::same_types;
 use m3_types::{TypeGraph, TypeNode, is_reference_at, node_at};
 use std::alloc::Global;
 

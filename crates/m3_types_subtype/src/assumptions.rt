@@ -1,7 +1,7 @@
 ghost use Rattle.std.specs.Prelude.{◌≡◌, ℕ, length, OnOk, [], All};
-ghost use Rattle.m3_same.specs.Classes.{parent_of, SameClass};
-ghost use Rattle.m3_same.specs.Assumptions.{IsKept, AddsPair, AddsPairs};
-ghost use Rattle.m3_same.specs.Sameness.{Matched};
+ghost use Rattle.m3_types_subtype.specs.Classes.{parent_of, SameClass};
+ghost use Rattle.m3_types_subtype.specs.Assumptions.{IsKept, AddsPair, AddsPairs};
+ghost use Rattle.m3_types_subtype.specs.Sameness.{Matched};
 
 use crate::partition::Partition;
 use m3_base::NoMemory;

@@ -1,5 +1,5 @@
 ghost use Rattle.std.specs.Prelude.{◌↔◌, IsTrue};
-ghost use Rattle.m3_subtype.specs.Subtypes.{NullBelow, RefAnyAbove, RootAbove};
+ghost use Rattle.m3_types_subtype.specs.Subtypes.{NullBelow, RefAnyAbove, RootAbove};
 
 use m3_types::{
     TypeNode, has_nil_at, is_below_refany_at, is_below_root_at, is_null_at, is_refany_at,

@@ -1,15 +1,15 @@
 ghost use Rattle.std.specs.Prelude.{◌≡◌, ◌≢◌, ◌↔◌, ◌∷◌, [], ℕ, ℤ, true, false, Bool, List, map, IsTrue, is_some, IfOk, IfSome, IfNone};
 ghost use Rattle.m3_types.specs.Definitions.{head_at, head_of, types_at, ASubrange};
-ghost use Rattle.m3_same.specs.Sameness.{Matched, Same};
-ghost use Rattle.m3_subtype.specs.Heights.{HasHeight};
-ghost use Rattle.m3_subtype.specs.Subtypes.{IsWithin, SubrangeBelow, Directly};
+ghost use Rattle.m3_types_subtype.specs.Sameness.{Matched, Same};
+ghost use Rattle.m3_types_subtype.specs.Heights.{HasHeight};
+ghost use Rattle.m3_types_subtype.specs.Subtypes.{IsWithin, SubrangeBelow, Directly};
 
 use crate::arrays::array_below;
 use crate::below::{null_below, refany_above, root_above};
 use crate::named::same_named;
 use crate::procedures::procedure_below;
+use crate::sameness::same_types;
 use m3_base::NoMemory;
-use m3_same::same_types;
 use m3_types::{TypeNode, node_at};
 use std::alloc::Global;
 

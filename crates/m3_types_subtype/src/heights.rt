@@ -1,7 +1,7 @@
 ghost use Rattle.std.specs.Prelude.{◌≡◌, ◌+◌, ℕ, List, IfOk, IfSome, OnOk};
 ghost use Rattle.std.specs.Ordering.{nat_cmp};
 ghost use Rattle.std.specs.BTreeMap.{get};
-ghost use Rattle.m3_subtype.specs.Heights.{HasHeight, AreHeights};
+ghost use Rattle.m3_types_subtype.specs.Heights.{HasHeight, AreHeights};
 ghost use Rattle.m3_types.specs.declared.nodes.TypeNode.{TypeNode as ATypeNode};
 
 use m3_base::NoMemory;

@@ -1,9 +1,9 @@
 ghost use Rattle.std.specs.Prelude.{◌↔◌, IsTrue, IfOk};
 ghost use Rattle.m3_types.specs.Definitions.{types_at};
-ghost use Rattle.m3_same.specs.Sameness.{Matched, Same};
+ghost use Rattle.m3_types_subtype.specs.Sameness.{Matched, Same};
 
+use crate::sameness::same_lists;
 use m3_base::NoMemory;
-use m3_same::same_lists;
 use m3_types::{TypeNode, types_at};
 use std::alloc::Global;
 

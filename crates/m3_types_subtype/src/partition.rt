@@ -1,5 +1,5 @@
 ghost use Rattle.std.specs.Prelude.{◌≡◌, ℕ, ◌+◌, ◌≤◌, ◌<◌, ◌⊎◌, IfOk, OnOk, false, if◌then◌else◌};
-ghost use Rattle.m3_same.specs.Classes.{parent_of, root_of, SameClass, root_count, Joins, MovesRoot};
+ghost use Rattle.m3_types_subtype.specs.Classes.{parent_of, root_of, SameClass, root_count, Joins, MovesRoot};
 
 use m3_base::NoMemory;
 use std::alloc::Global;

@@ -1,7 +1,7 @@
 ghost use Rattle.std.specs.Prelude.{◌≡◌, ◌↔◌, ℕ, map, IsTrue, is_some, IfOk};
 ghost use Rattle.m3_types.specs.Definitions.{head_at, head_of, types_at, head_of_raises};
-ghost use Rattle.m3_same.specs.Sameness.{Matched, Same};
-ghost use Rattle.m3_subtype.specs.Subtypes.{RaisesWithin, SignaturesFit, ProcedureBelow};
+ghost use Rattle.m3_types_subtype.specs.Sameness.{Matched, Same};
+ghost use Rattle.m3_types_subtype.specs.Subtypes.{RaisesWithin, SignaturesFit, ProcedureBelow};
 
 use crate::named::same_named;
 use crate::raises::raises_within;

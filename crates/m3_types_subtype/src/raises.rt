@@ -2,7 +2,7 @@ ghost use Rattle.std.specs.Prelude.{◌↔◌, ℕ, All, Contains, IsTrue, IfOk}
 ghost use Rattle.std.specs.Ordering.{nat_cmp};
 ghost use Rattle.std.specs.BTreeSet.{contains};
 ghost use Rattle.m3_types.specs.Definitions.{head_of_raises};
-ghost use Rattle.m3_subtype.specs.Subtypes.{RaisesWithin};
+ghost use Rattle.m3_types_subtype.specs.Subtypes.{RaisesWithin};
 
 use m3_base::NoMemory;
 use m3_types::Raises;

@@ -1,5 +1,5 @@
 ghost use Rattle.std.specs.Prelude.{◌≡◌, ◌++◌, ◌∷◌, [], ◌⊎◌, ℕ, OnOk};
-ghost use Rattle.m3_subtype.specs.Reaching.{Has, IsVisited};
+ghost use Rattle.m3_types_subtype.specs.Reaching.{Has, IsVisited};
 
 use m3_base::NoMemory;
 use std::alloc::Global;

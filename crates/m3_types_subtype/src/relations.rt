@@ -1,6 +1,6 @@
 ghost use Rattle.std.specs.Prelude.{◌↔◌, IsTrue, IfOk};
-ghost use Rattle.m3_subtype.specs.Subtypes.{Subtype};
-ghost use Rattle.m3_subtype.specs.Assignments.{IsAssign};
+ghost use Rattle.m3_types_subtype.specs.Subtypes.{Subtype};
+ghost use Rattle.m3_types_subtype.specs.Assignments.{IsAssign};
 
 use crate::assign::Assign;
 use crate::assigning::way_to_assign;

@@ -1,5 +1,5 @@
 ghost use Rattle.std.specs.Prelude.{◌≡◌, ◌↔◌, ℕ, IfOk, IsTrue};
-ghost use Rattle.m3_same.specs.Sameness.{Matched, Same};
+ghost use Rattle.m3_types_subtype.specs.Sameness.{Matched, Same};
 
 use crate::assumptions::Assumptions;
 use m3_base::NoMemory;

@@ -1,8 +1,8 @@
 ghost use Rattle.std.specs.Prelude.{◌≡◌, ◌<◌, ◌^◌, ℕ, List, Some, length, All, Contains, IfOk, OnOk, IsTrue, true, false};
 ghost use Rattle.m3_types.specs.Definitions.{node_at, head_at, ANull};
 ghost use Rattle.m3_types.specs.Kinds.{named_above, has_nil};
-ghost use Rattle.m3_subtype.specs.Subtypes.{NullBelow, Step, Subtype};
-ghost use Rattle.m3_subtype.specs.Reaching.{Has, IsVisited, AddsSteps, BoundAbove, OpaqueAbove};
+ghost use Rattle.m3_types_subtype.specs.Subtypes.{NullBelow, Step, Subtype};
+ghost use Rattle.m3_types_subtype.specs.Reaching.{Has, IsVisited, AddsSteps, BoundAbove, OpaqueAbove};
 ghost use Rattle.m3_types.specs.declared.nodes.Reveal.{Reveal as AReveal};
 
 use crate::direct::{directly, meets};

@@ -1,8 +1,8 @@
 use crate::tests::{expect, field, fill, put, put_families, put_graph};
 use bumpalo::Bump;
-use m3_classes::Classes;
-use m3_same::same;
 use m3_types::{TypeGraph, TypeId, TypeNode};
+use m3_types_partition::Classes;
+use m3_types_subtype::same;
 use std::alloc::Global;
 use std::process::Abort;
 use std::test::Fail;

@@ -1,11 +1,10 @@
 use bumpalo::Bump;
-use m3_same::same;
-use m3_sizes::SizedTypes;
-use m3_subtype::{Assign, assignable, subtype};
 use m3_types::{
     Brand, ConstId, ConstValue, Field, Formal, Initial, Mode, Raises, Reveal, Secret, TypeGraph,
     TypeId, TypeNode,
 };
+use m3_types_sizes::SizedTypes;
+use m3_types_subtype::{Assign, assignable, same, subtype};
 use std::alloc::Global;
 use std::fmt::{Debug, Display};
 use std::process::Abort;

@@ -8,8 +8,8 @@ use Rattle.m3_types.specs.declared.nodes.TypeNode.{TypeNode}
 use Rattle.m3_types.specs.declared.nodes.Reveal.{Reveal}
 use Rattle.m3_types.specs.Definitions.{node_at, types_at, parts_at, types_of, constants_of, parts_of}
 use Rattle.m3_types.specs.Reveals.{full_reveal}
-use Rattle.m3_forms.specs.Forms.{IsType, IsConstant, HasForm, HasFormAt}
-use Rattle.m3_forms.specs.Rows.{HasFormOfRows}
+use Rattle.m3_types_valid.specs.Forms.{IsType, IsConstant, HasForm, HasFormAt}
+use Rattle.m3_types_valid.specs.Rows.{HasFormOfRows}
 
 -- the rows that stand at a place tell the form of the definition there
 pub form_of_rows : (nodes : List TypeNode) (place : ℕ) (node : TypeNode) (types parts : List ℕ) → node_at nodes place ≡ Some node → types ≡ types_at nodes place → parts ≡ parts_at nodes place → HasFormOfRows nodes node types parts ↔ HasFormAt nodes place

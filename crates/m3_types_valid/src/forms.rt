@@ -1,8 +1,8 @@
 ghost use Rattle.std.specs.Prelude.{◌≤◌, ◌↔◌, IsTrue, IfOk, All, length, drop};
 ghost use Rattle.std.specs.List.Sorted.{IsStrictlyIncreasing};
-ghost use Rattle.m3_forms.specs.Forms.{IsType, IsConstant, IsMethod, FitElements, AreInOrder};
-ghost use Rattle.m3_forms.specs.Forms.{IsValue, HasOwnForm, HasFormAt};
-ghost use Rattle.m3_forms.specs.Rows.{HasFormOfRows};
+ghost use Rattle.m3_types_valid.specs.Forms.{IsType, IsConstant, IsMethod, FitElements, AreInOrder};
+ghost use Rattle.m3_types_valid.specs.Forms.{IsValue, HasOwnForm, HasFormAt};
+ghost use Rattle.m3_types_valid.specs.Rows.{HasFormOfRows};
 
 use crate::kinds::{
     is_base_at, is_constant_at, is_ordinal_at, is_parent_at, is_procedure_at, is_type_at,

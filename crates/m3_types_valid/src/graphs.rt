@@ -2,7 +2,7 @@ ghost use Rattle.std.specs.Prelude.{◌≡◌, ◌<◌, ◌↔◌, ◌&&◌, ◌
 ghost use Rattle.std.specs.Prelude.{length};
 ghost use Rattle.std.specs.List.{list_any};
 ghost use Rattle.m3_types.specs.Reveals.{full_reveal};
-ghost use Rattle.m3_forms.specs.Forms.{HasFormAt, IsRevealedAt, IsReveal, IsWellFormed};
+ghost use Rattle.m3_types_valid.specs.Forms.{HasFormAt, IsRevealedAt, IsReveal, IsWellFormed};
 
 use crate::forms::has_form;
 use crate::kinds::is_type_at;

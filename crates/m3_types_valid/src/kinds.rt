@@ -1,6 +1,6 @@
 ghost use Rattle.std.specs.Prelude.{◌↔◌, IsTrue};
-ghost use Rattle.m3_forms.specs.Forms.{DefinesBase, IsType, IsConstant, IsBase, IsOrdinal};
-ghost use Rattle.m3_forms.specs.Forms.{IsParent, IsProcedure};
+ghost use Rattle.m3_types_valid.specs.Forms.{DefinesBase, IsType, IsConstant, IsBase, IsOrdinal};
+ghost use Rattle.m3_types_valid.specs.Forms.{IsParent, IsProcedure};
 
 use m3_types::TypeNode;
 

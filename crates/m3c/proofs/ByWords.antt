@@ -7,20 +7,20 @@ use Rattle.std.proofs.lemmas.Slice.Eq.{bytes_eq-Decides}
 use Rattle.clap.proofs.WalkLemmas.{both}
 use Rattle.m3_base.specs.declared.outcomes.Entry.{Entry}
 use Rattle.m3_image.specs.Images.{read_of}
-use Rattle.m3_sections.specs.Parts.{Image}
-use Rattle.m3_dump.specs.Texts.{IsDump}
-use Rattle.m3_command_line.specs.Orders.{Options, Order, run, exec, dump}
-use Rattle.m3_command_line.specs.Asked.{asked, usual_options}
-use Rattle.m3_command_line.proofs.PlainExec.{exec_asked}
-use Rattle.m3_image_commands.specs.declared.answers.Answer.{Answer}
-use Rattle.m3_image_commands.specs.declared.answers.Refusal.{Refusal}
-use Rattle.m3_image_commands.specs.Statuses.{Shelving, Putting, Took, Tells, image_cap}
-use Rattle.m3_image_commands.specs.Reports.{Setting, Ended}
-use Rattle.m3_image_commands.specs.ImageCommands.{by_schedule, on_input}
-use Rattle.m3_image_commands.specs.Complete.{CutsShort, IsHeld, HoldsAll}
-use Rattle.m3_image_commands.proofs.CompleteLemmas.{runs_whole, dumps_whole}
-use Rattle.m3_source_commands.specs.Orders.{Commands, usage, no_words, carried_out, Fulfils, within}
-use Rattle.m3_source_commands.proofs.UsageLemmas.{never_usage}
+use Rattle.m3_image_sections.specs.Parts.{Image}
+use Rattle.m3_image_dump.specs.Texts.{IsDump}
+use Rattle.m3c_words.specs.Orders.{Options, Order, run, exec, dump}
+use Rattle.m3c_words.specs.Asked.{asked, usual_options}
+use Rattle.m3c_words.proofs.PlainExec.{exec_asked}
+use Rattle.m3c_image_commands.specs.declared.answers.Answer.{Answer}
+use Rattle.m3c_image_commands.specs.declared.answers.Refusal.{Refusal}
+use Rattle.m3c_image_commands.specs.Statuses.{Shelving, Putting, Took, Tells, image_cap}
+use Rattle.m3c_image_commands.specs.Reports.{Setting, Ended}
+use Rattle.m3c_image_commands.specs.ImageCommands.{by_schedule, on_input}
+use Rattle.m3c_image_commands.specs.Complete.{CutsShort, IsHeld, HoldsAll}
+use Rattle.m3c_image_commands.proofs.CompleteLemmas.{runs_whole, dumps_whole}
+use Rattle.m3c_source_commands.specs.Orders.{Commands, usage, no_words, carried_out, Fulfils, within}
+use Rattle.m3c_source_commands.proofs.UsageLemmas.{never_usage}
 use Rattle.m3c.specs.Command.{Call, UsageByWords, IsCalm, IsRunComplete, IsDumpComplete, RanImage, DumpedImage, RanOut, file_of, is_name}
 
 some_same : {A : Type 0} (x y : A) → Some x ≡ Some y → x ≡ y

@@ -2,7 +2,7 @@
 use Rattle.std.proofs.Common.{◌≡◌, ℕ, List, Option, ◌≤◌, inl, inr, arith, sym, ap, ◌∙◌, subst}
 use Rattle.m3_ports.specs.Counts.{Rose}
 use Rattle.m3_base.specs.declared.outcomes.Outcome.{Outcome}
-use Rattle.m3_build.specs.Machine.{State, Progress, Ends}
+use Rattle.m3_plain.specs.Machine.{State, Progress, Ends}
 use Rattle.m3c.specs.declared.machine.Ended.{Ended}
 use Rattle.m3c.specs.Command.{Took}
 use Rattle.m3c.specs.Running.{EndsIn}

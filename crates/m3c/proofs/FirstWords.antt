@@ -3,7 +3,7 @@ use Rattle.std.proofs.Common.{◌≡◌, ◌≢◌, ℕ, ◌-◌, ◌^◌, ◌<�
 use Rattle.std.proofs.lemmas.Bool.Decides.{nat_tests}
 use Rattle.std.proofs.lemmas.Bool.{cases_eq}
 use Rattle.std.proofs.lemmas.List.{length-set}
-use Rattle.m3_build.specs.Machine.{is_stack, first_word, first_memory}
+use Rattle.m3_plain.specs.Machine.{is_stack, first_word, first_memory}
 
 other_word : (k : ℕ) → k ≢ 0 → k ≢ 2 → first_word k ≡ 0
 other_word k h g = grind (arith, nat_tests)

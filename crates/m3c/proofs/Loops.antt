@@ -6,7 +6,7 @@ use Rattle.m3_base.specs.declared.outcomes.Outcome.{Outcome}
 use Rattle.m3_base.specs.declared.outcomes.Outcome.TheVariants.{Trap}
 use Rattle.m3_isa.specs.declared.instructions.Instr.{Instr}
 use Rattle.m3_isa.specs.Instructions.{IsInstruction}
-use Rattle.m3_build.specs.Machine.{State, Progress, GoesOn, Ends, Lacks, acts, act, and_then, run, start}
+use Rattle.m3_plain.specs.Machine.{State, Progress, GoesOn, Ends, Lacks, acts, act, and_then, run, start}
 use Rattle.m3c.specs.Command.{Took}
 use Rattle.m3c.specs.Running.{EndsIn, IsBuilt}
 

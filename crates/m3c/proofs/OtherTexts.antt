@@ -1,13 +1,13 @@
 -- A text that isn't in the plain form is carried out as `exec` of its file.
 use Rattle.std.proofs.Common.{◌≡◌, ℕ, Bool, false, List, [], ◌∷◌, Option, None, Some, refl, sym, ◌∙◌, subst}
 use Rattle.std.specs.Prelude.{Result}
-use Rattle.m3_image_commands.specs.declared.answers.Answer.{Answer}
-use Rattle.m3_image_commands.specs.declared.answers.Refusal.{Refusal}
-use Rattle.m3_image_commands.specs.Statuses.{Shelving, Putting, StoresNothing, Tells}
+use Rattle.m3c_image_commands.specs.declared.answers.Answer.{Answer}
+use Rattle.m3c_image_commands.specs.declared.answers.Refusal.{Refusal}
+use Rattle.m3c_image_commands.specs.Statuses.{Shelving, Putting, StoresNothing, Tells}
 use Rattle.m3_base.specs.Schedules.{IsSchedule}
-use Rattle.m3_source_commands.specs.SourceCommands.{ExecsTexts}
-use Rattle.m3_source_commands.specs.Orders.{usual_setting}
-use Rattle.m3_source_commands.proofs.OrderLemmas.{execs_fetched}
+use Rattle.m3c_source_commands.specs.SourceCommands.{ExecsTexts}
+use Rattle.m3c_source_commands.specs.Orders.{usual_setting}
+use Rattle.m3c_source_commands.proofs.OrderLemmas.{execs_fetched}
 use Rattle.m3_ports.specs.Files.{Files}
 use Rattle.m3c.specs.Command.{Call, NotPlainText, Promises, file_of}
 use Rattle.m3c.proofs.Completes.{text_promised_by}

@@ -7,12 +7,12 @@ use Rattle.m3_base.specs.declared.outcomes.Outcome.TheVariants.{Done, Fault}
 use Rattle.std.specs.FinMap.{get}
 use Rattle.m3_ports.specs.Counts.{Rose}
 use Rattle.m3_ports.specs.Files.{Files}
-use Rattle.m3_build.specs.PlainForm.{IsPlain}
+use Rattle.m3_plain.specs.PlainForm.{IsPlain}
 use Rattle.m3_isa.specs.declared.instructions.Instr.{Instr}
-use Rattle.m3_build.specs.Terms.{Term, Value, Gives, Overflows, value_of, ended_by, outcome_of, output_of, points_of}
-use Rattle.m3_build.specs.Machine.{State, Ends, run, start}
+use Rattle.m3_plain.specs.Terms.{Term, Value, Gives, Overflows, value_of, ended_by, outcome_of, output_of, points_of}
+use Rattle.m3_plain.specs.Machine.{State, Ends, run, start}
 use Rattle.m3c.specs.declared.machine.Ended.{Ended}
-use Rattle.m3_image_commands.specs.Statuses.{Putting, CountRose, Took}
+use Rattle.m3c_image_commands.specs.Statuses.{Putting, CountRose, Took}
 use Rattle.m3c.specs.Command.{Call, IsSilent, Says, IsRead, report, Ran, Refuses, NotPlainText, Answers}
 use Rattle.m3c.specs.Compiled.{Compiles}
 use Rattle.m3c.proofs.Loops.{same_end}

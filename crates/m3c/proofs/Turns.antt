@@ -15,7 +15,7 @@ use Rattle.m3_isa.specs.declared.registers.Regs.{Regs}
 use Rattle.m3_isa.specs.declared.answers.Step.TheVariants.{Went, Trapped, Other}
 use Rattle.m3_isa.specs.Memory.{Memory}
 use Rattle.m3_isa.specs.Effects.{signed, Effect, Goes, Traps, NotPlain, effect, CarriesOut}
-use Rattle.m3_build.specs.Machine.{State, Progress, GoesOn, Ends, Lacks, counted, passed, is_stack, plainly, acts, faults, fault_kinds}
+use Rattle.m3_plain.specs.Machine.{State, Progress, GoesOn, Ends, Lacks, counted, passed, is_stack, plainly, acts, faults, fault_kinds}
 use Rattle.m3c.specs.declared.machine.Machine.{Machine}
 use Rattle.m3c.specs.declared.machine.Turn.{Turn}
 use Rattle.m3c.specs.declared.machine.Turn.TheVariants.{GoesOn as TurnGoesOn, Ends as TurnEnds, Lacks as TurnLacks}

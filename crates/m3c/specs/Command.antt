@@ -11,22 +11,22 @@ use Rattle.m3_base.specs.Faults.{name_of_fault}
 use Rattle.m3_ports.specs.Files.{Files, IsNotHeld, IsHeldOver}
 use Rattle.m3_base.specs.declared.outcomes.Entry.{Entry}
 use Rattle.m3_image.specs.Images.{read_of}
-use Rattle.m3_sections.specs.Parts.{Image}
-use Rattle.m3_dump.specs.Texts.{IsDump}
+use Rattle.m3_image_sections.specs.Parts.{Image}
+use Rattle.m3_image_dump.specs.Texts.{IsDump}
 use Rattle.m3_isa.specs.declared.instructions.Instr.{Instr}
-use Rattle.m3_build.specs.Terms.{Term, output_of, points_of, outcome_of}
-use Rattle.m3_build.specs.PlainForm.{IsPlain}
-use Rattle.m3_build.specs.Machine.{Puts}
-use Rattle.m3_image_commands.specs.declared.answers.Answer.{Answer}
-use Rattle.m3_image_commands.specs.declared.answers.Refusal.{Refusal}
-use Rattle.m3_image_commands.specs.Statuses.{Shelving, Putting, Tells, image_cap}
-pub use Rattle.m3_image_commands.specs.Statuses.{CountRose, Took}
-use Rattle.m3_image_commands.specs.Reports.{Setting, Ended}
-use Rattle.m3_image_commands.specs.ImageCommands.{by_schedule, on_input}
-use Rattle.m3_image_commands.specs.Complete.{IsHeld, HoldsAll}
-use Rattle.m3_command_line.specs.Orders.{Options, run, exec, dump}
-use Rattle.m3_command_line.specs.Asked.{asked, usual_options}
-use Rattle.m3_source_commands.specs.Orders.{Fulfils, Commands, within}
+use Rattle.m3_plain.specs.Terms.{Term, output_of, points_of, outcome_of}
+use Rattle.m3_plain.specs.PlainForm.{IsPlain}
+use Rattle.m3_plain.specs.Machine.{Puts}
+use Rattle.m3c_image_commands.specs.declared.answers.Answer.{Answer}
+use Rattle.m3c_image_commands.specs.declared.answers.Refusal.{Refusal}
+use Rattle.m3c_image_commands.specs.Statuses.{Shelving, Putting, Tells, image_cap}
+pub use Rattle.m3c_image_commands.specs.Statuses.{CountRose, Took}
+use Rattle.m3c_image_commands.specs.Reports.{Setting, Ended}
+use Rattle.m3c_image_commands.specs.ImageCommands.{by_schedule, on_input}
+use Rattle.m3c_image_commands.specs.Complete.{IsHeld, HoldsAll}
+use Rattle.m3c_words.specs.Orders.{Options, run, exec, dump}
+use Rattle.m3c_words.specs.Asked.{asked, usual_options}
+use Rattle.m3c_source_commands.specs.Orders.{Fulfils, Commands, within}
 
 -- ---- the words
 

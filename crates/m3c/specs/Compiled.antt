@@ -3,9 +3,9 @@ use Rattle.std.specs.Prelude.{ℕ, ◌≡◌, List, ◌++◌, codes}
 use Rattle.m3_ports.specs.declared.shelves.ShelfFault.{ShelfFault}
 use Rattle.m3_ports.specs.declared.shelves.ShelfFault.TheVariants.{Absent, TooLong, Failed, NoMemory}
 use Rattle.m3_isa.specs.declared.instructions.Instr.{Instr}
-use Rattle.m3_build.specs.Terms.{Term}
-use Rattle.m3_build.specs.PlainForm.{IsPlain}
-use Rattle.m3_build.specs.Machine.{Puts}
+use Rattle.m3_plain.specs.Terms.{Term}
+use Rattle.m3_plain.specs.PlainForm.{IsPlain}
+use Rattle.m3_plain.specs.Machine.{Puts}
 
 -- the text is in the plain form, and the code does what it puts
 pub record Compiles (text : List ℕ) (code : List Instr) (lines : List ℕ) : Type 0 where

@@ -2,8 +2,8 @@
 use Rattle.std.specs.Prelude.{◌≡◌, ℕ, List, Option, None, Some}
 use Rattle.m3_base.specs.declared.outcomes.Outcome.{Outcome}
 use Rattle.m3_isa.specs.declared.instructions.Instr.{Instr}
-use Rattle.m3_build.specs.Terms.{Term}
-use Rattle.m3_build.specs.Machine.{State, Progress, GoesOn, Ends, Lacks, counted, Puts}
+use Rattle.m3_plain.specs.Terms.{Term}
+use Rattle.m3_plain.specs.Machine.{State, Progress, GoesOn, Ends, Lacks, counted, Puts}
 use Rattle.m3c.specs.declared.machine.Machine.{Machine}
 use Rattle.m3c.specs.declared.machine.Turn.{Turn}
 use Rattle.m3c.specs.declared.machine.Turn.TheVariants.{GoesOn as TurnGoesOn, Ends as TurnEnds, Lacks as TurnLacks}

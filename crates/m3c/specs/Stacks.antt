@@ -3,7 +3,7 @@ use Rattle.std.specs.Prelude.{ℕ, ◌≡◌, ◌<◌, ◌-◌, ◌^◌, Bool, t
 use Rattle.std.proofs.Common.{refl, ap, arith}
 use Rattle.std.proofs.lemmas.Bool.{false≢true}
 use Rattle.std.proofs.lemmas.Bool.Decides.{nat_tests}
-use Rattle.m3_build.specs.Machine.{is_stack}
+use Rattle.m3_plain.specs.Machine.{is_stack}
 use Rattle.m3c.specs.declared.stack.Stack.{Stack}
 
 -- the word at each address of the stack

@@ -8,10 +8,10 @@ ghost use Rattle.m3_base.specs.declared.outcomes.FaultKind.TheVariants.{Overflow
 ghost use Rattle.m3_ports.specs.Counts.{Rose};
 ghost use Rattle.m3_ports.specs.declared.shelves.ShelfFault.TheVariants.{Absent, TooLong, Failed};
 ghost use Rattle.m3_ports.specs.declared.shelves.ShelfFault.TheVariants.{NoMemory};
-ghost use Rattle.m3_build.specs.Terms.{Term};
-ghost use Rattle.m3_build.specs.PlainForm.{IsPlain};
-ghost use Rattle.m3_image_commands.specs.Statuses.{Took};
-ghost use Rattle.m3_source_commands.specs.Orders.{Commands};
+ghost use Rattle.m3_plain.specs.Terms.{Term};
+ghost use Rattle.m3_plain.specs.PlainForm.{IsPlain};
+ghost use Rattle.m3c_image_commands.specs.Statuses.{Took};
+ghost use Rattle.m3c_source_commands.specs.Orders.{Commands};
 ghost use Rattle.m3c.specs.Command.{file_of, is_name, Answers, IsOther, NotPlainText, Promises};
 ghost use Rattle.m3c.specs.Compiled.{Compiles, refusal, refusal_status};
 
@@ -19,9 +19,9 @@ use crate::machine::run;
 use crate::report::{LINE_ROOM, add, add_report};
 use crate::stack::Stack;
 use m3_base::NoMemory;
-use m3_build::{PlainCode, PlainRefused, build_plain, read_plain};
+use m3_plain::{PlainCode, PlainRefused, build_plain, read_plain};
 use m3_ports::{Shelf, ShelfFault, Sink};
-use m3_source_commands::{command, exec_text};
+use m3c_source_commands::{command, exec_text};
 use std::alloc::Global;
 
 // The statuses that the command ends with, beside those of a run.

@@ -8,8 +8,8 @@ ghost use Rattle.std.specs.Fmt.{signed_decimal};
 ghost use Rattle.m3_ports.specs.Counts.{Rose};
 ghost use Rattle.m3_isa.specs.Instructions.{IsInstruction};
 ghost use Rattle.m3_isa.specs.Effects.{effect, signed};
-ghost use Rattle.m3_build.specs.Machine.{State, Ends, first_memory, is_stack, passed, faults};
-ghost use Rattle.m3_build.specs.Machine.{fault_kinds, plainly, acts, start, run};
+ghost use Rattle.m3_plain.specs.Machine.{State, Ends, first_memory, is_stack, passed, faults};
+ghost use Rattle.m3_plain.specs.Machine.{fault_kinds, plainly, acts, start, run};
 ghost use Rattle.m3c.specs.Command.{Took};
 ghost use Rattle.m3c.specs.Stacks.{stack_holds};
 ghost use Rattle.m3c.specs.Running.{state_of, Turned, ends_or_lacks, IsBuilt};
@@ -17,8 +17,8 @@ ghost use Rattle.m3c.specs.Running.{state_of, Turned, ends_or_lacks, IsBuilt};
 use crate::stack::{STACK_START, Stack};
 use itoa::Buffer;
 use m3_base::{FaultKind, Outcome};
-use m3_build::PlainCode;
 use m3_isa::{Instr, Op, Regs, Step, step};
+use m3_plain::PlainCode;
 use m3_ports::{Sink, SinkFailed};
 
 /// The thread at work: its registers, its stack, and the points that it has passed.
@@ -31,7 +31,7 @@ pub struct Machine {
 
 /// What became of an instruction: the run goes on, it has ended, or this machine lacks the
 /// instruction.
-#[derive(Clone, Copy, Debug)]
+#[derive(Clone, Copy)]
 pub enum Turn {
     GoesOn,
     Ends(Outcome),
@@ -39,7 +39,7 @@ pub enum Turn {
 }
 
 /// How a run ended, the points that it passed, and the instructions that it executed.
-#[derive(Clone, Copy, Debug)]
+#[derive(Clone, Copy)]
 pub struct Ended {
     pub outcome: Outcome,
     pub points: u64,

@@ -19,7 +19,7 @@ pub struct Stack {
 }
 
 impl Stack {
-    ghost use Rattle.m3_build.specs.Machine.{first_memory};
+    ghost use Rattle.m3_plain.specs.Machine.{first_memory};
     ghost use Rattle.m3c.specs.Stacks.{stack_holds};
 
     /// A stack as a thread finds it: its first frame was called by nobody, in the environment of
@@ -44,7 +44,7 @@ fn empty_words(alloc: Global, count: usize) -> Result<Vec<u64>, NoMemory>
 
 impl Words for Stack {
     ghost use Rattle.m3c.specs.Stacks.{stack_holds, stack_readable, stack_low};
-    ghost use Rattle.m3_build.specs.Machine.{is_stack};
+    ghost use Rattle.m3_plain.specs.Machine.{is_stack};
 
     ghost holds = { stack_holds };
 

@@ -7,15 +7,15 @@ use Rattle.m3_ports.specs.Files.{Files, IsNotHeld, IsHeldOver}
 use Rattle.m3_base.specs.Schedules.{IsSchedule, IsFirstBadLine, HasTooMany, entry_in, lines_of, most_entries}
 use Rattle.m3_base.specs.declared.outcomes.Entry.{Entry}
 use Rattle.m3_image.specs.Images.{read_of}
-use Rattle.m3_sections.specs.Parts.{Image}
-use Rattle.m3_dump.specs.Texts.{IsDump}
-use Rattle.m3_sections.specs.declared.refusal.ImageRefusal.{ImageRefusal}
-use Rattle.m3_image_commands.specs.declared.answers.Answer.{Answer}
-use Rattle.m3_image_commands.specs.declared.answers.Refusal.{Refusal}
-use Rattle.m3_image_commands.specs.Statuses.{Shelving, Putting, CountRose, PutsNothing, Took, IsRead, IsGiven, LacksMemory, LacksOutput, Cuts, Unfetched, read_fault, no_memory, absent, too_long, Only, OfOptions, Refuses, image_cap, file_cap}
-use Rattle.m3_image_commands.specs.Reports.{Setting, Ended}
-use Rattle.m3_image_commands.specs.ImageCommands.{by_schedule, on_input, IsNoSchedule, ImageAnswer, image_refused, ended, RunAnswer, OfRun, Runs, DumpAnswer, not_dumped, dumped, Dumps}
-use Rattle.m3_image_commands.specs.Complete.{IsHeld, IsHeldIfNamed, HoldsAll, CutsShort, RunsWhole, DumpsWhole}
+use Rattle.m3_image_sections.specs.Parts.{Image}
+use Rattle.m3_image_dump.specs.Texts.{IsDump}
+use Rattle.m3_image_sections.specs.declared.refusal.ImageRefusal.{ImageRefusal}
+use Rattle.m3c_image_commands.specs.declared.answers.Answer.{Answer}
+use Rattle.m3c_image_commands.specs.declared.answers.Refusal.{Refusal}
+use Rattle.m3c_image_commands.specs.Statuses.{Shelving, Putting, CountRose, PutsNothing, Took, IsRead, IsGiven, LacksMemory, LacksOutput, Cuts, Unfetched, read_fault, no_memory, absent, too_long, Only, OfOptions, Refuses, image_cap, file_cap}
+use Rattle.m3c_image_commands.specs.Reports.{Setting, Ended}
+use Rattle.m3c_image_commands.specs.ImageCommands.{by_schedule, on_input, IsNoSchedule, ImageAnswer, image_refused, ended, RunAnswer, OfRun, Runs, DumpAnswer, not_dumped, dumped, Dumps}
+use Rattle.m3c_image_commands.specs.Complete.{IsHeld, IsHeldIfNamed, HoldsAll, CutsShort, RunsWhole, DumpsWhole}
 
 some_same : {A : Type 0} (x y : A) → Some x ≡ Some y → x ≡ y
 some_same x y e = cc

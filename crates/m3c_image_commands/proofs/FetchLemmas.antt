@@ -3,8 +3,8 @@ use Rattle.std.proofs.Common.{◌≡◌, ℕ, ◌≤◌, ◌<◌, List, Option, 
 use Rattle.std.specs.Prelude.{Some, IfSome, Result, Ok, Err, IfErr}
 use Rattle.m3_ports.specs.Counts.{Rose}
 use Rattle.m3_ports.specs.Files.{Files, IsNotHeld, IsHeldOver}
-use Rattle.m3_image_commands.specs.declared.answers.Refusal.{Refusal}
-use Rattle.m3_image_commands.specs.Statuses.{Shelving, IsKept, file_cap, Only, OfOptions, Unfetched, read_fault, no_memory, absent, too_long, Fetches}
+use Rattle.m3c_image_commands.specs.declared.answers.Refusal.{Refusal}
+use Rattle.m3c_image_commands.specs.Statuses.{Shelving, IsKept, file_cap, Only, OfOptions, Unfetched, read_fault, no_memory, absent, too_long, Fetches}
 
 -- both as one
 abbrev pub joined : Shelving → Shelving → Shelving

@@ -4,8 +4,8 @@ use Rattle.std.specs.Prelude.{slice_get}
 use Rattle.m3_base.specs.declared.outcomes.FaultKind.{FaultKind}
 use Rattle.m3_base.specs.declared.outcomes.FaultKind.TheVariants.{Overflow, DivZero, Range, Index, Nil, Narrow, Shape, Subarray, Size, NoReturn, NoCase, NoTypecase, Raises, NestedProc, NotHeld, JoinTwice}
 use Rattle.m3_base.specs.Faults.{name_of_fault}
-use Rattle.m3_sections.specs.Parts.{Image}
-use Rattle.m3_image_commands.specs.Reports.{name_bytes, longest, longest_name}
+use Rattle.m3_image_sections.specs.Parts.{Image}
+use Rattle.m3c_image_commands.specs.Reports.{name_bytes, longest, longest_name}
 
 pub longest_least : (least : ℕ) (names : List (List ℕ)) → least ≤ longest least names
 longest_least least [] = omega arith

@@ -6,19 +6,19 @@ use Rattle.m3_image.specs.Images.{read_of}
 use Rattle.m3_base.specs.declared.outcomes.Outcome.{Outcome}
 use Rattle.m3_heap.specs.Heap.{Heap}
 use Rattle.m3_heap.specs.Semi.{new_heap}
-use Rattle.m3_sections.specs.Parts.{Image, Program}
-use Rattle.m3_strides.specs.State.{State}
-use Rattle.m3_strides.specs.Runs.{Begins, begins}
+use Rattle.m3_image_sections.specs.Parts.{Image, Program}
+use Rattle.m3_run_meaning.specs.State.{State}
+use Rattle.m3_run_meaning.specs.Runs.{Begins, begins}
 use Rattle.m3_machine.specs.RunCalls.{Ran}
-use Rattle.m3_dump.specs.Texts.{IsDump}
-use Rattle.m3_image_commands.specs.declared.answers.Answer.{Answer}
-use Rattle.m3_image_commands.specs.declared.answers.Refusal.{Refusal}
+use Rattle.m3_image_dump.specs.Texts.{IsDump}
+use Rattle.m3c_image_commands.specs.declared.answers.Answer.{Answer}
+use Rattle.m3c_image_commands.specs.declared.answers.Refusal.{Refusal}
 use Rattle.m3_base.specs.declared.outcomes.Entry.{Entry}
 use Rattle.m3_base.specs.Schedules.{IsSchedule}
-use Rattle.m3_sections.specs.declared.refusal.ImageRefusal.{ImageRefusal}
-use Rattle.m3_image_commands.specs.Reports.{Setting, Ended, end_status, report}
-use Rattle.m3_image_commands.specs.Statuses.{Shelving, Putting, StoresNothing, PutsNothing, Took, RefusesBy, Fetches, IsRead, IsGiven, image_cap, Only}
-use Rattle.m3_image_commands.specs.ImageCommands.{by_schedule, on_input, Ends, ImageAnswer, image_refused, ended, RunsImage, RefusesSwitches, RunsBytes, RunAnswer, IsNoSchedule, OfRun, Runs, DumpAnswer, not_dumped, dumped, DumpsBytes, Dumps}
+use Rattle.m3_image_sections.specs.declared.refusal.ImageRefusal.{ImageRefusal}
+use Rattle.m3c_image_commands.specs.Reports.{Setting, Ended, end_status, report}
+use Rattle.m3c_image_commands.specs.Statuses.{Shelving, Putting, StoresNothing, PutsNothing, Took, RefusesBy, Fetches, IsRead, IsGiven, image_cap, Only}
+use Rattle.m3c_image_commands.specs.ImageCommands.{by_schedule, on_input, Ends, ImageAnswer, image_refused, ended, RunsImage, RefusesSwitches, RunsBytes, RunAnswer, IsNoSchedule, OfRun, Runs, DumpAnswer, not_dumped, dumped, DumpsBytes, Dumps}
 
 -- the start of a run has passed no points
 begins-first : (p : Program) (heap : Heap) (threads stack : ℕ) (s : State) → Begins p heap threads stack s → s.points ≡ 0

@@ -5,13 +5,13 @@ use Rattle.m3_ports.specs.Files.{Files}
 use Rattle.m3_base.specs.Schedules.{IsSchedule}
 use Rattle.m3_base.specs.declared.outcomes.Entry.{Entry}
 use Rattle.m3_image.specs.Images.{read_of}
-use Rattle.m3_sections.specs.Parts.{Image}
-use Rattle.m3_dump.specs.Texts.{IsDump}
-use Rattle.m3_image_commands.specs.declared.answers.Answer.{Answer}
-use Rattle.m3_image_commands.specs.declared.answers.Refusal.{Refusal}
-use Rattle.m3_image_commands.specs.Statuses.{Shelving, Putting, CountRose, PutsNothing, Took, LacksMemory, image_cap, file_cap}
-use Rattle.m3_image_commands.specs.Reports.{Setting, Ended}
-use Rattle.m3_image_commands.specs.ImageCommands.{by_schedule, on_input}
+use Rattle.m3_image_sections.specs.Parts.{Image}
+use Rattle.m3_image_dump.specs.Texts.{IsDump}
+use Rattle.m3c_image_commands.specs.declared.answers.Answer.{Answer}
+use Rattle.m3c_image_commands.specs.declared.answers.Refusal.{Refusal}
+use Rattle.m3c_image_commands.specs.Statuses.{Shelving, Putting, CountRose, PutsNothing, Took, LacksMemory, image_cap, file_cap}
+use Rattle.m3c_image_commands.specs.Reports.{Setting, Ended}
+use Rattle.m3c_image_commands.specs.ImageCommands.{by_schedule, on_input}
 
 -- the shelf tells that it holds the file: these bytes, no more than the cap
 pub record IsHeld (held : Option Files) (name : List ℕ) (cap : ℕ) (bytes : List ℕ) : Type 0 where

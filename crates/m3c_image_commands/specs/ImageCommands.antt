@@ -3,12 +3,12 @@ use Rattle.std.specs.Prelude.{ℕ, ◌≡◌, ◌⊎◌, Bool, Option, is_some, 
 use Rattle.m3_base.specs.Schedules.{IsSchedule, IsFirstBadLine, HasTooMany}
 use Rattle.m3_base.specs.declared.outcomes.Entry.{Entry}
 use Rattle.m3_image.specs.Images.{read_of}
-use Rattle.m3_sections.specs.Parts.{Image}
-use Rattle.m3_dump.specs.Texts.{IsDump}
-use Rattle.m3_image_commands.specs.declared.answers.Answer.{Answer}
-use Rattle.m3_image_commands.specs.declared.answers.Refusal.{Refusal}
-use Rattle.m3_image_commands.specs.Statuses.{Shelving, Putting, StoresNothing, PutsNothing, Took, IsRead, IsGiven, image_cap, Only, OfOptions, Cuts, Refuses}
-use Rattle.m3_image_commands.specs.Reports.{Setting, Ended}
+use Rattle.m3_image_sections.specs.Parts.{Image}
+use Rattle.m3_image_dump.specs.Texts.{IsDump}
+use Rattle.m3c_image_commands.specs.declared.answers.Answer.{Answer}
+use Rattle.m3c_image_commands.specs.declared.answers.Refusal.{Refusal}
+use Rattle.m3c_image_commands.specs.Statuses.{Shelving, Putting, StoresNothing, PutsNothing, Took, IsRead, IsGiven, image_cap, Only, OfOptions, Cuts, Refuses}
+use Rattle.m3c_image_commands.specs.Reports.{Setting, Ended}
 
 -- a line of a switch file is no entry, or it has too many
 abbrev pub IsNoSchedule : List ℕ → Type 0

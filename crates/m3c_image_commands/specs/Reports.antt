@@ -6,10 +6,10 @@ use Rattle.m3_base.specs.declared.outcomes.Outcome.TheVariants.{Done, Fault, Unc
 use Rattle.m3_base.specs.declared.outcomes.Entry.{Entry}
 use Rattle.m3_base.specs.Faults.{name_of_fault}
 use Rattle.m3_heap.specs.Semi.{new_heap}
-use Rattle.m3_sections.specs.Parts.{Image}
-use Rattle.m3_strides.specs.State.{State}
+use Rattle.m3_image_sections.specs.Parts.{Image}
+use Rattle.m3_run_meaning.specs.State.{State}
 use Rattle.m3_machine.specs.RunCalls.{RunOf}
-use Rattle.m3_image_commands.specs.Statuses.{Putting, Took}
+use Rattle.m3c_image_commands.specs.Statuses.{Putting, Took}
 
 -- the status of each outcome
 abbrev pub end_status : Outcome → ℕ

@@ -6,8 +6,8 @@ use Rattle.m3_ports.specs.Counts.{Rose}
 use Rattle.m3_ports.specs.Files.{Files, IsFront, IsNotHeld, IsHeldOver, LeavesFront}
 use Rattle.m3_ports.specs.declared.shelves.ShelfFault.{ShelfFault}
 use Rattle.m3_ports.specs.declared.shelves.ShelfFault.TheVariants.{Absent, TooLong, Failed}
-use Rattle.m3_image_commands.specs.declared.answers.Answer.{Answer}
-use Rattle.m3_image_commands.specs.declared.answers.Refusal.{Refusal}
+use Rattle.m3c_image_commands.specs.declared.answers.Answer.{Answer}
+use Rattle.m3c_image_commands.specs.declared.answers.Refusal.{Refusal}
 
 -- ---- pairs of what was before and after
 

@@ -1,6 +1,6 @@
 ghost use Rattle.std.specs.Prelude.{◌≡◌, ◌≤◌, ◌++◌, [], OnOk, OnErr, codes};
 ghost use Rattle.m3_ports.specs.Counts.{Rose};
-ghost use Rattle.m3_image_commands.specs.Statuses.{Took, Tells};
+ghost use Rattle.m3c_image_commands.specs.Statuses.{Took, Tells};
 
 use m3_ports::{Sink, SinkFailed};
 use std::alloc::Global;

@@ -1,13 +1,13 @@
 ghost use Rattle.std.specs.Prelude.{◌≡◌, ℕ, List, [], Ok};
 ghost use Rattle.m3_image.specs.Images.{read_of};
 ghost use Rattle.m3_image.specs.Views.{image_view};
-ghost use Rattle.m3_image_commands.specs.ImageCommands.{Dumps, DumpsBytes};
+ghost use Rattle.m3c_image_commands.specs.ImageCommands.{Dumps, DumpsBytes};
 
 use crate::answers::{Answer, Refusal};
 use crate::running::{fetch_image, read_image};
-use m3_decoded::Decoded;
-use m3_dump::dump;
 use m3_image::ImageView;
+use m3_image_decoded::Decoded;
+use m3_image_dump::dump;
 use m3_ports::{Shelf, Sink};
 use std::alloc::Global;
 

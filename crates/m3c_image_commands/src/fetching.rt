@@ -1,12 +1,12 @@
 ghost use Rattle.std.specs.Prelude.{◌≡◌, ℕ, [], IfOk, OnOk};
 ghost use Rattle.std.specs.Option.{option_map};
 ghost use Rattle.m3_ports.specs.Files.{TakesFile};
-ghost use Rattle.m3_image_commands.specs.Statuses.{Causes, Fetches, IsGiven, Only, OfOptions};
-ghost use Rattle.m3_image_commands.specs.Statuses.{Shelving, Unfetched};
+ghost use Rattle.m3c_image_commands.specs.Statuses.{Causes, Fetches, IsGiven, Only, OfOptions};
+ghost use Rattle.m3c_image_commands.specs.Statuses.{Shelving, Unfetched};
 
 use crate::answers::Refusal;
-use m3_command_line::RunOptions;
 use m3_ports::{Shelf, ShelfFault};
+use m3c_words::RunOptions;
 use std::alloc::Global;
 
 // The most bytes of a file of switches or of input.

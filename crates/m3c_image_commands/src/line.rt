@@ -5,17 +5,17 @@ ghost use Rattle.std.specs.Option.{option_map};
 ghost use Rattle.m3_base.specs.Faults.{name_of_fault};
 ghost use Rattle.m3_base.specs.declared.outcomes.Outcome.TheVariants.{Fault, Uncaught, Trap};
 ghost use Rattle.m3_image.specs.Views.{image_view};
-ghost use Rattle.m3_sections.specs.PartViews.{names_of};
-ghost use Rattle.m3_image_commands.specs.Reports.{end_status, name_bytes, ending, with_counts};
-ghost use Rattle.m3_image_commands.specs.Reports.{with_collections, report, longest, longest_name};
+ghost use Rattle.m3_image_sections.specs.PartViews.{names_of};
+ghost use Rattle.m3c_image_commands.specs.Reports.{end_status, name_bytes, ending, with_counts};
+ghost use Rattle.m3c_image_commands.specs.Reports.{with_collections, report, longest, longest_name};
 
 use crate::answers::Answer;
 use itoa::Buffer;
 use m3_base::{FaultKind, Outcome, fault_name};
 use m3_heap::Store;
 use m3_image::ImageView;
+use m3_image_sections::Names;
 use m3_machine::Machine;
-use m3_sections::Names;
 
 /// The most bytes that a line has beside the name in it.
 pub const LINE_ROOM: usize = 256;

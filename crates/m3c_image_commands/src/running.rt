@@ -1,23 +1,23 @@
 ghost use Rattle.std.specs.Prelude.{◌≡◌, [], IfOk, IfErr, OnOk, IsOk, IsErr, is_some};
 ghost use Rattle.std.specs.Option.{option_map};
 ghost use Rattle.m3_base.specs.Schedules.{IsSchedule};
-ghost use Rattle.m3_sections.specs.Reading.{seen};
+ghost use Rattle.m3_image_sections.specs.Reading.{seen};
 ghost use Rattle.m3_image.specs.Images.{read_of};
 ghost use Rattle.m3_image.specs.Views.{image_view};
-ghost use Rattle.m3_image_commands.specs.Statuses.{Fetches, IsGiven, IsRead, Only, RefusesBy};
-ghost use Rattle.m3_image_commands.specs.Statuses.{image_cap};
-ghost use Rattle.m3_image_commands.specs.ImageCommands.{Ends, IsNoSchedule, OfRun, Runs, RunsBytes};
-ghost use Rattle.m3_image_commands.specs.ImageCommands.{RunsImage};
+ghost use Rattle.m3c_image_commands.specs.Statuses.{Fetches, IsGiven, IsRead, Only, RefusesBy};
+ghost use Rattle.m3c_image_commands.specs.Statuses.{image_cap};
+ghost use Rattle.m3c_image_commands.specs.ImageCommands.{Ends, IsNoSchedule, OfRun, Runs, RunsBytes};
+ghost use Rattle.m3c_image_commands.specs.ImageCommands.{RunsImage};
 
 use crate::answers::{Answer, Refusal};
 use crate::fetching::{RunFiles, fetch, fetch_run_files};
 use crate::line::{LINE_ROOM, answer_of, longest_name};
 use m3_base::{Entry, ScheduleRefusal, read_schedule};
-use m3_command_line::{Limits, RunOptions};
 use m3_heap::SemiSpace;
 use m3_image::{ImageRefusal, ImageView};
 use m3_machine::Machine;
 use m3_ports::{Shelf, Sink};
+use m3c_words::{Limits, RunOptions};
 use std::alloc::{AllocError, Global};
 
 // The most bytes of an image.

@@ -3,8 +3,8 @@
 
 use m3_base::NoMemory;
 use m3_ports::{FileShelf, Sink, StdSink};
-use m3_streams::{Gathered, Kept};
 use m3c::m3c;
+use m3c_streams::{Gathered, Kept};
 use std::alloc::Global;
 use std::io::{ErrorKind, Stderr, Stdout};
 use std::process::ExitCode;

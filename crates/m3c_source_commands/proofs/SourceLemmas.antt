@@ -7,11 +7,11 @@ use Rattle.std.proofs.Common.{Bor}
 use Rattle.std.specs.FinMap.{get}
 use Rattle.std.proofs.lemmas.Option.{none-some, same_Some}
 use Rattle.m3_ports.specs.Files.{Files}
-use Rattle.m3_image_commands.specs.declared.answers.Refusal.{Refusal}
-use Rattle.m3_image_commands.specs.Statuses.{Shelving, Only, Fetches}
-use Rattle.m3_image_commands.proofs.FetchLemmas.{Rises, Among, Follows, joined, rises, fetches_on, fails_as}
-use Rattle.m3_source_commands.specs.Texts.{IsNext}
-use Rattle.m3_source_commands.specs.SourceCommands.{sources_cap, source_cap, total, AreRead, OfFiles}
+use Rattle.m3c_image_commands.specs.declared.answers.Refusal.{Refusal}
+use Rattle.m3c_image_commands.specs.Statuses.{Shelving, Only, Fetches}
+use Rattle.m3c_image_commands.proofs.FetchLemmas.{Rises, Among, Follows, joined, rises, fetches_on, fails_as}
+use Rattle.m3c_source_commands.specs.Texts.{IsNext}
+use Rattle.m3c_source_commands.specs.SourceCommands.{sources_cap, source_cap, total, AreRead, OfFiles}
 
 -- so many files were read, and so many bytes are left for the others
 pub record Reading (shelf : Shelving) (files texts : List (List ℕ)) (k left : ℕ) : Type 0 where

@@ -3,15 +3,15 @@ use Rattle.std.specs.Prelude.{ℕ, ◌≡◌, ◌+◌, ◌-◌, ◌⊎◌, min, 
 use Rattle.std.specs.FinMap.{get}
 use Rattle.m3_ports.specs.Files.{Files}
 use Rattle.m3_image.specs.Images.{read_of}
-use Rattle.m3_sections.specs.Parts.{Image}
-use Rattle.m3_image_commands.specs.declared.answers.Answer.{Answer}
-use Rattle.m3_image_commands.specs.declared.answers.Refusal.{Refusal}
-use Rattle.m3_image_commands.specs.Statuses.{Shelving, Putting, StoresNothing, StoresUnder, StoresFront, PutsNothing, IsGiven, OfOptions, Unfetched, LacksMemory, LacksOutput, Cuts, Refuses}
+use Rattle.m3_image_sections.specs.Parts.{Image}
+use Rattle.m3c_image_commands.specs.declared.answers.Answer.{Answer}
+use Rattle.m3c_image_commands.specs.declared.answers.Refusal.{Refusal}
+use Rattle.m3c_image_commands.specs.Statuses.{Shelving, Putting, StoresNothing, StoresUnder, StoresFront, PutsNothing, IsGiven, OfOptions, Unfetched, LacksMemory, LacksOutput, Cuts, Refuses}
 use Rattle.m3_base.specs.declared.outcomes.Entry.{Entry}
 use Rattle.m3_base.specs.Schedules.{IsSchedule}
 use Rattle.m3_workload.specs.Schedules.{schedule_of}
-use Rattle.m3_image_commands.specs.Reports.{Setting, Ended}
-use Rattle.m3_image_commands.specs.ImageCommands.{IsNoSchedule, RefusesSwitches, by_schedule, on_input}
+use Rattle.m3c_image_commands.specs.Reports.{Setting, Ended}
+use Rattle.m3c_image_commands.specs.ImageCommands.{IsNoSchedule, RefusesSwitches, by_schedule, on_input}
 
 -- ---- the FILEs
 

@@ -2,7 +2,7 @@
 use Rattle.std.specs.Prelude.{ℕ, ◌≡◌, ◌-◌, Option, Some, IfSome, List, [], ◌∷◌, ◌++◌, length, map}
 use Rattle.std.specs.FinMap.{get}
 use Rattle.m3_ports.specs.Files.{Files}
-use Rattle.m3_source_commands.specs.declared.sources.Sources.{Sources}
+use Rattle.m3c_source_commands.specs.declared.sources.Sources.{Sources}
 
 abbrev pub texts_of : Sources → List (List ℕ)
 texts_of sources = map (λ text. text.items) sources.texts.items

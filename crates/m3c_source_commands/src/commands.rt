@@ -1,27 +1,27 @@
 //! The commands.
 ghost use Rattle.std.specs.Prelude.{◌≡◌, false, [], None, Result, IfOk, IfErr, IsOk, is_some, map};
-ghost use Rattle.m3_command_line.specs.Ranges.{AreUsual};
+ghost use Rattle.m3c_words.specs.Ranges.{AreUsual};
 ghost use Rattle.std.specs.Option.{option_map};
 ghost use Rattle.m3_image.specs.Images.{read_of};
-ghost use Rattle.m3_image_commands.specs.declared.answers.Answer.{Answer as AnswerValue};
-ghost use Rattle.m3_image_commands.specs.declared.answers.Refusal.{Refusal as RefusalValue};
-ghost use Rattle.m3_image_commands.specs.Statuses.{LacksMemory, LacksOutput, Tells};
+ghost use Rattle.m3c_image_commands.specs.declared.answers.Answer.{Answer as AnswerValue};
+ghost use Rattle.m3c_image_commands.specs.declared.answers.Refusal.{Refusal as RefusalValue};
+ghost use Rattle.m3c_image_commands.specs.Statuses.{LacksMemory, LacksOutput, Tells};
 ghost use Rattle.m3_base.specs.Schedules.{IsSchedule};
-ghost use Rattle.m3_image_commands.specs.ImageCommands.{on_input};
-ghost use Rattle.m3_source_commands.specs.SourceCommands.{Builds, Execs, ExecsTexts, IsOfNumber};
-ghost use Rattle.m3_source_commands.specs.SourceCommands.{RefusesSources, Stores};
-ghost use Rattle.m3_source_commands.specs.Orders.{Fulfils, Commands, bench_setting, order_of};
-ghost use Rattle.m3_source_commands.specs.Orders.{setting_of, usual_setting};
+ghost use Rattle.m3c_image_commands.specs.ImageCommands.{on_input};
+ghost use Rattle.m3c_source_commands.specs.SourceCommands.{Builds, Execs, ExecsTexts, IsOfNumber};
+ghost use Rattle.m3c_source_commands.specs.SourceCommands.{RefusesSources, Stores};
+ghost use Rattle.m3c_source_commands.specs.Orders.{Fulfils, Commands, bench_setting, order_of};
+ghost use Rattle.m3c_source_commands.specs.Orders.{setting_of, usual_setting};
 
 use crate::compiling::compile;
 use crate::sources::{Sources, fetch_sources, views_of, views_of_bytes};
 use m3_base::{Entry, NoMemory, Source};
-use m3_command_line::{Limits, Request, RunOptions, read_words};
-use m3_image_commands::{
-    Answer, Refusal, Run, RunFiles, dump_image, fetch_run_files, run_bytes, run_image, tell,
-};
 use m3_ports::{Shelf, ShelfFault, Sink};
 use m3_workload::make;
+use m3c_image_commands::{
+    Answer, Refusal, Run, RunFiles, dump_image, fetch_run_files, run_bytes, run_image, tell,
+};
+use m3c_words::{Limits, Request, RunOptions, read_words};
 use std::alloc::Global;
 
 /// Stores an image.

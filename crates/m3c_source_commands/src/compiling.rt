@@ -2,15 +2,15 @@
 ghost use Rattle.std.specs.Prelude.{◌≡◌, ◌<◌, ℕ, List, true, length, All, IfOk, IfErr, IsOk};
 ghost use Rattle.m3_base.specs.Schedules.{IsSchedule};
 ghost use Rattle.m3_image.specs.Images.{read_of};
-ghost use Rattle.m3_source_commands.specs.SourceCommands.{RefusesSources};
+ghost use Rattle.m3c_source_commands.specs.SourceCommands.{RefusesSources};
 
 use bumpalo::Bump;
 use bumpalo::collections::into_bump_slice;
-use m3_assembly::build;
 use m3_base::{Entry, NoMemory, Refusal as Broken, Refused, Source, rule_text};
+use m3_build::build;
 use m3_checker::check;
 use m3_core::Core;
-use m3_image_commands::{Answer, Refusal, schedule_of};
+use m3c_image_commands::{Answer, Refusal, schedule_of};
 use std::alloc::{AllocError, Global};
 
 /// What a command goes on with, or what it answers.

@@ -1,12 +1,12 @@
 //! The FILEs of a command.
 ghost use Rattle.std.specs.Prelude.{◌≡◌, [], ◌∷◌, ◌++◌, OnOk, IfOk, map, min};
-ghost use Rattle.m3_image_commands.specs.Statuses.{Fetches, Only};
-ghost use Rattle.m3_source_commands.specs.SourceCommands.{OfFiles, source_cap};
-ghost use Rattle.m3_source_commands.specs.Texts.{texts_of, IsNext};
+ghost use Rattle.m3c_image_commands.specs.Statuses.{Fetches, Only};
+ghost use Rattle.m3c_source_commands.specs.SourceCommands.{OfFiles, source_cap};
+ghost use Rattle.m3c_source_commands.specs.Texts.{texts_of, IsNext};
 
 use m3_base::{Bytes, NoMemory, Source};
-use m3_image_commands::{Refusal, fetch};
 use m3_ports::Shelf;
+use m3c_image_commands::{Refusal, fetch};
 use std::alloc::Global;
 
 // The most bytes of one FILE.

@@ -23,7 +23,7 @@ pub struct Gathered<S: Sink + Drop> {
 
 impl<S: Sink + Drop> Model for Gathered<S> {
     ghost use Rattle.std.specs.Prelude.{◌≤◌, vec_len, vec_capacity};
-    ghost use Rattle.m3_streams.specs.Gathering.{Gathering};
+    ghost use Rattle.m3c_streams.specs.Gathering.{Gathering};
 
     ghost Value = { Gathering };
 

@@ -71,7 +71,7 @@ fn answers(
 }
 
 /// Stores a switch file with a collection at each point.
-fn store_collections(alloc: Global, shelf: &mut MemShelf) -> io::Result<()> {
+pub fn store_collections(alloc: Global, shelf: &mut MemShelf) -> io::Result<()> {
     let Ok(lines) = collections(alloc) else {
         return Err(no_memory());
     };

@@ -3,6 +3,7 @@
 #![tactic(auto)]
 
 mod answers;
+mod conversions;
 mod dumps;
 mod examples;
 mod heaps;
@@ -10,6 +11,7 @@ mod shapes;
 mod steps;
 mod tables;
 
+use conversions::try_conversions;
 use dumps::try_dumps;
 use examples::try_examples;
 use shapes::try_shapes;
@@ -25,6 +27,7 @@ fn run(rt: &(impl Print + Files + AllocGlobal)) -> io::Result<()> {
     try_table(rt, "refusals.txt")?;
     try_table(rt, "commands.txt")?;
     try_table(rt, "REFUSALS.md")?;
+    try_conversions(rt)?;
     try_dumps(rt)?;
     try_shapes(rt)
 }

@@ -8,8 +8,8 @@ use Rattle.clap.specs.declared.builder.arg.Arg.{Arg}
 use Rattle.clap.specs.declared.builder.command.Command.{Command}
 use Rattle.clap.specs.declared.builder.command.Command.TheOpen.{Command-F}
 use Rattle.clap.specs.declared.builder.command.Command.TheViews.{out-Command}
-use Rattle.m3_command_line.specs.Grammar.{grammar}
-use Rattle.m3_command_line.specs.Built.{HasRule, ReadsBy, alone}
+use Rattle.m3c_words.specs.Grammar.{grammar}
+use Rattle.m3c_words.specs.Built.{HasRule, ReadsBy, alone}
 
 pub arg_added : (app : App) (rule : Rule) (old new : Command) (arg : Arg) → AddsArg old arg new → ReadsBy app old → HasRule rule arg → ReadsBy (with_rule app rule) new
 arg_added app rule old new arg added reads has = record {

@@ -10,9 +10,9 @@ use Rattle.clap.specs.Walk.{Row, Text, Walk, finished, is_empty, nothing_held, p
 use Rattle.clap.specs.Simple.{Shape, built, filled_from, names_of, rows_at, subcommand_of}
 use Rattle.clap.specs.declared.parser.matches.ValueSource.TheVariants.{CommandLine}
 use Rattle.clap.specs.declared.builder.value_parser.Reading.TheVariants.{AsWritten}
-use Rattle.m3_command_line.specs.Orders.{exec}
-use Rattle.m3_command_line.specs.Grammar.{exec_command, grammar}
-use Rattle.m3_command_line.specs.Asked.{asked, order_in, parsed, usual_options}
+use Rattle.m3c_words.specs.Orders.{exec}
+use Rattle.m3c_words.specs.Grammar.{exec_command, grammar}
+use Rattle.m3c_words.specs.Asked.{asked, order_in, parsed, usual_options}
 
 -- the command `exec` as clap builds it
 abbrev leaf : Shape

@@ -28,10 +28,10 @@ use Rattle.clap.specs.declared.parser.matches.ArgMatches.{ArgMatches}
 use Rattle.clap.specs.declared.parser.matches.ArgMatches.TheViews.{out-SubCommand}
 use Rattle.clap.specs.declared.parser.matches.SubCommand.{SubCommand}
 use Rattle.clap.proofs.WalkLemmas.{both}
-use Rattle.m3_command_line.specs.Grammar.{grammar}
-use Rattle.m3_command_line.specs.Built.{ReadsBy}
-use Rattle.m3_command_line.specs.Asked.{as_files, bench_in, build_in, dump_in, exec_in, files_in, is_named, most_files, number_of, order_in, parsed, run_in}
-use Rattle.m3_command_line.proofs.Grammars.{is_simple_grammar}
+use Rattle.m3c_words.specs.Grammar.{grammar}
+use Rattle.m3c_words.specs.Built.{ReadsBy}
+use Rattle.m3c_words.specs.Asked.{as_files, bench_in, build_in, dump_in, exec_in, files_in, is_named, most_files, number_of, order_in, parsed, run_in}
+use Rattle.m3c_words.proofs.Grammars.{is_simple_grammar}
 
 -- ---- numbers
 

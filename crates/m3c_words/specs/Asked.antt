@@ -10,8 +10,8 @@ use Rattle.clap.specs.declared.parser.matches.ArgMatches.{ArgMatches}
 use Rattle.clap.specs.Simple.{subcommand_of}
 use Rattle.clap.specs.Faults.{fault_of}
 use Rattle.clap.specs.ValueTests.{is_numeral}
-use Rattle.m3_command_line.specs.Orders.{Bounds, Options, Order, build, run, exec, dump, bench}
-use Rattle.m3_command_line.specs.Grammar.{grammar}
+use Rattle.m3c_words.specs.Orders.{Bounds, Options, Order, build, run, exec, dump, bench}
+use Rattle.m3c_words.specs.Grammar.{grammar}
 
 -- what a parse found for each option and plain word
 abbrev pub rows_in : ArgMatches → List Row

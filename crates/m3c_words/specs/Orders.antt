@@ -2,10 +2,10 @@
 use Rattle.std.specs.Prelude.{ℕ, Option, List, map}
 use Rattle.std.specs.Option.{option_map}
 use Rattle.std.specs.Borrow.{Bor}
-use Rattle.m3_command_line.specs.declared.limits.Limits.{Limits}
-use Rattle.m3_command_line.specs.declared.words.Request.{Request}
-use Rattle.m3_command_line.specs.declared.words.Request.TheVariants.{Build, Run, Exec, Dump, Bench}
-use Rattle.m3_command_line.specs.declared.words.RunOptions.{RunOptions}
+use Rattle.m3c_words.specs.declared.limits.Limits.{Limits}
+use Rattle.m3c_words.specs.declared.words.Request.{Request}
+use Rattle.m3c_words.specs.declared.words.Request.TheVariants.{Build, Run, Exec, Dump, Bench}
+use Rattle.m3c_words.specs.declared.words.RunOptions.{RunOptions}
 
 -- points that a run may pass, words of one half of its heap and of each stack, and threads that have not ended
 pub record Bounds : Type 0 where

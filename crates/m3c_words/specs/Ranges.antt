@@ -1,6 +1,6 @@
 -- The limits of a run without options, and those of `bench`.
 use Rattle.std.specs.Prelude.{ℕ, ◌≡◌}
-use Rattle.m3_command_line.specs.declared.limits.Limits.{Limits}
+use Rattle.m3c_words.specs.declared.limits.Limits.{Limits}
 
 -- points, words of one half of the heap, words of each stack, and threads
 abbrev pub AreLimits : ℕ → ℕ → ℕ → ℕ → Limits → Type 0

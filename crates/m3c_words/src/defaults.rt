@@ -1,5 +1,5 @@
 //! The limits where no option says others.
-ghost use Rattle.m3_command_line.specs.Ranges.{AreUsual, AreOfBench};
+ghost use Rattle.m3c_words.specs.Ranges.{AreUsual, AreOfBench};
 
 use crate::limits::Limits;
 

@@ -1,9 +1,9 @@
 //! The grammar of command lines, as `clap` takes it.
 ghost use Rattle.std.specs.Prelude.{[], ◌∷◌, IfOk};
 ghost use Rattle.clap.specs.Simple.{App};
-ghost use Rattle.m3_command_line.specs.Grammar.{build_command, command, exec_command, run_command};
-ghost use Rattle.m3_command_line.specs.Grammar.{file_words, grammar, option, run_options, word};
-ghost use Rattle.m3_command_line.specs.Built.{HasRule, ReadsBy, alone, with_rules};
+ghost use Rattle.m3c_words.specs.Grammar.{build_command, command, exec_command, run_command};
+ghost use Rattle.m3c_words.specs.Grammar.{file_words, grammar, option, run_options, word};
+ghost use Rattle.m3c_words.specs.Built.{HasRule, ReadsBy, alone, with_rules};
 
 use clap::{Arg, ArgAction, Command};
 use m3_base::NoMemory;

@@ -2,8 +2,8 @@
 ghost use Rattle.std.specs.Prelude.{◌≡◌, ◌≤◌, ◌==◌, IfSome, slice_index};
 ghost use Rattle.std.specs.Option.{option_map};
 ghost use Rattle.clap.specs.Walk.{first_of};
-ghost use Rattle.m3_command_line.specs.Orders.{bounds_of};
-ghost use Rattle.m3_command_line.specs.Asked.{bounds_in, limit_of, number_of, rows_in};
+ghost use Rattle.m3c_words.specs.Orders.{bounds_of};
+ghost use Rattle.m3c_words.specs.Asked.{bounds_in, limit_of, number_of, rows_in};
 
 use crate::limits::Limits;
 use clap::ArgMatches;

@@ -4,10 +4,10 @@ ghost use Rattle.std.specs.List.{list_all};
 ghost use Rattle.std.specs.Option.{option_map};
 ghost use Rattle.clap.specs.Walk.{first_of};
 ghost use Rattle.clap.specs.Values.{kind_of};
-ghost use Rattle.m3_command_line.specs.Orders.{name_of, options_of, order_of};
-ghost use Rattle.m3_command_line.specs.Asked.{asked, bench_in, build_in, dump_in, exec_in, run_in};
-ghost use Rattle.m3_command_line.specs.Asked.{files_in, given_name, is_named, most_files, word_in};
-ghost use Rattle.m3_command_line.specs.Asked.{options_in, order_in, rows_in};
+ghost use Rattle.m3c_words.specs.Orders.{name_of, options_of, order_of};
+ghost use Rattle.m3c_words.specs.Asked.{asked, bench_in, build_in, dump_in, exec_in, run_in};
+ghost use Rattle.m3c_words.specs.Asked.{files_in, given_name, is_named, most_files, word_in};
+ghost use Rattle.m3c_words.specs.Asked.{options_in, order_in, rows_in};
 
 use crate::grammar::whole_command;
 use crate::limits::Limits;

@@ -1,14 +1,14 @@
 use mir.Val.{to_z, of_z}
 use mir.Syntax.{w64}
 use Rattle.std.proofs.Common.{◌≡◌, None, Some, inl, inr, refl, sym, ap, ◌∙◌, rules}
-use Rattle.m3_grammar.specs.Expressions as g
-use Rattle.m3_grammar.specs.Expressions.{IsNots, IsSigns}
-use Rattle.m3_grammar.specs.Plain as plain
-use Rattle.m3_grammar.specs.Ranks.{whole, e2, e3, e6, e7, e8, next, rank_of}
-use Rattle.m3_cursor.proofs.Rests.{still, stays, follows_on}
-use Rattle.m3_phrases.specs.Spelled.{IndexesSpell, ActualsSpell}
-use Rattle.m3_phrases.proofs.Spelling.{same_rest, moved, empty_row, some_row, kept_spells, node_spells, node_typed, loosened, not_negated, one_not, nothing_negated, negated, unsigned, no_sign, one_sign, signed, Operated, unoperated, one_operand, operated, one_operation, Selecting, unselecting, one_selector, unselected, selected, passed_kept, passed_bound, name_alone, in_parentheses, sign_from, unselected_here, bound_by, unbound_here, named_by, unnamed_here, indexed_by, called_with, Indexing, one_index, indexes_go_on, indexes_end, Passing, one_actual, put_more, actuals_go_on, actuals_end, actuals_from, unpassed, number_of}
-use Rattle.m3_phrases.proofs.+expressions.Goals as goal
+use Rattle.m3_read_grammar.specs.Expressions as g
+use Rattle.m3_read_grammar.specs.Expressions.{IsNots, IsSigns}
+use Rattle.m3_read_grammar.specs.Plain as plain
+use Rattle.m3_read_grammar.specs.Ranks.{whole, e2, e3, e6, e7, e8, next, rank_of}
+use Rattle.m3_read_cursor.proofs.Rests.{still, stays, follows_on}
+use Rattle.m3_read_expressions.specs.Spelled.{IndexesSpell, ActualsSpell}
+use Rattle.m3_read_expressions.proofs.Spelling.{same_rest, moved, empty_row, some_row, kept_spells, node_spells, node_typed, loosened, not_negated, one_not, nothing_negated, negated, unsigned, no_sign, one_sign, signed, Operated, unoperated, one_operand, operated, one_operation, Selecting, unselecting, one_selector, unselected, selected, passed_kept, passed_bound, name_alone, in_parentheses, sign_from, unselected_here, bound_by, unbound_here, named_by, unnamed_here, indexed_by, called_with, Indexing, one_index, indexes_go_on, indexes_end, Passing, one_actual, put_more, actuals_go_on, actuals_end, actuals_from, unpassed, number_of}
+use Rattle.m3_read_expressions.proofs.+expressions.Goals as goal
 
 pub expressions::expression-returns-clause-reads : goal.expressions::expression-returns-clause-reads
 expressions::expression-returns-clause-reads t c =

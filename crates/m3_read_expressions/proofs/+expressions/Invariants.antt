@@ -1,10 +1,10 @@
 use Rattle.std.proofs.Common.{◌≡◌, None, length, ◌+◌, ◌*◌}
-use Rattle.m3_grammar.specs.Expressions.{IsNots, IsSigns}
-use Rattle.m3_cursor.specs.Readers.{Follows, Reads}
-use Rattle.m3_phrases.specs.Spelled.{ReadsOperations, ReadsSelectors}
-use Rattle.m3_phrases.proofs.Looseness.{looseness}
-use Rattle.m3_phrases.proofs.Begun.{IndexesBegun, ActualsBegun}
-use Rattle.m3_phrases.proofs.+expressions.Given as goal
+use Rattle.m3_read_grammar.specs.Expressions.{IsNots, IsSigns}
+use Rattle.m3_read_cursor.specs.Readers.{Follows, Reads}
+use Rattle.m3_read_expressions.specs.Spelled.{ReadsOperations, ReadsSelectors}
+use Rattle.m3_read_expressions.proofs.Looseness.{looseness}
+use Rattle.m3_read_expressions.proofs.Begun.{IndexesBegun, ActualsBegun}
+use Rattle.m3_read_expressions.proofs.+expressions.Given as goal
 
 abbrev pub decreases-expressions::expression : goal.decreases-expressions::expression
 decreases-expressions::expression l = 64 * l.room + 1

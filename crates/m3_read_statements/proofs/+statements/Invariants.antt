@@ -1,6 +1,6 @@
 use Rattle.std.proofs.Common.{length, ◌+◌, ◌*◌}
-use Rattle.m3_cursor.specs.Readers.{Follows}
-use Rattle.m3_statements.proofs.+statements.Given as goal
+use Rattle.m3_read_cursor.specs.Readers.{Follows}
+use Rattle.m3_read_statements.proofs.+statements.Given as goal
 
 abbrev pub decreases-blocks::block : goal.decreases-blocks::block
 decreases-blocks::block l = 16 * l.room + 0

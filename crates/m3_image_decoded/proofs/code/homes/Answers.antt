@@ -1,11 +1,11 @@
 use Rattle.std.proofs.Common.{◌≡◌, ℕ, List, [], ◌∷◌, length, Some, sym, ap, subst, arith, length-append}
 use Rattle.std.specs.List.{slice_get}
-use Rattle.m3_sections.specs.declared.procs.ProcPart.{ProcPart}
-use Rattle.m3_sections.specs.Ranges.{containing}
+use Rattle.m3_image_sections.specs.declared.procs.ProcPart.{ProcPart}
+use Rattle.m3_image_sections.specs.Ranges.{containing}
 use Rattle.m3_image.specs.Views.{image_view}
-use Rattle.m3_decoded.proofs.Lists.{all_more}
-use Rattle.m3_decoded.proofs.code.homes.Goals as goal
-use Rattle.m3_decoded.proofs.code.homes.Goals.{else-loop-n-test, then-loop-n-test+in_default}
+use Rattle.m3_image_decoded.proofs.Lists.{all_more}
+use Rattle.m3_image_decoded.proofs.code.homes.Goals as goal
+use Rattle.m3_image_decoded.proofs.code.homes.Goals.{else-loop-n-test, then-loop-n-test+in_default}
 
 pub loop-n-preserved : goal.loop-n-preserved
 loop-n-preserved c =

@@ -1,9 +1,9 @@
 use Rattle.std.proofs.Common.{◌≡◌, ℕ, Some, length}
 use Rattle.std.specs.List.{slice_get}
-use Rattle.m3_sections.specs.declared.procs.ProcPart.{ProcPart}
-use Rattle.m3_sections.specs.Ranges.{containing}
+use Rattle.m3_image_sections.specs.declared.procs.ProcPart.{ProcPart}
+use Rattle.m3_image_sections.specs.Ranges.{containing}
 use Rattle.m3_image.specs.Views.{image_view}
-use Rattle.m3_decoded.proofs.code.homes.Given as goal
+use Rattle.m3_image_decoded.proofs.code.homes.Given as goal
 
 abbrev pub invariant-loop-n : goal.invariant-loop-n
 invariant-loop-n l =

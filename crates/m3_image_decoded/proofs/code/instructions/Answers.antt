@@ -3,9 +3,9 @@ use Rattle.std.specs.List.{slice_get}
 use Rattle.m3_isa.specs.declared.instructions.Instr.{Instr}
 use Rattle.m3_isa.specs.Instructions.{IsInstruction}
 use Rattle.m3_image.specs.Views.{image_view}
-use Rattle.m3_decoded.proofs.Lists.{take_more, take_all, all_more, none_past}
-use Rattle.m3_decoded.proofs.code.instructions.Goals as goal
-use Rattle.m3_decoded.proofs.code.instructions.Goals.{else-loop-n-test, then-loop-n-test+in_default}
+use Rattle.m3_image_decoded.proofs.Lists.{take_more, take_all, all_more, none_past}
+use Rattle.m3_image_decoded.proofs.code.instructions.Goals as goal
+use Rattle.m3_image_decoded.proofs.code.instructions.Goals.{else-loop-n-test, then-loop-n-test+in_default}
 
 pub loop-n-preserved : goal.loop-n-preserved
 loop-n-preserved c =

@@ -1,11 +1,11 @@
 use Rattle.std.proofs.Common.{◌≡◌, ◌<◌, ℕ, length, map, sym, subst, arith, eq-eqb, inl, inr}
 use Rattle.std.proofs.lemmas.Bool.{cases_lt}
 use Rattle.std.proofs.lemmas.Bool.Decides.{nat_tests}
-use Rattle.m3_decoded.specs.declared.jumps.Jump.{Jump}
-use Rattle.m3_decoded.specs.Ancestors.{IsSubtype}
-use Rattle.m3_decoded.specs.ReadyTypes.{ready_type}
-use Rattle.m3_decoded.proofs.AncestorLemmas.{is_itself, above_only_itself, orphan, through_parent, at_parent, through_jump, at_jump}
-use Rattle.m3_decoded.proofs.jumps.is_subtype.Goals as goal
+use Rattle.m3_image_decoded.specs.declared.jumps.Jump.{Jump}
+use Rattle.m3_image_decoded.specs.Ancestors.{IsSubtype}
+use Rattle.m3_image_decoded.specs.ReadyTypes.{ready_type}
+use Rattle.m3_image_decoded.proofs.AncestorLemmas.{is_itself, above_only_itself, orphan, through_parent, at_parent, through_jump, at_jump}
+use Rattle.m3_image_decoded.proofs.jumps.is_subtype.Goals as goal
 
 pub loop-at-preserved-then-jump-wanted : goal.loop-at-preserved-then-jump-wanted
 loop-at-preserved-then-jump-wanted c =

@@ -1,7 +1,7 @@
 use Rattle.std.proofs.Common.{◌<◌, map, length}
-use Rattle.m3_decoded.specs.Ancestors.{IsSubtype}
-use Rattle.m3_decoded.specs.ReadyTypes.{ready_type}
-use Rattle.m3_decoded.proofs.jumps.is_subtype.Given as goal
+use Rattle.m3_image_decoded.specs.Ancestors.{IsSubtype}
+use Rattle.m3_image_decoded.specs.ReadyTypes.{ready_type}
+use Rattle.m3_image_decoded.proofs.jumps.is_subtype.Given as goal
 
 abbrev pub invariant-loop-at : goal.invariant-loop-at
 invariant-loop-at l =

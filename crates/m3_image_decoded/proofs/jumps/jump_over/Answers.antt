@@ -1,8 +1,8 @@
 use Rattle.std.proofs.Common.{◌<◌, length, map, slice_index_or, arith}
-use Rattle.m3_decoded.specs.declared.jumps.Jump.{Jump}
-use Rattle.m3_decoded.specs.ReadyTypes.{ready_type}
-use Rattle.m3_decoded.proofs.AncestorLemmas.{over_jump}
-use Rattle.m3_decoded.proofs.jumps.jump_over.Goals as goal
+use Rattle.m3_image_decoded.specs.declared.jumps.Jump.{Jump}
+use Rattle.m3_image_decoded.specs.ReadyTypes.{ready_type}
+use Rattle.m3_image_decoded.proofs.AncestorLemmas.{over_jump}
+use Rattle.m3_image_decoded.proofs.jumps.jump_over.Goals as goal
 
 pub returns-then-above-far : goal.returns-then-above-far
 returns-then-above-far c =

@@ -1,11 +1,11 @@
 use Rattle.std.proofs.Common.{◌≡◌, ◌+◌, List, [], ◌∷◌, ◌++◌, length, map, true, ◌∙◌, ap, subst, arith, length-append}
-use Rattle.m3_sections.specs.Forms.{types_fit_from}
+use Rattle.m3_image_sections.specs.Forms.{types_fit_from}
 use Rattle.m3_image.specs.Views.{image_view}
-use Rattle.m3_sections.specs.PartViews.{types_of, type_of}
-use Rattle.m3_decoded.specs.declared.types.ReadyType.{ReadyType}
-use Rattle.m3_decoded.specs.ReadyTypes.{ready_type}
-use Rattle.m3_decoded.proofs.TypeLemmas.{first_pointers, others_fit, map_more}
-use Rattle.m3_decoded.proofs.table.ready_types.Goals as goal
+use Rattle.m3_image_sections.specs.PartViews.{types_of, type_of}
+use Rattle.m3_image_decoded.specs.declared.types.ReadyType.{ReadyType}
+use Rattle.m3_image_decoded.specs.ReadyTypes.{ready_type}
+use Rattle.m3_image_decoded.proofs.TypeLemmas.{first_pointers, others_fit, map_more}
+use Rattle.m3_image_decoded.proofs.table.ready_types.Goals as goal
 
 pub of-requires-clause-rise : goal.of-requires-clause-rise
 of-requires-clause-rise c =

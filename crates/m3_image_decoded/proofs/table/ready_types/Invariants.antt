@@ -1,9 +1,9 @@
 use Rattle.std.proofs.Common.{◌≡◌, ◌++◌, map, length, true}
-use Rattle.m3_sections.specs.Forms.{types_fit_from}
+use Rattle.m3_image_sections.specs.Forms.{types_fit_from}
 use Rattle.m3_image.specs.Views.{image_view}
-use Rattle.m3_sections.specs.PartViews.{types_of}
-use Rattle.m3_decoded.specs.ReadyTypes.{ready_type}
-use Rattle.m3_decoded.proofs.table.ready_types.Given as goal
+use Rattle.m3_image_sections.specs.PartViews.{types_of}
+use Rattle.m3_image_decoded.specs.ReadyTypes.{ready_type}
+use Rattle.m3_image_decoded.proofs.table.ready_types.Given as goal
 
 abbrev pub invariant-loop-view : goal.invariant-loop-view
 invariant-loop-view l =

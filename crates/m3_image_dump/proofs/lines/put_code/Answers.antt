@@ -1,8 +1,8 @@
 use Rattle.std.proofs.Common.{rules, ◌≡◌, ◌++◌, ◌+◌, ◌-◌, ◌≤◌, ℕ, List, [], length, sym, subst, arith}
-use Rattle.m3_decoded.specs.Ready.{image_of}
-use Rattle.m3_dump.specs.Texts.{instruction_line, Adds, CodeText, no_code}
-use Rattle.m3_dump.proofs.CodeLemmas.{more_code, past_code, joined}
-use Rattle.m3_dump.proofs.lines.put_code.Goals as goal
+use Rattle.m3_image_decoded.specs.Ready.{image_of}
+use Rattle.m3_image_dump.specs.Texts.{instruction_line, Adds, CodeText, no_code}
+use Rattle.m3_image_dump.proofs.CodeLemmas.{more_code, past_code, joined}
+use Rattle.m3_image_dump.proofs.lines.put_code.Goals as goal
 
 pub code-init : goal.code-init
 code-init c =

@@ -1,14 +1,14 @@
 use Rattle.std.proofs.Common.{rules, ◌≡◌, ◌++◌, ◌+◌, ℕ, List, [], ◌∷◌, length, length-append, None, refl, sym, subst, arith}
 use Rattle.std.specs.Prelude.{IsTrue}
 use Rattle.std.proofs.lemmas.List.{append_assoc}
-use Rattle.m3_sections.specs.declared.procs.ProcPart.{ProcPart}
-use Rattle.m3_sections.specs.PartViews.{procs_of}
-use Rattle.m3_sections.specs.Forms.{procs_fit}
+use Rattle.m3_image_sections.specs.declared.procs.ProcPart.{ProcPart}
+use Rattle.m3_image_sections.specs.PartViews.{procs_of}
+use Rattle.m3_image_sections.specs.Forms.{procs_fit}
 use Rattle.m3_image.specs.Programs.{fault_of}
-use Rattle.m3_decoded.specs.Ready.{image_of}
-use Rattle.m3_dump.specs.Texts.{proc_line, Adds, ProcsText, no_procs, procs}
-use Rattle.m3_dump.proofs.CodeLemmas.{ends_in_code, joined}
-use Rattle.m3_dump.proofs.lines.put_procs.Goals as goal
+use Rattle.m3_image_decoded.specs.Ready.{image_of}
+use Rattle.m3_image_dump.specs.Texts.{proc_line, Adds, ProcsText, no_procs, procs}
+use Rattle.m3_image_dump.proofs.CodeLemmas.{ends_in_code, joined}
+use Rattle.m3_image_dump.proofs.lines.put_procs.Goals as goal
 
 pub procs-init : goal.procs-init
 procs-init c = ([], search rules, refl, record { part = []; added = search rules; is = no_procs })

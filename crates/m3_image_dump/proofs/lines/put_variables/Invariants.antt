@@ -1,9 +1,9 @@
 use Rattle.std.proofs.Common.{◌≡◌, ◌++◌}
 use Rattle.std.specs.List.{flat_map}
-use Rattle.m3_sections.specs.PartViews.{variables_list}
-use Rattle.m3_decoded.specs.Ready.{image_of}
-use Rattle.m3_dump.specs.Texts.{variable_line}
-use Rattle.m3_dump.proofs.lines.put_variables.Given as goal
+use Rattle.m3_image_sections.specs.PartViews.{variables_list}
+use Rattle.m3_image_decoded.specs.Ready.{image_of}
+use Rattle.m3_image_dump.specs.Texts.{variable_line}
+use Rattle.m3_image_dump.proofs.lines.put_variables.Given as goal
 
 abbrev pub invariant-variables : goal.invariant-variables
 invariant-variables l =

@@ -1,7 +1,7 @@
 use Rattle.std.proofs.Common.{subst}
 use Rattle.std.specs.List.Sorted.{IsPermutation}
 use Rattle.std.proofs.lemmas.List.Sorted.{IsNonDecreasingBy-from_sort}
-use Rattle.m3_dump.proofs.rows.in_order.Goals as goal
+use Rattle.m3_image_dump.proofs.rows.in_order.Goals as goal
 
 pub returns : goal.returns
 returns c = record {

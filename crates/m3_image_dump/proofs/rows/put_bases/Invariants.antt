@@ -1,8 +1,8 @@
 use Rattle.std.proofs.Common.{◌≡◌, ◌++◌}
 use Rattle.std.specs.List.{flat_map}
 use Rattle.m3_tables.specs.Views.{numbers_of}
-use Rattle.m3_dump.specs.Texts.{place_text}
-use Rattle.m3_dump.proofs.rows.put_bases.Given as goal
+use Rattle.m3_image_dump.specs.Texts.{place_text}
+use Rattle.m3_image_dump.proofs.rows.put_bases.Given as goal
 
 abbrev pub invariant-bases : goal.invariant-bases
 invariant-bases l =

@@ -2,9 +2,9 @@ use Rattle.std.proofs.Common.{rules, ◌≡◌, ◌++◌, List, [], length, subs
 use Rattle.std.proofs.lemmas.Result.{on_ok_weaker}
 use Rattle.m3_tables.specs.Tables.{section_of_row, number_of_row}
 use Rattle.m3_tables.specs.Sections.{contents_in, tidy_list}
-use Rattle.m3_decoded.specs.Ready.{image_of}
-use Rattle.m3_dump.specs.Texts.{row_line, InOrder, Adds, no_row, row}
-use Rattle.m3_dump.proofs.rows.put_row_at.Goals as goal
+use Rattle.m3_image_decoded.specs.Ready.{image_of}
+use Rattle.m3_image_dump.specs.Texts.{row_line, InOrder, Adds, no_row, row}
+use Rattle.m3_image_dump.proofs.rows.put_row_at.Goals as goal
 
 pub returns-in_default : goal.returns-in_default
 returns-in_default c = record { part = []; added = search rules; is = no_row c.in_default.ensures.none }

@@ -2,9 +2,9 @@ use Rattle.std.proofs.Common.{◌≡◌, ℕ, ◌*◌, ◌/◌, length, sym, ap,
 use Rattle.std.specs.Prelude.{is_some}
 use Rattle.std.proofs.lemmas.List.{take_rest}
 use Rattle.m3_isa.specs.CodeBytes.{instruction_in}
-use Rattle.m3_sections.specs.Reading.{instruction_at}
-use Rattle.m3_sections.proofs.FirstLemmas.{first_zero, first_stop, first_more}
-use Rattle.m3_sections.proofs.code.first_bad.Goals as goal
+use Rattle.m3_image_sections.specs.Reading.{instruction_at}
+use Rattle.m3_image_sections.proofs.FirstLemmas.{first_zero, first_stop, first_more}
+use Rattle.m3_image_sections.proofs.code.first_bad.Goals as goal
 
 pub loop-n-init : goal.loop-n-init
 loop-n-init c = first_zero (λ k. is_some (instruction_at c.args.section.now k))

@@ -1,6 +1,6 @@
-use Rattle.m3_sections.specs.Fields.{past_many, text_at}
-use Rattle.m3_sections.proofs.ListLemmas.{past_step, past_stop, past_end}
-use Rattle.m3_sections.proofs.lists.past_names.Goals as goal
+use Rattle.m3_image_sections.specs.Fields.{past_many, text_at}
+use Rattle.m3_image_sections.proofs.ListLemmas.{past_step, past_stop, past_end}
+use Rattle.m3_image_sections.proofs.lists.past_names.Goals as goal
 
 pub returns-in_err-after : goal.returns-in_err-after
 returns-in_err-after c =

@@ -1,6 +1,6 @@
 use Rattle.std.proofs.Common.{◌≡◌, ◌++◌, length, take}
 use Rattle.std.specs.List.{flat_map}
-use Rattle.m3_table_writer.specs.Writing.{word_bytes}
+use Rattle.m3_tables_writer.specs.Writing.{word_bytes}
 use Rattle.m3_image_writer.specs.Fields.{long_bytes}
 use Rattle.m3_image_writer.proofs.sections.put_constants.Given as goal
 

@@ -1,6 +1,6 @@
 use Rattle.std.proofs.Common.{arith}
 use Rattle.std.proofs.lemmas.Grind.{common_steps}
-use Rattle.m3_sections.specs.Parts.{pair_in}
+use Rattle.m3_image_sections.specs.Parts.{pair_in}
 use Rattle.m3_image_writer.specs.Fields.{place_bytes}
 use Rattle.m3_image_writer.specs.Again.{ReadsFixed}
 use Rattle.m3_image_writer.proofs.Joined.{all_more_at, all_told}

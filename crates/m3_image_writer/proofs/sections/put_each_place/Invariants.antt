@@ -1,6 +1,6 @@
 use Rattle.std.proofs.Common.{◌≡◌, ◌++◌, take}
 use Rattle.std.specs.List.{flat_map, AllByRecursion}
-use Rattle.m3_sections.specs.Parts.{pair_in}
+use Rattle.m3_image_sections.specs.Parts.{pair_in}
 use Rattle.m3_image_writer.specs.Fields.{place_bytes}
 use Rattle.m3_image_writer.specs.Again.{ReadsFixed}
 use Rattle.m3_image_writer.proofs.sections.put_each_place.Given as goal

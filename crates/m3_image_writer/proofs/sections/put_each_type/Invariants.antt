@@ -1,6 +1,6 @@
 use Rattle.std.proofs.Common.{◌≡◌, ◌++◌, take}
 use Rattle.std.specs.List.{flat_map, AllByRecursion}
-use Rattle.m3_sections.specs.Parts.{type_at}
+use Rattle.m3_image_sections.specs.Parts.{type_at}
 use Rattle.m3_image_writer.specs.Sections.{type_bytes}
 use Rattle.m3_image_writer.specs.Views.{cell_type}
 use Rattle.m3_image_writer.specs.Again.{Reads}

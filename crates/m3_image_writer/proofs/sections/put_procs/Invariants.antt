@@ -1,6 +1,6 @@
 use Rattle.std.proofs.Common.{◌≡◌, take}
 use Rattle.std.specs.List.{flat_map, AllByRecursion}
-use Rattle.m3_sections.specs.Parts.{proc_in}
+use Rattle.m3_image_sections.specs.Parts.{proc_in}
 use Rattle.m3_image_writer.specs.Sections.{proc_bytes}
 use Rattle.m3_image_writer.specs.Again.{ReadsFixed}
 use Rattle.m3_image_writer.proofs.sections.put_procs.Given as goal

@@ -1,6 +1,6 @@
 use Rattle.std.proofs.Common.{arith}
 use Rattle.std.proofs.lemmas.Grind.{common_steps}
-use Rattle.m3_sections.specs.Parts.{variable_at}
+use Rattle.m3_image_sections.specs.Parts.{variable_at}
 use Rattle.m3_image_writer.specs.Variables.{var_bytes}
 use Rattle.m3_image_writer.specs.Again.{Reads}
 use Rattle.m3_image_writer.specs.Views.{variable_of}

@@ -1,6 +1,6 @@
 use Rattle.std.proofs.Common.{◌≡◌, ◌++◌, take}
 use Rattle.std.specs.List.{flat_map, AllByRecursion}
-use Rattle.m3_sections.specs.Parts.{variable_at}
+use Rattle.m3_image_sections.specs.Parts.{variable_at}
 use Rattle.m3_image_writer.specs.Variables.{var_bytes}
 use Rattle.m3_image_writer.specs.Views.{variable_of}
 use Rattle.m3_image_writer.specs.Again.{Reads}

@@ -1,6 +1,6 @@
 use Rattle.std.proofs.Common.{◌≡◌, ◌++◌, take}
 use Rattle.std.specs.List.{flat_map, AllByRecursion}
-use Rattle.m3_sections.specs.Parts.{pair_in}
+use Rattle.m3_image_sections.specs.Parts.{pair_in}
 use Rattle.m3_image_writer.specs.Variables.{span_bytes}
 use Rattle.m3_image_writer.specs.Views.{span_of}
 use Rattle.m3_image_writer.specs.Again.{ReadsFixed}

@@ -1,5 +1,5 @@
 use Rattle.std.proofs.Common.{sym, subst, ◌+◌, length}
-use Rattle.m3_sizes.specs.Sizes.{HasSize}
+use Rattle.m3_types_sizes.specs.Sizes.{HasSize}
 use Rattle.m3_layout.specs.Depths.{EndsWithin, line_of, line_words}
 use Rattle.m3_layout.proofs.Choosing.{target_chosen, open_chosen, object_chosen, told}
 use Rattle.m3_layout.proofs.cells.has_cell.Goals as goal

@@ -1,5 +1,5 @@
 use Rattle.std.proofs.Common.{ℕ, ap, sym, ◌∙◌, subst}
-use Rattle.m3_sizes.specs.Sizes.{HasSize}
+use Rattle.m3_types_sizes.specs.Sizes.{HasSize}
 use Rattle.m3_layout.specs.Depths.{open_dims, value_cell, plain_cell}
 use Rattle.m3_layout.proofs.Opening.{target_plain, target_open}
 use Rattle.m3_layout.proofs.cells.target_shape.Goals as goal

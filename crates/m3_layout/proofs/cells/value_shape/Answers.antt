@@ -1,5 +1,5 @@
 use Rattle.std.proofs.Common.{◌≡◌, ℕ, ◌+◌, ◌++◌, ◌≤◌, List, length, ap, sym, ◌∙◌, subst, arith}
-use Rattle.m3_sizes.specs.Sizes.{most_words}
+use Rattle.m3_types_sizes.specs.Sizes.{most_words}
 use Rattle.m3_layout.specs.Pointers.{RisesWithin}
 use Rattle.m3_layout.specs.Cells.{Layout}
 use Rattle.m3_layout.specs.Depths.{value_words, value_pointers}

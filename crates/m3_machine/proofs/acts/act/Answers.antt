@@ -2,12 +2,12 @@ use Rattle.std.specs.Prelude.{ℕ, ◌≡◌, List, slice_get}
 use Rattle.std.proofs.Common.{sym, ap, subst, ◌∙◌}
 use Rattle.m3_isa.specs.declared.instructions.Instr.{Instr}
 use Rattle.m3_isa.specs.declared.registers.Regs.{Regs}
-use Rattle.m3_strides.specs.Calls.{place_of}
-use Rattle.m3_strides.specs.State.{executed}
-use Rattle.m3_strides.specs.Progress.{became}
-use Rattle.m3_strides.specs.Steps.{Does}
+use Rattle.m3_run_meaning.specs.Calls.{place_of}
+use Rattle.m3_run_meaning.specs.State.{executed}
+use Rattle.m3_run_meaning.specs.Progress.{became}
+use Rattle.m3_run_meaning.specs.Steps.{Does}
 use Rattle.m3_machine.specs.Deeds.{MayAct}
-use Rattle.m3_new_cells.specs.Seen.{state_of, program_of, Took}
+use Rattle.m3_run_state.specs.Seen.{state_of, program_of, Took}
 use Rattle.m3_machine.proofs.ActsBy.{if_ok}
 use Rattle.m3_machine.proofs.acts.act.Goals as goal
 

@@ -1,13 +1,13 @@
 use Rattle.std.specs.Prelude.{[]}
 use Rattle.std.proofs.Common.{refl, subst}
 use Rattle.m3_isa.specs.declared.instructions.Op.TheVariants.{Put, Putn, Putc}
-use Rattle.m3_strides.specs.Act.{bytes_of}
-use Rattle.m3_strides.specs.Acts.{puts_text, puts_number, puts_byte}
-use Rattle.m3_strides.specs.Progress.{became}
-use Rattle.m3_strides.specs.State.{State, memory_of}
-use Rattle.m3_strides.specs.Steps.{Acts}
-use Rattle.m3_new_cells.specs.Seen.{state_of, program_of}
-use Rattle.m3_new_cells.proofs.TextBytes.{put_none}
+use Rattle.m3_run_meaning.specs.Act.{bytes_of}
+use Rattle.m3_run_meaning.specs.Acts.{puts_text, puts_number, puts_byte}
+use Rattle.m3_run_meaning.specs.Progress.{became}
+use Rattle.m3_run_meaning.specs.State.{State, memory_of}
+use Rattle.m3_run_meaning.specs.Steps.{Acts}
+use Rattle.m3_run_state.specs.Seen.{state_of, program_of}
+use Rattle.m3_run_state.proofs.TextBytes.{put_none}
 use Rattle.m3_machine.proofs.ActsBy.{acts_by, if_ok, counted, silent_of}
 use Rattle.m3_machine.proofs.acts.act_at.Goals as goal
 

@@ -6,12 +6,12 @@ use Rattle.m3_base.specs.declared.outcomes.Outcome.TheVariants.{Done}
 use Rattle.m3_isa.specs.Instructions.{is_point}
 use Rattle.m3_isa.specs.Effects.{reg}
 use Rattle.m3_isa.specs.declared.instructions.Op.TheVariants.{Call, Callr, Callm, Ret, Meth, Subt, New, Newo, Point, Fault, Unc, Endp, Endt, Cat, Tchr, Tsub, Getc, Eof, Self_, Fork}
-use Rattle.m3_strides.specs.declared.near.Place.{Place}
-use Rattle.m3_strides.specs.Act.{bytes_of}
-use Rattle.m3_strides.specs.Calls.{stack_of, place_of, calls, number_before, method_called}
-use Rattle.m3_strides.specs.Progress.{Ends, Follows, became}
-use Rattle.m3_strides.specs.State.{memory_of, can_set}
-use Rattle.m3_new_cells.specs.Seen.{state_of, program_of}
+use Rattle.m3_run_meaning.specs.declared.near.Place.{Place}
+use Rattle.m3_run_meaning.specs.Act.{bytes_of}
+use Rattle.m3_run_meaning.specs.Calls.{stack_of, place_of, calls, number_before, method_called}
+use Rattle.m3_run_meaning.specs.Progress.{Ends, Follows, became}
+use Rattle.m3_run_meaning.specs.State.{memory_of, can_set}
+use Rattle.m3_run_state.specs.Seen.{state_of, program_of}
 use Rattle.m3_machine.proofs.ActsBy.{acts_by, acts_rest, no_bytes_of_call, no_bytes_of_return, no_bytes_of_method, no_bytes_of_test, no_bytes_of_self, no_bytes_of_fault, no_bytes_of_get, no_bytes_of_uncaught}
 use Rattle.m3_machine.proofs.acts.act_silently.Goals as goal
 

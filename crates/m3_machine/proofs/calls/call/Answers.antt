@@ -3,14 +3,14 @@ use Rattle.std.proofs.Common.{refl, ◌∙◌, sym, ap, subst}
 use Rattle.std.proofs.Math.Logic.{∥∥₁_elim, ∥∥₁_prop}
 use Rattle.m3_base.specs.declared.outcomes.Outcome.{Outcome}
 use Rattle.m3_threads.specs.Spaces.{held}
-use Rattle.m3_strides.specs.declared.near.Stack.{Stack}
-use Rattle.m3_strides.specs.declared.near.Place.{Place}
-use Rattle.m3_memory.specs.Addresses.{outside_of}
-use Rattle.m3_strides.specs.State.{State, HasOtherWords, memory_of, can_set}
-use Rattle.m3_strides.specs.Progress.{Follows, became}
-use Rattle.m3_strides.specs.Calls.{stack_of, place_of, entering, framed, calls}
-use Rattle.m3_new_cells.specs.Seen.{state_of, program_of}
-use Rattle.m3_memory.proofs.Keeping.{still-counted, still_found}
+use Rattle.m3_run_meaning.specs.declared.near.Stack.{Stack}
+use Rattle.m3_run_meaning.specs.declared.near.Place.{Place}
+use Rattle.m3_run_memory.specs.Addresses.{outside_of}
+use Rattle.m3_run_meaning.specs.State.{State, HasOtherWords, memory_of, can_set}
+use Rattle.m3_run_meaning.specs.Progress.{Follows, became}
+use Rattle.m3_run_meaning.specs.Calls.{stack_of, place_of, entering, framed, calls}
+use Rattle.m3_run_state.specs.Seen.{state_of, program_of}
+use Rattle.m3_run_memory.proofs.Keeping.{still-counted, still_found}
 use Rattle.m3_machine.proofs.Acting.{called}
 use Rattle.m3_machine.proofs.calls.call.Goals as goal
 

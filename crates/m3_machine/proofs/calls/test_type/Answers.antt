@@ -4,11 +4,11 @@ use Rattle.std.proofs.Common.{refl, ap, subst, ◌∙◌, rules}
 use Rattle.m3_base.specs.declared.outcomes.Outcome.{Outcome}
 use Rattle.m3_isa.specs.Arithmetic.{flag}
 use Rattle.m3_isa.specs.Effects.{reg, answered}
-use Rattle.m3_strides.specs.Act.{Proceeds, Stops}
-use Rattle.m3_strides.specs.Progress.{Goes as Goes_on}
-use Rattle.m3_strides.specs.State.{memory_of, with_regs}
-use Rattle.m3_strides.specs.Calls.{TellsType, kind_at}
-use Rattle.m3_new_cells.specs.Seen.{state_of, program_of}
+use Rattle.m3_run_meaning.specs.Act.{Proceeds, Stops}
+use Rattle.m3_run_meaning.specs.Progress.{Goes as Goes_on}
+use Rattle.m3_run_meaning.specs.State.{memory_of, with_regs}
+use Rattle.m3_run_meaning.specs.Calls.{TellsType, kind_at}
+use Rattle.m3_run_state.specs.Seen.{state_of, program_of}
 use Rattle.m3_machine.proofs.calls.test_type.Goals as goal
 
 pub returns-in-Ok-clause-tests : goal.returns-in-Ok-clause-tests

@@ -1,10 +1,10 @@
 use Rattle.std.specs.Prelude.{◌≡◌, nat_le, if◌then◌else◌, Bool, true, length, slice_index_or}
 use Rattle.std.proofs.Common.{sym, subst, ◌∙◌, rules}
 use Rattle.m3_isa.specs.Effects.{answered, jumped}
-use Rattle.m3_strides.specs.Act.{Proceeds, Takes}
-use Rattle.m3_strides.specs.Progress.{Goes as Goes_on, Follows, became}
-use Rattle.m3_strides.specs.State.{with_regs}
-use Rattle.m3_new_cells.specs.Seen.{state_of, program_of}
+use Rattle.m3_run_meaning.specs.Act.{Proceeds, Takes}
+use Rattle.m3_run_meaning.specs.Progress.{Goes as Goes_on, Follows, became}
+use Rattle.m3_run_meaning.specs.State.{with_regs}
+use Rattle.m3_run_state.specs.Seen.{state_of, program_of}
 use Rattle.m3_machine.proofs.inputs.get_byte.Goals as goal
 
 pub returns-then-is_at_end-clause-gets : goal.returns-then-is_at_end-clause-gets

@@ -1,13 +1,13 @@
 use Rattle.std.specs.Prelude.{ℕ, Option}
 use Rattle.std.proofs.Common.{ap, subst}
-use Rattle.m3_strides.specs.declared.progress.Progress.{Progress as Answer}
-use Rattle.m3_strides.specs.declared.near.Stack.{Stack}
-use Rattle.m3_strides.specs.Act.{Proceeds, loading}
-use Rattle.m3_strides.specs.Progress.{Follows, became}
+use Rattle.m3_run_meaning.specs.declared.progress.Progress.{Progress as Answer}
+use Rattle.m3_run_meaning.specs.declared.near.Stack.{Stack}
+use Rattle.m3_run_meaning.specs.Act.{Proceeds, loading}
+use Rattle.m3_run_meaning.specs.Progress.{Follows, became}
 use Rattle.m3_isa.specs.Effects.{answered}
-use Rattle.m3_strides.specs.State.{memory_of}
-use Rattle.m3_strides.specs.Acts.{tells_self}
-use Rattle.m3_new_cells.specs.Seen.{state_of, program_of}
+use Rattle.m3_run_meaning.specs.State.{memory_of}
+use Rattle.m3_run_meaning.specs.Acts.{tells_self}
+use Rattle.m3_run_state.specs.Seen.{state_of, program_of}
 use Rattle.m3_machine.proofs.inputs.tell_self.Goals as goal
 
 pub returns-in-None-clause-tells : goal.returns-in-None-clause-tells

@@ -1,7 +1,7 @@
 use Rattle.std.specs.Prelude.{Bool, Some, None}
 use Rattle.std.proofs.Common.{sym, subst}
-use Rattle.m3_strides.specs.Points.{Collected_if, left, made, stuck}
-use Rattle.m3_new_cells.specs.Seen.{state_of, program_of}
+use Rattle.m3_run_meaning.specs.Points.{Collected_if, left, made, stuck}
+use Rattle.m3_run_state.specs.Seen.{state_of, program_of}
 use Rattle.m3_machine.proofs.points.collect_if.Goals as goal
 
 pub returns-then-asked-clause-good : goal.returns-then-asked-clause-good

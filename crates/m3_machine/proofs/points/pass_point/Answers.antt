@@ -1,8 +1,8 @@
 use Rattle.std.specs.Prelude.{ℕ, ◌≡◌, ◌<◌, ◌^◌}
 use Rattle.std.proofs.Common.{ap, rules, arith}
-use Rattle.m3_strides.specs.State.{State}
-use Rattle.m3_strides.specs.Points.{nobody, passed}
-use Rattle.m3_new_cells.specs.Seen.{Rest, state_of, program_of}
+use Rattle.m3_run_meaning.specs.State.{State}
+use Rattle.m3_run_meaning.specs.Points.{nobody, passed}
+use Rattle.m3_run_state.specs.Seen.{Rest, state_of, program_of}
 use Rattle.m3_machine.proofs.Passing.{chooses, traps_there, leaves_nobody}
 use Rattle.m3_machine.proofs.points.pass_point.Goals as goal
 

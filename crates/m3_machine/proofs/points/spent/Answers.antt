@@ -1,4 +1,4 @@
-use Rattle.m3_strides.specs.Points.{deadlock, points_used}
+use Rattle.m3_run_meaning.specs.Points.{deadlock, points_used}
 use Rattle.m3_machine.proofs.points.spent.Goals as goal
 
 pub returns-then-may_go_on : goal.returns-then-may_go_on

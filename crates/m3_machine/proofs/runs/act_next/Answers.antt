@@ -1,10 +1,10 @@
 use Rattle.std.specs.Prelude.{ℕ, ◌+◌, List, Some}
 use Rattle.std.proofs.Common.{refl, sym, subst}
-use Rattle.m3_sections.specs.Parts.{Program}
-use Rattle.m3_strides.specs.Progress.{became}
-use Rattle.m3_strides.specs.State.{executed}
-use Rattle.m3_strides.specs.Steps.{Does}
-use Rattle.m3_new_cells.specs.Seen.{state_of, program_of}
+use Rattle.m3_image_sections.specs.Parts.{Program}
+use Rattle.m3_run_meaning.specs.Progress.{became}
+use Rattle.m3_run_meaning.specs.State.{executed}
+use Rattle.m3_run_meaning.specs.Steps.{Does}
+use Rattle.m3_run_state.specs.Seen.{state_of, program_of}
 use Rattle.m3_machine.specs.declared.runs.Turn.{Turn}
 use Rattle.m3_machine.proofs.Settling.{same_code}
 use Rattle.m3_machine.proofs.Taking.{may_act, few_executed, acted}

@@ -1,12 +1,12 @@
 use Rattle.std.specs.Prelude.{◌≡◌, ◌≤◌, ◌+◌, ◌-◌, []}
 use Rattle.std.proofs.Common.{sym, ap, subst, ◌∙◌, arith}
 use Rattle.std.proofs.Math.Logic.{∥∥₁_elim, ∥∥₁_prop}
-use Rattle.m3_sections.specs.Parts.{Program}
-use Rattle.m3_strides.specs.State.{State}
-use Rattle.m3_strides.specs.Runs.{turn_limit}
-use Rattle.m3_strides.specs.declared.halts.Halt.TheVariants.{Left, Other}
+use Rattle.m3_image_sections.specs.Parts.{Program}
+use Rattle.m3_run_meaning.specs.State.{State}
+use Rattle.m3_run_meaning.specs.Runs.{turn_limit}
+use Rattle.m3_run_loop.specs.declared.halts.Halt.TheVariants.{Left, Other}
 use Rattle.m3_machine.specs.declared.runs.Turn.{Turn}
-use Rattle.m3_new_cells.specs.Seen.{Rest, state_of, program_of}
+use Rattle.m3_run_state.specs.Seen.{Rest, state_of, program_of}
 use Rattle.m3_machine.specs.Turns.{Between, IsCourse}
 use Rattle.m3_machine.proofs.Rolling.{track, after, after_is, after_points, after_depth, far_from, far_bounded, far_to, past_code, at_regs, with_counts, NextIs, halted_by}
 use Rattle.m3_machine.proofs.runs.go_far.Goals as goal

@@ -1,6 +1,6 @@
 use Rattle.std.proofs.Common.{sym, ap, subst, ◌∙◌, arith}
-use Rattle.m3_strides.specs.declared.progress.Progress.{Progress as Answer}
-use Rattle.m3_new_cells.specs.Seen.{Rest}
+use Rattle.m3_run_meaning.specs.declared.progress.Progress.{Progress as Answer}
+use Rattle.m3_run_state.specs.Seen.{Rest}
 use Rattle.m3_machine.specs.Turns.{Comes_to}
 use Rattle.m3_machine.proofs.Taking.{known_still}
 use Rattle.m3_machine.proofs.Rolling.{stopped_before}

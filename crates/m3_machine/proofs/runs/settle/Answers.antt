@@ -1,10 +1,10 @@
 use Rattle.std.specs.Prelude.{ℕ, ◌≡◌, ◌≤◌, ◌<◌, false, None, Some, slice_get}
 use Rattle.std.proofs.Common.{sym, ap, subst, ◌∙◌, arith}
 use Rattle.m3_isa.specs.Instructions.{is_point}
-use Rattle.m3_sections.specs.Parts.{Program}
-use Rattle.m3_strides.specs.declared.progress.Progress.{Progress as Answer}
-use Rattle.m3_strides.specs.Runs.{turn_limit}
-use Rattle.m3_new_cells.specs.Seen.{state_of, program_of}
+use Rattle.m3_image_sections.specs.Parts.{Program}
+use Rattle.m3_run_meaning.specs.declared.progress.Progress.{Progress as Answer}
+use Rattle.m3_run_meaning.specs.Runs.{turn_limit}
+use Rattle.m3_run_state.specs.Seen.{state_of, program_of}
 use Rattle.m3_machine.specs.Turns.{Comes_to}
 use Rattle.m3_machine.proofs.Settling.{same_code, leaves, lasts, goes_to_act}
 use Rattle.m3_machine.proofs.runs.settle.Goals as goal

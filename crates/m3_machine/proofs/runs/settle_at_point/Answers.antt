@@ -1,7 +1,7 @@
 use Rattle.std.specs.Prelude.{◌<◌, ◌^◌}
 use Rattle.std.proofs.Common.{refl, ap, arith}
-use Rattle.m3_new_cells.specs.Seen.{Rest, state_of}
-use Rattle.m3_strides.specs.Runs.{stands}
+use Rattle.m3_run_state.specs.Seen.{Rest, state_of}
+use Rattle.m3_run_meaning.specs.Runs.{stands}
 use Rattle.m3_machine.proofs.Settling.{comes_to_rest, comes_past, past_is}
 use Rattle.m3_machine.proofs.runs.settle_at_point.Goals as goal
 

@@ -1,8 +1,8 @@
 use Rattle.std.specs.Prelude.{◌≡◌, ◌++◌}
 use Rattle.std.proofs.Common.{ap, subst, ◌∙◌, arith, rules}
-use Rattle.m3_strides.specs.declared.progress.Progress.{Progress as Answer}
-use Rattle.m3_strides.specs.declared.progress.Progress.TheVariants.{Goes}
-use Rattle.m3_new_cells.specs.Seen.{Rest}
+use Rattle.m3_run_meaning.specs.declared.progress.Progress.{Progress as Answer}
+use Rattle.m3_run_meaning.specs.declared.progress.Progress.TheVariants.{Goes}
+use Rattle.m3_run_state.specs.Seen.{Rest}
 use Rattle.m3_machine.specs.Turns.{and_put, Comes_to, Came_to}
 use Rattle.m3_machine.proofs.Taking.{known_still, known_put, took_more, came_more, came_so}
 use Rattle.m3_machine.proofs.runs.take_turn.Goals as goal

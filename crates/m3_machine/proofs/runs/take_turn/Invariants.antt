@@ -1,8 +1,8 @@
 use Rattle.std.specs.Prelude.{ℕ, ◌≡◌, ◌≤◌, List}
-use Rattle.m3_sections.specs.Parts.{Program}
-use Rattle.m3_strides.specs.State.{State}
-use Rattle.m3_strides.specs.Leading.{Track}
-use Rattle.m3_new_cells.specs.Seen.{rest_of, Took}
+use Rattle.m3_image_sections.specs.Parts.{Program}
+use Rattle.m3_run_meaning.specs.State.{State}
+use Rattle.m3_run_loop.specs.Leading.{Track}
+use Rattle.m3_run_state.specs.Seen.{rest_of, Took}
 use Rattle.m3_machine.specs.Turns.{to_come, and_put, Known, Acts_next, Came_to}
 use Rattle.m3_machine.proofs.runs.take_turn.Given as goal
 

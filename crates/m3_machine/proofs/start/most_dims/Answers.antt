@@ -1,5 +1,5 @@
 use Rattle.std.proofs.Common.{arith}
-use Rattle.m3_sections.specs.PartViews.{types_of, type_of}
+use Rattle.m3_image_sections.specs.PartViews.{types_of, type_of}
 use Rattle.m3_machine.proofs.Images.{still_ahead}
 use Rattle.m3_machine.proofs.start.most_dims.Goals as goal
 

@@ -1,7 +1,7 @@
 use Rattle.std.specs.Prelude.{ℕ, ◌≡◌, Some, slice_get}
 use Rattle.m3_image.specs.Views.{image_view}
-use Rattle.m3_sections.specs.Parts.{CellType}
-use Rattle.m3_sections.specs.PartViews.{types_of}
+use Rattle.m3_image_sections.specs.Parts.{CellType}
+use Rattle.m3_image_sections.specs.PartViews.{types_of}
 use Rattle.m3_machine.proofs.Images.{IsAhead}
 use Rattle.m3_machine.proofs.start.most_dims.Given as goal
 

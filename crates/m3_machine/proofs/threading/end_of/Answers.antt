@@ -1,6 +1,6 @@
 use Rattle.std.specs.Prelude.{length}
 use Rattle.m3_threads.specs.All.{thread_named}
-use Rattle.m3_memory.specs.Addresses.{outside_of, settable_of}
+use Rattle.m3_run_memory.specs.Addresses.{outside_of, settable_of}
 use Rattle.m3_machine.proofs.ThreadActs.{by_op, is_there, uncounted}
 use Rattle.m3_machine.proofs.threading.end_of.Goals as goal
 

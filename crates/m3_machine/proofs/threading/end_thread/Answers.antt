@@ -1,7 +1,7 @@
 use Rattle.std.proofs.Common.{ap}
-use Rattle.m3_strides.specs.declared.progress.Progress.{Progress as Answer}
-use Rattle.m3_strides.specs.Progress.{became}
-use Rattle.m3_new_cells.specs.Seen.{state_of}
+use Rattle.m3_run_meaning.specs.declared.progress.Progress.{Progress as Answer}
+use Rattle.m3_run_meaning.specs.Progress.{became}
+use Rattle.m3_run_state.specs.Seen.{state_of}
 use Rattle.m3_machine.proofs.threading.end_thread.Goals as goal
 
 pub returns-clause-ends : goal.returns-clause-ends

@@ -1,8 +1,8 @@
 use Rattle.std.specs.Prelude.{ℕ, List, length}
 use Rattle.std.proofs.Common.{◌∙◌, arith, refl, subst}
 use Rattle.std.proofs.Math.Logic.{∥∥₁_elim, ∥∥₁_prop}
-use Rattle.m3_memory.specs.Addresses.{outside_of, settable_of}
-use Rattle.m3_strides.specs.OnThreads.{Acts_on_threads}
+use Rattle.m3_run_memory.specs.Addresses.{outside_of, settable_of}
+use Rattle.m3_run_meaning.specs.OnThreads.{Acts_on_threads}
 use Rattle.m3_machine.proofs.threading.end_with_threads.Goals as goal
 
 pub invariant_of-parts : goal.invariant_of-parts

@@ -1,7 +1,7 @@
 use Rattle.std.proofs.Common.{ap, ◌∙◌, sym}
-use Rattle.m3_sections.specs.Parts.{Image}
+use Rattle.m3_image_sections.specs.Parts.{Image}
 use Rattle.m3_image.specs.Programs.{fault_of}
-use Rattle.m3_decoded.specs.Ready.{image_of}
+use Rattle.m3_image_decoded.specs.Ready.{image_of}
 use Rattle.m3_machine.proofs.Images.{begins_at_points}
 use Rattle.m3_machine.proofs.whole.know_image.Goals as goal
 

@@ -1,9 +1,9 @@
 use Rattle.std.specs.Prelude.{◌≡◌, ◌≤◌, ◌<◌, ◌+◌, ◌-◌, ◌^◌, List, []}
 use Rattle.std.proofs.Common.{refl, sym, ap, subst, ◌∙◌, arith, rules}
 use Rattle.m3_base.specs.declared.outcomes.Entry.{Entry}
-use Rattle.m3_sections.specs.Parts.{Program}
-use Rattle.m3_strides.specs.Points.{Chooses, StopsAtPoint, first_entry, later_entries}
-use Rattle.m3_new_cells.specs.Seen.{Rest, state_of, program_of}
+use Rattle.m3_image_sections.specs.Parts.{Program}
+use Rattle.m3_run_meaning.specs.Points.{Chooses, StopsAtPoint, first_entry, later_entries}
+use Rattle.m3_run_state.specs.Seen.{Rest, state_of, program_of}
 use Rattle.m3_machine.specs.declared.runs.Turn.{Turn}
 use Rattle.m3_machine.proofs.Taking.{known_still, took_nothing}
 use Rattle.m3_machine.proofs.Turning.{beyond, goes_there, begins_turn, stops_here, turned_by, known_beyond}

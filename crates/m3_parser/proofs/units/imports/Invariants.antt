@@ -1,5 +1,5 @@
 use Rattle.std.proofs.Common.{length}
-use Rattle.m3_cursor.specs.Readers.{Follows}
+use Rattle.m3_read_cursor.specs.Readers.{Follows}
 use Rattle.m3_parser.proofs.units.imports.Given as goal
 
 abbrev pub invariant-imports : goal.invariant-imports

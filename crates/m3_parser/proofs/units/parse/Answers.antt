@@ -1,6 +1,6 @@
 use Rattle.std.proofs.Common.{sym, ◌∙◌}
-use Rattle.m3_cursor.proofs.Rests.{still, still_within}
-use Rattle.m3_cursor.proofs.PlaceLaws.{all_left}
+use Rattle.m3_read_cursor.proofs.Rests.{still, still_within}
+use Rattle.m3_read_cursor.proofs.PlaceLaws.{all_left}
 use Rattle.m3_parser.proofs.units.parse.Goals as goal
 
 pub returns-clause-places : goal.returns-clause-places

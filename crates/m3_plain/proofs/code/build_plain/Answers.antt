@@ -1,9 +1,9 @@
 use Rattle.std.proofs.Common.{arith, ap, sym, subst}
-use Rattle.m3_build.specs.Terms.{terms_of, all_nodes}
-use Rattle.m3_build.specs.Code.{body_code, puts_lines}
-use Rattle.m3_build.proofs.Building.{rest_terms, next_code, next_lines, room_for, no_terms, last_code, last_lines, all_integers, same_puts}
-use Rattle.m3_build.proofs.Bodies.{body_puts, AllIntegers}
-use Rattle.m3_build.proofs.code.build_plain.Goals as goal
+use Rattle.m3_plain.specs.Terms.{terms_of, all_nodes}
+use Rattle.m3_plain.specs.Code.{body_code, puts_lines}
+use Rattle.m3_plain.proofs.Building.{rest_terms, next_code, next_lines, room_for, no_terms, last_code, last_lines, all_integers, same_puts}
+use Rattle.m3_plain.proofs.Bodies.{body_puts, AllIntegers}
+use Rattle.m3_plain.proofs.code.build_plain.Goals as goal
 
 pub emit_term-requires-clause-size : goal.emit_term-requires-clause-size
 emit_term-requires-clause-size c =

@@ -1,8 +1,8 @@
 use Rattle.std.proofs.Common.{◌≡◌, ◌+◌, ◌*◌, ◌≤◌, ◌++◌, drop, vec_len}
-use Rattle.m3_build.specs.Terms.{terms_of, all_nodes}
-use Rattle.m3_build.specs.Code.{puts_code, puts_lines, body_code}
-use Rattle.m3_build.proofs.Bodies.{AllIntegers}
-use Rattle.m3_build.proofs.code.build_plain.Given as goal
+use Rattle.m3_plain.specs.Terms.{terms_of, all_nodes}
+use Rattle.m3_plain.specs.Code.{puts_code, puts_lines, body_code}
+use Rattle.m3_plain.proofs.Bodies.{AllIntegers}
+use Rattle.m3_plain.proofs.code.build_plain.Given as goal
 
 -- the code so far, and that of the puts that are left, is the code of the body
 abbrev pub invariant-loop-put : goal.invariant-loop-put

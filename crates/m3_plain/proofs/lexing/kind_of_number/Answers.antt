@@ -1,6 +1,6 @@
 use Rattle.std.proofs.Common.{arith}
-use Rattle.m3_build.proofs.Numbers.{over_mul, over_add}
-use Rattle.m3_build.proofs.lexing.kind_of_number.Goals as goal
+use Rattle.m3_plain.proofs.Numbers.{over_mul, over_add}
+use Rattle.m3_plain.proofs.lexing.kind_of_number.Goals as goal
 
 pub returns-in_err-checked_mul : goal.returns-in_err-checked_mul
 returns-in_err-checked_mul c =

@@ -1,8 +1,8 @@
 use Rattle.std.proofs.Common.{◌≡◌, ◌+◌, ◌≤◌, arith, sym, ◌∙◌, get_or}
-use Rattle.m3_build.specs.Lexing.{line_after}
-use Rattle.m3_build.proofs.Lexes.{lexes_letter, lexes_byte, line_feed, no_line_feed, from_here}
-use Rattle.m3_build.proofs.lexing.lex.Goals as goal
-use Rattle.m3_build.proofs.lexing.lex.Goals.{then-b-eq10, else-b-eq10}
+use Rattle.m3_plain.specs.Lexing.{line_after}
+use Rattle.m3_plain.proofs.Lexes.{lexes_letter, lexes_byte, line_feed, no_line_feed, from_here}
+use Rattle.m3_plain.proofs.lexing.lex.Goals as goal
+use Rattle.m3_plain.proofs.lexing.lex.Goals.{then-b-eq10, else-b-eq10}
 
 pub loop-i-preserved-then-is_ascii_alphanumeric : goal.loop-i-preserved-then-is_ascii_alphanumeric
 loop-i-preserved-then-is_ascii_alphanumeric c =

@@ -1,6 +1,6 @@
 use Rattle.std.proofs.Common.{◌≡◌, ◌≤◌, ◌+◌, ◌-◌, length, drop, take, []}
-use Rattle.m3_build.specs.Lexing.{lexed}
-use Rattle.m3_build.proofs.lexing.lex.Given as goal
+use Rattle.m3_plain.specs.Lexing.{lexed}
+use Rattle.m3_plain.proofs.lexing.lex.Given as goal
 
 -- what is left, after the word that is open, makes the tokens of the whole text of those so far
 abbrev pub invariant-loop-i : goal.invariant-loop-i

@@ -1,5 +1,5 @@
-use Rattle.m3_build.proofs.Parsings.{no_tokens}
-use Rattle.m3_build.proofs.parsing.after.Goals as goal
+use Rattle.m3_plain.proofs.Parsings.{no_tokens}
+use Rattle.m3_plain.proofs.parsing.after.Goals as goal
 
 pub returns-in_default-clause-not_built : goal.returns-in_default-clause-not_built
 returns-in_default-clause-not_built c = λ h rest a.

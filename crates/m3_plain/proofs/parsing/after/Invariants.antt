@@ -1,7 +1,7 @@
 use Rattle.std.proofs.Common.{List, drop}
-use Rattle.m3_build.specs.declared.tokens.Token.{Token}
-use Rattle.m3_build.specs.Parsing.{After}
-use Rattle.m3_build.proofs.parsing.after.Given as goal
+use Rattle.m3_plain.specs.declared.tokens.Token.{Token}
+use Rattle.m3_plain.specs.Parsing.{After}
+use Rattle.m3_plain.proofs.parsing.after.Given as goal
 
 -- the kinds that are left lead from the tokens that are left to the same rests
 abbrev pub invariant-loop-kind : goal.invariant-loop-kind

@@ -1,8 +1,8 @@
 use Rattle.std.proofs.Common.{[], ap, ◌∙◌}
 use Rattle.std.proofs.lemmas.Result.{err_from_is_err_and, IfOk-weaker}
-use Rattle.m3_build.specs.Terms.{term_of, terms_of}
-use Rattle.m3_build.proofs.Parsings.{leaves_start, leaves_put, leaves_last, leaves_no_last, leaves_end, leaves_no_end, leaves_no_put, semicolon_rest, semicolon_shorter, same_parse, no_parse, more_terms, same_leaves, not_true}
-use Rattle.m3_build.proofs.parsing.parse.Goals as goal
+use Rattle.m3_plain.specs.Terms.{term_of, terms_of}
+use Rattle.m3_plain.proofs.Parsings.{leaves_start, leaves_put, leaves_last, leaves_no_last, leaves_end, leaves_no_end, leaves_no_put, semicolon_rest, semicolon_shorter, same_parse, no_parse, more_terms, same_leaves, not_true}
+use Rattle.m3_plain.proofs.parsing.parse.Goals as goal
 
 pub returns-in_err-rest-clause-not_built : goal.returns-in_err-rest-clause-not_built
 returns-in_err-rest-clause-not_built c =

@@ -1,6 +1,6 @@
 use Rattle.std.proofs.lemmas.Result.{err_from_is_err_and}
-use Rattle.m3_build.proofs.Parsings.{no_call, no_close}
-use Rattle.m3_build.proofs.parsing.statement.Goals as goal
+use Rattle.m3_plain.proofs.Parsings.{no_call, no_close}
+use Rattle.m3_plain.proofs.parsing.statement.Goals as goal
 
 pub returns-in_err-after-clause-not_built : goal.returns-in_err-after-clause-not_built
 returns-in_err-after-clause-not_built c =

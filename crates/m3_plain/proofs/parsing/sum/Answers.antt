@@ -1,10 +1,10 @@
 use Rattle.std.proofs.Common.{◌≡◌, sym, ap, ◌∙◌, arith}
 use Rattle.std.specs.Int.{cast_signed, cast_unsigned, w64}
 use Rattle.std.proofs.lemmas.Int.{to_z-of_z}
-use Rattle.m3_build.specs.Terms.{term_of}
-use Rattle.m3_build.specs.Parsing.{sum_on, left_of, left_after, product_after}
-use Rattle.m3_build.proofs.Parsings.{sum_goes_on}
-use Rattle.m3_build.proofs.parsing.sum.Goals as goal
+use Rattle.m3_plain.specs.Terms.{term_of}
+use Rattle.m3_plain.specs.Parsing.{sum_on, left_of, left_after, product_after}
+use Rattle.m3_plain.proofs.Parsings.{sum_goes_on}
+use Rattle.m3_plain.proofs.parsing.sum.Goals as goal
 
 pub loop-op-preserved : goal.loop-op-preserved
 loop-op-preserved c =

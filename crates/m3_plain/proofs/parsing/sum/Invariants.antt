@@ -1,7 +1,7 @@
 use Rattle.std.proofs.Common.{◌≡◌, length}
-use Rattle.m3_build.specs.Terms.{term_of}
-use Rattle.m3_build.specs.Parsing.{sum_on, sum_at, left_of}
-use Rattle.m3_build.proofs.parsing.sum.Given as goal
+use Rattle.m3_plain.specs.Terms.{term_of}
+use Rattle.m3_plain.specs.Parsing.{sum_on, sum_at, left_of}
+use Rattle.m3_plain.proofs.parsing.sum.Given as goal
 
 -- what is left makes the Sum of all the tokens
 abbrev pub invariant-loop-op : goal.invariant-loop-op

@@ -1,7 +1,7 @@
 use Rattle.std.proofs.Common.{arith}
 use Rattle.std.proofs.lemmas.Result.{err_from_is_err_and, IfOk-weaker}
-use Rattle.m3_build.proofs.PlainTexts.{plain_text, plain_only, plain_few, not_lexed, not_parsed}
-use Rattle.m3_build.proofs.reading.read_plain.Goals as goal
+use Rattle.m3_plain.proofs.PlainTexts.{plain_text, plain_only, plain_few, not_lexed, not_parsed}
+use Rattle.m3_plain.proofs.reading.read_plain.Goals as goal
 
 pub returns-in_err-tokens-clause-not_built : goal.returns-in_err-tokens-clause-not_built
 returns-in_err-tokens-clause-not_built c =

@@ -1,6 +1,6 @@
 use Rattle.std.proofs.Common.{length}
-use Rattle.m3_cursor.specs.Readers.{Follows}
-use Rattle.m3_cursor.proofs.names.qualid_list.Given as goal
+use Rattle.m3_read_cursor.specs.Readers.{Follows}
+use Rattle.m3_read_cursor.proofs.names.qualid_list.Given as goal
 
 abbrev pub invariant-names : goal.invariant-names
 invariant-names l = Follows l.initial.reader l.reader

@@ -1,6 +1,6 @@
 use Rattle.std.proofs.Common.{◌≡◌, sym, ◌∙◌, rules}
-use Rattle.m3_cursor.specs.Steps.{is_infix}
-use Rattle.m3_cursor.proofs.operators.operator_here.Goals as goal
+use Rattle.m3_read_cursor.specs.Steps.{is_infix}
+use Rattle.m3_read_cursor.proofs.operators.operator_here.Goals as goal
 
 pub returns-clause-reads : goal.returns-clause-reads
 returns-clause-reads c =

@@ -1,5 +1,5 @@
-use Rattle.m3_stops.proofs.RefusalLaws.{unexpected_at, too_deep_at}
-use Rattle.m3_stops.proofs.refusal_of.Goals as goal
+use Rattle.m3_read_cursor.proofs.RefusalLaws.{unexpected_at, too_deep_at}
+use Rattle.m3_read_cursor.proofs.stops.refusal_of.Goals as goal
 
 pub returns-in-Unexpected : goal.returns-in-Unexpected
 returns-in-Unexpected c = unexpected_at _ _ _ _ c.refused_at.ensures

@@ -1,5 +1,5 @@
-use Rattle.m3_stops.proofs.RefusalLaws.{unexpected_at}
-use Rattle.m3_stops.proofs.wrong_closing.Goals as goal
+use Rattle.m3_read_cursor.proofs.RefusalLaws.{unexpected_at}
+use Rattle.m3_read_cursor.proofs.stops.wrong_closing.Goals as goal
 
 pub returns-in_default : goal.returns-in_default
 returns-in_default c = unexpected_at _ _ _ _ c.refused_at-in_default.ensures

@@ -1,6 +1,6 @@
-use Rattle.m3_cursor.proofs.Rests.{still, unclosed}
-use Rattle.m3_cursor.proofs.PlaceLaws.{name_place}
-use Rattle.m3_cursor.proofs.units.closing_name.Goals as goal
+use Rattle.m3_read_cursor.proofs.Rests.{still, unclosed}
+use Rattle.m3_read_cursor.proofs.PlaceLaws.{name_place}
+use Rattle.m3_read_cursor.proofs.units.closing_name.Goals as goal
 
 pub returns-clause-place : goal.returns-clause-place
 returns-clause-place c = λ file h going.

@@ -1,7 +1,7 @@
 use Rattle.std.proofs.Common.{arith}
-use Rattle.m3_cursor.proofs.Rests.{still_within}
-use Rattle.m3_cursor.proofs.PlaceLaws.{first_place, name_place, name_is_there}
-use Rattle.m3_cursor.proofs.units.unit_heading.Goals as goal
+use Rattle.m3_read_cursor.proofs.Rests.{still_within}
+use Rattle.m3_read_cursor.proofs.PlaceLaws.{first_place, name_place, name_is_there}
+use Rattle.m3_read_cursor.proofs.units.unit_heading.Goals as goal
 
 pub returns-clause-first : goal.returns-clause-first
 returns-clause-first c = λ file h going.

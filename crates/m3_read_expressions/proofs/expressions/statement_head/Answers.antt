@@ -1,9 +1,9 @@
 use Rattle.std.proofs.Common.{◌≡◌, true, is_some, subst, rules}
-use Rattle.m3_grammar.specs.Ranks.{whole}
-use Rattle.m3_cursor.proofs.Rests.{still}
-use Rattle.m3_phrases.proofs.Spelling.{stopped, same_rest, kept_spells}
-use Rattle.m3_phrases.specs.Spelled.{FoundSpells}
-use Rattle.m3_phrases.proofs.expressions.statement_head.Goals as goal
+use Rattle.m3_read_grammar.specs.Ranks.{whole}
+use Rattle.m3_read_cursor.proofs.Rests.{still}
+use Rattle.m3_read_expressions.proofs.Spelling.{stopped, same_rest, kept_spells}
+use Rattle.m3_read_expressions.specs.Spelled.{FoundSpells}
+use Rattle.m3_read_expressions.proofs.expressions.statement_head.Goals as goal
 
 pub returns-in_default-clause-reads : goal.returns-in_default-clause-reads
 returns-in_default-clause-reads c = record {

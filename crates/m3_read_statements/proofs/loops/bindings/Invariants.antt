@@ -1,6 +1,6 @@
 use Rattle.std.proofs.Common.{length}
-use Rattle.m3_cursor.specs.Readers.{Follows}
-use Rattle.m3_statements.proofs.loops.bindings.Given as goal
+use Rattle.m3_read_cursor.specs.Readers.{Follows}
+use Rattle.m3_read_statements.proofs.loops.bindings.Given as goal
 
 abbrev pub invariant-bindings : goal.invariant-bindings
 invariant-bindings l = Follows l.initial.reader l.reader

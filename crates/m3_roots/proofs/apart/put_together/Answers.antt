@@ -1,6 +1,6 @@
 use Rattle.std.proofs.Common.{ℕ, get_or, ◌≡◌, ◌+◌, ◌-◌, ◌<◌, ◌∷◌, ◌++◌, None, Some, length, drop, ap, ◌∙◌, arith}
 use Rattle.std.proofs.lemmas.List.{drop_more}
-use Rattle.m3_decoded.specs.Ready.{image_of}
+use Rattle.m3_image_decoded.specs.Ready.{image_of}
 use Rattle.m3_roots.proofs.StepLemmas.{no_frame, IsRowOf, together_more, together_stop}
 use Rattle.m3_roots.proofs.apart.put_together.Goals as goal
 

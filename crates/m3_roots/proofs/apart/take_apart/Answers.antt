@@ -1,6 +1,6 @@
 use Rattle.std.proofs.Common.{get_or, ◌≡◌, ◌+◌, ◌∷◌, ◌++◌, drop, sym, ◌∙◌}
 use Rattle.std.proofs.lemmas.List.{drop_more}
-use Rattle.m3_decoded.specs.Ready.{image_of}
+use Rattle.m3_image_decoded.specs.Ready.{image_of}
 use Rattle.m3_roots.proofs.StepLemmas.{no_frame, IsRowOf, apart_more, apart_stop}
 use Rattle.m3_roots.proofs.apart.take_apart.Goals as goal
 

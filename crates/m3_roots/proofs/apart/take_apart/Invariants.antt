@@ -1,5 +1,5 @@
 use Rattle.std.specs.Prelude.{◌≡◌, ◌++◌, drop}
-use Rattle.m3_decoded.specs.Ready.{image_of}
+use Rattle.m3_image_decoded.specs.Ready.{image_of}
 use Rattle.m3_roots.specs.RowMeaning.{HaveRows, derived_words}
 use Rattle.m3_roots.specs.TakingApart.{apart}
 use Rattle.m3_roots.proofs.apart.take_apart.Given as goal

@@ -1,6 +1,6 @@
 use Rattle.std.proofs.Common.{ℕ, refl, sym, subst}
 use Rattle.m3_heap.specs.Moves.{staying}
-use Rattle.m3_decoded.specs.Ready.{image_of}
+use Rattle.m3_image_decoded.specs.Ready.{image_of}
 use Rattle.m3_roots.specs.RoomSizes.{IsRoomFor}
 use Rattle.m3_roots.specs.Collected.{Parts, shapes_of, StopsCollection}
 use Rattle.m3_roots.proofs.GoodLemmas.{IsGood, good_of}

@@ -1,7 +1,7 @@
 use Rattle.std.proofs.Common.{◌≡◌, ℕ, List, ◌++◌, length, refl, sym, ap, subst, arith}
 use Rattle.m3_threads.specs.All.{base_of, words_of}
-use Rattle.m3_decoded.specs.Ready.{image_of}
-use Rattle.m3_frames.specs.declared.frame.Frame.{Frame}
+use Rattle.m3_image_decoded.specs.Ready.{image_of}
+use Rattle.m3_run_frames.specs.declared.frame.Frame.{Frame}
 use Rattle.m3_roots.specs.Moving.{MovesWords}
 use Rattle.m3_roots.specs.Gathering.{Gathers}
 use Rattle.m3_roots.specs.Collected.{AreFrames}

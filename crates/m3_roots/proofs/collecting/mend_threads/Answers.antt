@@ -1,6 +1,6 @@
 use Rattle.std.proofs.Common.{◌≡◌, ℕ, length, refl, sym, subst, rules}
 use Rattle.m3_threads.specs.All.{words_of}
-use Rattle.m3_decoded.specs.Ready.{image_of}
+use Rattle.m3_image_decoded.specs.Ready.{image_of}
 use Rattle.m3_roots.specs.RoomSizes.{IsRoomFor}
 use Rattle.m3_roots.specs.Collected.{words_at, frames_at}
 use Rattle.m3_roots.proofs.GatheredLemmas.{goes_twice}

@@ -2,7 +2,7 @@ use Rattle.std.specs.Prelude.{◌≡◌, ℕ, List}
 use Rattle.m3_heap.specs.Cells.{Cell}
 use Rattle.m3_heap.specs.Moves.{Move}
 use Rattle.m3_threads.specs.All.{Everyone}
-use Rattle.m3_decoded.specs.Ready.{image_of}
+use Rattle.m3_image_decoded.specs.Ready.{image_of}
 use Rattle.m3_roots.specs.RoomSizes.{IsRoomFor}
 use Rattle.m3_roots.specs.Gathering.{GoesOn}
 use Rattle.m3_roots.specs.ThreadsGathered.{AllGathered, Mended}

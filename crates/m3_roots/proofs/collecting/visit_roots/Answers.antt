@@ -1,6 +1,6 @@
 use Rattle.std.proofs.Common.{refl, sym, ap}
 use Rattle.m3_heap.specs.Heap.{Heap}
-use Rattle.m3_decoded.specs.Ready.{image_of}
+use Rattle.m3_image_decoded.specs.Ready.{image_of}
 use Rattle.m3_roots.specs.Collected.{Parts}
 use Rattle.m3_roots.proofs.GoodLemmas.{IsGood, good_of}
 use Rattle.m3_roots.proofs.CollectedLemmas.{roots_visited, roots_stopped}

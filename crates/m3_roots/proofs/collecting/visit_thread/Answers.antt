@@ -2,8 +2,8 @@ use Rattle.std.proofs.Common.{◌≡◌, drop, ℕ, ◌+◌, ◌≤◌, List, le
 use Rattle.std.specs.Vec.{with_items}
 use Rattle.std.proofs.lemmas.List.{take_at}
 use Rattle.m3_threads.specs.All.{base_of, words_of}
-use Rattle.m3_decoded.specs.Ready.{image_of}
-use Rattle.m3_frames.specs.declared.frame.Frame.{Frame}
+use Rattle.m3_image_decoded.specs.Ready.{image_of}
+use Rattle.m3_run_frames.specs.declared.frame.Frame.{Frame}
 use Rattle.m3_roots.specs.declared.marks.Mark.{Mark}
 use Rattle.m3_roots.specs.Collected.{AreFrames}
 use Rattle.m3_roots.proofs.ThreadSteps.{in_hand, frames_to, gathers_thread_if, stops_thread_if}

@@ -1,7 +1,7 @@
 use Rattle.std.proofs.Common.{◌≡◌, ℕ, length, refl, sym, ap, subst, rules}
 use Rattle.m3_heap.specs.Heap.{Heap}
 use Rattle.m3_threads.specs.All.{words_of}
-use Rattle.m3_decoded.specs.Ready.{image_of}
+use Rattle.m3_image_decoded.specs.Ready.{image_of}
 use Rattle.m3_roots.specs.RoomSizes.{IsRoomFor}
 use Rattle.m3_roots.proofs.GoodLemmas.{IsGood, good_of}
 use Rattle.m3_roots.proofs.VisitLemmas.{keeps_twice}

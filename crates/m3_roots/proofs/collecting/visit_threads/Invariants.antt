@@ -1,6 +1,6 @@
 use Rattle.std.specs.Prelude.{◌≡◌, ℕ, List, true}
 use Rattle.m3_heap.specs.Shapes.{Shape}
-use Rattle.m3_decoded.specs.Ready.{image_of}
+use Rattle.m3_image_decoded.specs.Ready.{image_of}
 use Rattle.m3_roots.specs.RoomSizes.{IsRoomFor}
 use Rattle.m3_roots.specs.Visiting.{KeepsHeap}
 use Rattle.m3_roots.proofs.CollectedLemmas.{GatheredTo}

@@ -1,6 +1,6 @@
 use Rattle.std.specs.Prelude.{ℕ, ◌+◌, ◌≤◌, ◌<◌, ◌^◌, take}
 use Rattle.std.specs.List.{AllByRecursion}
-use Rattle.m3_frames.specs.declared.frame.Frame.{Frame}
+use Rattle.m3_run_frames.specs.declared.frame.Frame.{Frame}
 use Rattle.m3_roots.proofs.lists.end_of.Given as goal
 
 abbrev pub invariant-loop-frame : goal.invariant-loop-frame

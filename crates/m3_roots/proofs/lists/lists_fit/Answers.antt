@@ -1,5 +1,5 @@
 use Rattle.std.proofs.Common.{◌≡◌, ◌+◌, ◌<◌, ◌^◌, length, arith}
-use Rattle.m3_decoded.specs.Ready.{image_of}
+use Rattle.m3_image_decoded.specs.Ready.{image_of}
 use Rattle.m3_roots.proofs.GoodLemmas.{IsGood, good_of}
 use Rattle.m3_roots.proofs.WithinLemmas.{frames_sit, all_end}
 use Rattle.m3_roots.proofs.ListLemmas.{tells_fit, fit_if, unfit_if}

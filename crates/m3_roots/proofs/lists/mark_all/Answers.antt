@@ -1,5 +1,5 @@
 use Rattle.std.proofs.Common.{List, map}
-use Rattle.m3_decoded.specs.Ready.{image_of}
+use Rattle.m3_image_decoded.specs.Ready.{image_of}
 use Rattle.m3_roots.specs.RowMeaning.{newest_arguments}
 use Rattle.m3_roots.specs.Marking.{Act, Lists}
 use Rattle.m3_roots.specs.RowActs.{acts_below}

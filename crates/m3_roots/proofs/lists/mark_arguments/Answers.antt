@@ -1,5 +1,5 @@
 use Rattle.std.proofs.Common.{◌≡◌, ℕ, List, map, get_or, sym, ap, ◌∙◌, subst, arith}
-use Rattle.m3_decoded.specs.Ready.{image_of}
+use Rattle.m3_image_decoded.specs.Ready.{image_of}
 use Rattle.m3_tables.specs.Views.{numbers_of}
 use Rattle.m3_roots.specs.ThreadWords.{places_from}
 use Rattle.m3_roots.specs.RowMeaning.{newest_arguments}

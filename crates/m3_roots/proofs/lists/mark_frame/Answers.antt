@@ -1,5 +1,5 @@
 use Rattle.std.proofs.Common.{true, false, List, ◌++◌, map, subst}
-use Rattle.m3_decoded.specs.Ready.{image_of}
+use Rattle.m3_image_decoded.specs.Ready.{image_of}
 use Rattle.m3_roots.specs.ThreadWords.{Derived, place_of}
 use Rattle.m3_roots.specs.RowMeaning.{tidy_of_frame, derived_of_frame}
 use Rattle.m3_roots.specs.RowLists.{derived_places}

@@ -1,8 +1,8 @@
 use Rattle.std.proofs.Common.{◌≡◌, ◌+◌, ◌<◌, List, [], get_or, drop, subst, arith}
 use Rattle.std.proofs.lemmas.List.{drop_more, drop_all}
 use Rattle.m3_tables.specs.Numbers.{word_in}
-use Rattle.m3_decoded.specs.Ready.{image_of}
-use Rattle.m3_frames.specs.declared.frame.Frame.{Frame}
+use Rattle.m3_image_decoded.specs.Ready.{image_of}
+use Rattle.m3_run_frames.specs.declared.frame.Frame.{Frame}
 use Rattle.m3_roots.specs.Marking.{MarksPart}
 use Rattle.m3_roots.specs.RowActs.{frame_acts, acts_below}
 use Rattle.m3_roots.proofs.PartLemmas.{marks_more, marks_stop, marks_all}

@@ -1,5 +1,5 @@
 use Rattle.std.specs.Prelude.{drop}
-use Rattle.m3_decoded.specs.Ready.{image_of}
+use Rattle.m3_image_decoded.specs.Ready.{image_of}
 use Rattle.m3_roots.specs.RowMeaning.{HaveRows}
 use Rattle.m3_roots.specs.Marking.{MarksPart}
 use Rattle.m3_roots.specs.RowActs.{acts_below}

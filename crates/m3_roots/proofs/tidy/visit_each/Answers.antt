@@ -1,8 +1,8 @@
 use Rattle.std.proofs.Common.{◌+◌, ◌<◌, List, ◌++◌, get_or, drop, subst, rules}
 use Rattle.std.proofs.lemmas.List.{drop_more}
 use Rattle.m3_tables.specs.Numbers.{word_in}
-use Rattle.m3_decoded.specs.Ready.{image_of}
-use Rattle.m3_frames.specs.declared.frame.Frame.{Frame}
+use Rattle.m3_image_decoded.specs.Ready.{image_of}
+use Rattle.m3_run_frames.specs.declared.frame.Frame.{Frame}
 use Rattle.m3_roots.specs.RowMeaning.{tidy_of_frame, tidy_below}
 use Rattle.m3_roots.specs.Visiting.{VisitsPart}
 use Rattle.m3_roots.proofs.StepLemmas.{no_frame, each_at}

@@ -1,6 +1,6 @@
 use Rattle.std.specs.Prelude.{◌≡◌, ◌++◌, true, List, drop}
 use Rattle.m3_heap.specs.Shapes.{Shape}
-use Rattle.m3_decoded.specs.Ready.{image_of}
+use Rattle.m3_image_decoded.specs.Ready.{image_of}
 use Rattle.m3_roots.specs.RowMeaning.{HaveRows, tidy_below}
 use Rattle.m3_roots.specs.Visiting.{VisitsPart, KeepsHeap}
 use Rattle.m3_roots.proofs.tidy.visit_each.Given as goal

@@ -1,5 +1,5 @@
 use Rattle.std.proofs.Common.{◌++◌}
-use Rattle.m3_decoded.specs.Ready.{image_of}
+use Rattle.m3_image_decoded.specs.Ready.{image_of}
 use Rattle.m3_roots.specs.RowMeaning.{newest_arguments, tidy_below}
 use Rattle.m3_roots.proofs.VisitLemmas.{visit_then, stops_first}
 use Rattle.m3_roots.proofs.tidy.visit_frames.Goals as goal

@@ -1,6 +1,6 @@
 use Rattle.std.proofs.Common.{[], ◌∷◌, rules}
 use Rattle.m3_tables.specs.Views.{numbers_of}
-use Rattle.m3_decoded.specs.Ready.{image_of}
+use Rattle.m3_image_decoded.specs.Ready.{image_of}
 use Rattle.m3_roots.proofs.VisitLemmas.{keeps_twice, part_more}
 use Rattle.m3_roots.proofs.tidy.visit_globals.Goals as goal
 

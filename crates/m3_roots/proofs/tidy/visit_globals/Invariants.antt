@@ -1,7 +1,7 @@
 use Rattle.std.specs.Prelude.{◌≡◌, true, List}
 use Rattle.m3_tables.specs.Views.{numbers_of}
 use Rattle.m3_heap.specs.Shapes.{Shape}
-use Rattle.m3_decoded.specs.Ready.{image_of}
+use Rattle.m3_image_decoded.specs.Ready.{image_of}
 use Rattle.m3_roots.specs.Visiting.{VisitsPart, KeepsHeap}
 use Rattle.m3_roots.proofs.tidy.visit_globals.Given as goal
 

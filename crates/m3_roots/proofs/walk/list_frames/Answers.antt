@@ -1,7 +1,7 @@
 use Rattle.std.proofs.Common.{◌≡◌, true, ◌∙◌, ◌+◌, ◌-◌, List, [], ◌∷◌, ◌++◌, length, ap, sym, subst, arith, length-append}
 use Rattle.std.specs.Result.{is_ok}
-use Rattle.m3_decoded.specs.Ready.{image_of}
-use Rattle.m3_frames.specs.declared.frame.Frame.{Frame}
+use Rattle.m3_image_decoded.specs.Ready.{image_of}
+use Rattle.m3_run_frames.specs.declared.frame.Frame.{Frame}
 use Rattle.m3_roots.proofs.GoodLemmas.{fault_free}
 use Rattle.m3_roots.proofs.FrameLemmas.{Listed, listed_first, listed_more, listed_stop, none_first}
 use Rattle.m3_roots.proofs.StepLemmas.{pushed}

@@ -1,5 +1,5 @@
 use Rattle.std.specs.Prelude.{◌+◌, ◌≤◌, length, vec_capacity}
-use Rattle.m3_decoded.specs.Ready.{image_of}
+use Rattle.m3_image_decoded.specs.Ready.{image_of}
 use Rattle.m3_roots.proofs.FrameLemmas.{Listed}
 use Rattle.m3_roots.proofs.walk.list_frames.Given as goal
 

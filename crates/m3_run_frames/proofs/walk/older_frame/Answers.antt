@@ -1,9 +1,9 @@
 use Rattle.std.proofs.Common.{◌≡◌, ◌+◌, ◌-◌, ◌<◌, length, get_or, true, arith}
 use Rattle.std.proofs.lemmas.Option.{slice_get-get_or}
 use Rattle.m3_image.specs.Views.{image_view}
-use Rattle.m3_frames.specs.Frames.{is_call_at}
-use Rattle.m3_frames.proofs.FrameLemmas.{older_found}
-use Rattle.m3_frames.proofs.walk.older_frame.Goals as goal
+use Rattle.m3_run_frames.specs.Frames.{is_call_at}
+use Rattle.m3_run_frames.proofs.FrameLemmas.{older_found}
+use Rattle.m3_run_frames.proofs.walk.older_frame.Goals as goal
 
 pub returns : goal.returns
 returns c =

@@ -1,8 +1,8 @@
 use Rattle.std.proofs.Common.{sym, ◌∙◌}
-use Rattle.m3_decoded.specs.Ready.{image_of}
-use Rattle.m3_strides.specs.Leading.{program_in}
-use Rattle.m3_strides.proofs.Deeds.{goes_into}
-use Rattle.m3_strides.proofs.steps.call_near.Goals as goal
+use Rattle.m3_image_decoded.specs.Ready.{image_of}
+use Rattle.m3_run_loop.specs.Leading.{program_in}
+use Rattle.m3_run_loop.proofs.Deeds.{goes_into}
+use Rattle.m3_run_loop.proofs.steps.call_near.Goals as goal
 
 pub returns-in-Ok-enter-clause-goes : goal.returns-in-Ok-enter-clause-goes
 returns-in-Ok-enter-clause-goes g c =

@@ -1,11 +1,11 @@
 use Rattle.std.specs.Prelude.{ℕ, List}
 use Rattle.std.proofs.Common.{subst, sym, rules, arith}
 use Rattle.m3_heap.specs.Cells.{AddsCell, new_cell}
-use Rattle.m3_decoded.specs.Ready.{image_of}
+use Rattle.m3_image_decoded.specs.Ready.{image_of}
 use Rattle.m3_isa.specs.Effects.{at_hand}
-use Rattle.m3_strides.specs.Leading.{program_in, Goes_on}
-use Rattle.m3_strides.proofs.Deeds.{goes_made}
-use Rattle.m3_strides.proofs.steps.make_near.Goals as goal
+use Rattle.m3_run_loop.specs.Leading.{program_in, Goes_on}
+use Rattle.m3_run_loop.proofs.Deeds.{goes_made}
+use Rattle.m3_run_loop.proofs.steps.make_near.Goals as goal
 
 pub returns-in-Some-clause-goes : goal.returns-in-Some-clause-goes
 returns-in-Some-clause-goes g c =

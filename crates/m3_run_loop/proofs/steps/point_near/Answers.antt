@@ -1,8 +1,8 @@
-use Rattle.m3_decoded.specs.Ready.{image_of}
+use Rattle.m3_image_decoded.specs.Ready.{image_of}
 use Rattle.m3_isa.specs.Effects.{at_hand}
-use Rattle.m3_strides.specs.Leading.{program_in}
-use Rattle.m3_strides.proofs.Deeds.{goes_over}
-use Rattle.m3_strides.proofs.steps.point_near.Goals as goal
+use Rattle.m3_run_loop.specs.Leading.{program_in}
+use Rattle.m3_run_loop.proofs.Deeds.{goes_over}
+use Rattle.m3_run_loop.proofs.steps.point_near.Goals as goal
 
 pub returns : goal.returns
 returns g c =

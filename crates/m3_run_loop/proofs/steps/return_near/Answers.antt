@@ -1,13 +1,13 @@
 use Rattle.std.specs.Prelude.{List, length}
 use Rattle.std.proofs.Common.{sym, ap, ◌∙◌}
 use Rattle.m3_isa.specs.declared.instructions.Instr.{Instr}
-use Rattle.m3_decoded.specs.Ready.{image_of}
+use Rattle.m3_image_decoded.specs.Ready.{image_of}
 use Rattle.m3_threads.specs.Spaces.{held}
-use Rattle.m3_memory.specs.Addresses.{outside_of}
-use Rattle.m3_strides.specs.Calls.{returning}
-use Rattle.m3_strides.specs.Leading.{program_in}
-use Rattle.m3_strides.proofs.Deeds.{goes_back}
-use Rattle.m3_strides.proofs.steps.return_near.Goals as goal
+use Rattle.m3_run_memory.specs.Addresses.{outside_of}
+use Rattle.m3_run_meaning.specs.Calls.{returning}
+use Rattle.m3_run_loop.specs.Leading.{program_in}
+use Rattle.m3_run_loop.proofs.Deeds.{goes_back}
+use Rattle.m3_run_loop.proofs.steps.return_near.Goals as goal
 
 pub returns-in-Ok : goal.returns-in-Ok
 returns-in-Ok g c =

@@ -1,9 +1,9 @@
 use Rattle.std.proofs.Common.{rules}
-use Rattle.m3_decoded.specs.Ready.{image_of}
+use Rattle.m3_image_decoded.specs.Ready.{image_of}
 use Rattle.m3_isa.specs.Effects.{at_hand}
-use Rattle.m3_strides.specs.Leading.{program_in}
-use Rattle.m3_strides.proofs.Deeds.{goes_tested}
-use Rattle.m3_strides.proofs.steps.test_near.Goals as goal
+use Rattle.m3_run_loop.specs.Leading.{program_in}
+use Rattle.m3_run_loop.proofs.Deeds.{goes_tested}
+use Rattle.m3_run_loop.proofs.steps.test_near.Goals as goal
 
 pub returns-in-Ok-clause-goes : goal.returns-in-Ok-clause-goes
 returns-in-Ok-clause-goes g c =

@@ -3,12 +3,12 @@ use Rattle.std.proofs.Common.{arith, subst, sym, ap, ◌∙◌}
 use Rattle.std.proofs.lemmas.Option.{slice_get-get_or}
 use Rattle.m3_isa.specs.declared.instructions.Instr.{Instr}
 use Rattle.m3_isa.specs.Instructions.{is_plain}
-use Rattle.m3_decoded.specs.Ready.{image_of}
-use Rattle.m3_strides.specs.declared.near.Place.{Place}
-use Rattle.m3_strides.specs.Leading.{Track, Stands_in, Halts_in, further}
-use Rattle.m3_strides.proofs.Leading.{further_on}
-use Rattle.m3_strides.proofs.Keeping.{keeps_more}
-use Rattle.m3_strides.proofs.strides.go.Goals as goal
+use Rattle.m3_image_decoded.specs.Ready.{image_of}
+use Rattle.m3_run_meaning.specs.declared.near.Place.{Place}
+use Rattle.m3_run_loop.specs.Leading.{Track, Stands_in, Halts_in, further}
+use Rattle.m3_run_loop.proofs.Leading.{further_on}
+use Rattle.m3_run_loop.proofs.Keeping.{keeps_more}
+use Rattle.m3_run_loop.proofs.strides.go.Goals as goal
 
 one-is : (x y : Instr) → Some x ≡ Some y → x ≡ y
 one-is x y e = cc

@@ -1,7 +1,7 @@
 use Rattle.std.specs.Prelude.{◌≡◌, ◌≤◌, ◌-◌}
-use Rattle.m3_decoded.specs.Ready.{image_of}
-use Rattle.m3_strides.specs.Leading.{Track, KeepsWhole, Stands_in, further}
-use Rattle.m3_strides.proofs.strides.go.Given as goal
+use Rattle.m3_image_decoded.specs.Ready.{image_of}
+use Rattle.m3_run_loop.specs.Leading.{Track, KeepsWhole, Stands_in, further}
+use Rattle.m3_run_loop.proofs.strides.go.Given as goal
 
 -- the memory keeps what it had, and where the turn stood at first, there it stands after so many points and instructions
 abbrev pub invariant-steps : goal.invariant-steps

@@ -1,22 +1,22 @@
 use Rattle.std.specs.Prelude.{ℕ, ◌≤◌, ◌-◌, List, length, slice_get, Option, Some, None, IfSome}
 use Rattle.std.proofs.Common.{◌≡◌, ◌∙◌, refl, ap, sym, subst, arith}
 use Rattle.m3_isa.specs.Effects.{at_hand, effect}
-use Rattle.m3_decoded.specs.Ready.{image_of}
+use Rattle.m3_image_decoded.specs.Ready.{image_of}
 use Rattle.m3_threads.specs.Spaces.{held, replaceable}
-use Rattle.m3_memory.specs.Addresses.{outside_of, settable_of}
-use Rattle.m3_strides.specs.State.{executed}
-use Rattle.m3_strides.specs.State.{seen}
+use Rattle.m3_run_memory.specs.Addresses.{outside_of, settable_of}
+use Rattle.m3_run_meaning.specs.State.{executed}
+use Rattle.m3_run_meaning.specs.State.{seen}
 use Rattle.m3_isa.specs.declared.registers.Regs.{Regs}
-use Rattle.m3_strides.specs.declared.near.Place.{Place}
-use Rattle.m3_strides.specs.declared.strides.Fuel.{Fuel}
-use Rattle.m3_strides.specs.declared.halts.Halt.{Halt}
-use Rattle.m3_strides.specs.declared.halts.Halt.TheVariants.{Used, Left, Other}
-use Rattle.m3_strides.specs.Leading.{program_in, KeepsWhole, Stands_in}
+use Rattle.m3_run_meaning.specs.declared.near.Place.{Place}
+use Rattle.m3_run_loop.specs.declared.strides.Fuel.{Fuel}
+use Rattle.m3_run_loop.specs.declared.halts.Halt.{Halt}
+use Rattle.m3_run_loop.specs.declared.halts.Halt.TheVariants.{Used, Left, Other}
+use Rattle.m3_run_loop.specs.Leading.{program_in, KeepsWhole, Stands_in}
 use Rattle.m3_base.specs.declared.outcomes.Outcome.TheVariants.{Trap}
-use Rattle.m3_strides.proofs.PlainSteps.{not-plain, was_plain}
-use Rattle.m3_strides.proofs.Leading.{stood_on, stood_end, renumber, reover}
-use Rattle.m3_strides.proofs.Deeds.{goes_plainly, ends_plainly, plain_is_no_point, not_plain_by}
-use Rattle.m3_strides.proofs.strides.go_on.Goals as goal
+use Rattle.m3_run_loop.proofs.PlainSteps.{not-plain, was_plain}
+use Rattle.m3_run_loop.proofs.Leading.{stood_on, stood_end, renumber, reover}
+use Rattle.m3_run_loop.proofs.Deeds.{goes_plainly, ends_plainly, plain_is_no_point, not_plain_by}
+use Rattle.m3_run_loop.proofs.strides.go_on.Goals as goal
 
 pub returns-in-Went-clause-strides : goal.returns-in-Went-clause-strides
 returns-in-Went-clause-strides g c = λ k next st.

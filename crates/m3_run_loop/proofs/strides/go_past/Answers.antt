@@ -1,11 +1,11 @@
 use Rattle.std.specs.Prelude.{◌≤◌, ◌-◌}
 use Rattle.std.proofs.Common.{refl, sym, subst, arith}
 use Rattle.m3_isa.specs.Effects.{at_hand}
-use Rattle.m3_decoded.specs.Ready.{image_of}
-use Rattle.m3_strides.specs.Leading.{program_in, Standing, further}
-use Rattle.m3_strides.specs.declared.strides.Fuel.{Fuel}
-use Rattle.m3_strides.proofs.Leading.{stood_past, renumber}
-use Rattle.m3_strides.proofs.strides.go_past.Goals as goal
+use Rattle.m3_image_decoded.specs.Ready.{image_of}
+use Rattle.m3_run_loop.specs.Leading.{program_in, Standing, further}
+use Rattle.m3_run_loop.specs.declared.strides.Fuel.{Fuel}
+use Rattle.m3_run_loop.proofs.Leading.{stood_past, renumber}
+use Rattle.m3_run_loop.proofs.strides.go_past.Goals as goal
 
 pub returns-in-Some-clause-strides : goal.returns-in-Some-clause-strides
 returns-in-Some-clause-strides g c = λ k next st.

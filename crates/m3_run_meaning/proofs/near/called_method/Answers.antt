@@ -1,10 +1,10 @@
 use Rattle.std.specs.Prelude.{◌≡◌, ◌+◌, Some}
 use Rattle.std.proofs.Common.{sym, rules}
 use Rattle.m3_base.specs.Words.{add_words}
-use Rattle.m3_sections.specs.Ranges.{containing}
-use Rattle.m3_decoded.specs.Ready.{image_of}
-use Rattle.m3_strides.proofs.Calling.{method_refused}
-use Rattle.m3_strides.proofs.near.called_method.Goals as goal
+use Rattle.m3_image_sections.specs.Ranges.{containing}
+use Rattle.m3_image_decoded.specs.Ready.{image_of}
+use Rattle.m3_run_meaning.proofs.Calling.{method_refused}
+use Rattle.m3_run_meaning.proofs.near.called_method.Goals as goal
 
 pub returns-in-Err : goal.returns-in-Err
 returns-in-Err g c =

@@ -1,5 +1,5 @@
 use Rattle.std.proofs.Math.Logic.{∥∥₁_elim}
-use Rattle.m3_new_cells.proofs.collections.collect_by.Goals as goal
+use Rattle.m3_run_state.proofs.collections.collect_by.Goals as goal
 
 pub collect_outside-requires-clause-fitting : goal.collect_outside-requires-clause-fitting
 collect_outside-requires-clause-fitting g c =

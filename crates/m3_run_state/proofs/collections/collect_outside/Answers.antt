@@ -1,9 +1,9 @@
 use Rattle.std.specs.Prelude.{ℕ, List}
 use Rattle.std.specs.Bool.{OnTrue}
 use Rattle.std.proofs.Common.{subst}
-use Rattle.m3_decoded.specs.Ready.{image_of}
+use Rattle.m3_image_decoded.specs.Ready.{image_of}
 use Rattle.m3_roots.specs.Collected.{Parts, StopsCollection}
-use Rattle.m3_new_cells.proofs.collections.collect_outside.Goals as goal
+use Rattle.m3_run_state.proofs.collections.collect_outside.Goals as goal
 
 pub returns-clause-whole : goal.returns-clause-whole
 returns-clause-whole g c = λ room.

@@ -1,6 +1,6 @@
 use Rattle.std.proofs.Common.{◌≡◌}
 use Rattle.std.specs.List.{AllByRecursion}
-use Rattle.m3_table_writer.specs.Plain.{plains_of, IsRow}
+use Rattle.m3_tables_writer.specs.Plain.{plains_of, IsRow}
 use Rattle.m3_tables_tests.proofs.Forty.{plain_rows}
 use Rattle.m3_tables_tests.proofs.tests.forty_rows.Given as goal
 

@@ -1,10 +1,10 @@
 use Rattle.std.proofs.Common.{◌+◌, ◌-◌, ◌/◌, ◌<◌, ◌≡◌, ◌∙◌, sym, get_or, arith, inl, inr}
 use Rattle.std.proofs.lemmas.Bool.{cases_lt}
 use Rattle.std.proofs.lemmas.List.{length-map}
-use Rattle.m3_table_writer.specs.Plain.{place_number, place_numbers}
+use Rattle.m3_tables_writer.specs.Plain.{place_number, place_numbers}
 use Rattle.m3_tables.proofs.NumberLemmas.{has_at, has_not, below_to, above_from}
-use Rattle.m3_table_writer.proofs.PlainLemmas.{numbers_at}
-use Rattle.m3_table_writer.proofs.comparing.has_number.Goals as goal
+use Rattle.m3_tables_writer.proofs.PlainLemmas.{numbers_at}
+use Rattle.m3_tables_writer.proofs.comparing.has_number.Goals as goal
 
 pub returns-then-found-wanted : goal.returns-then-found-wanted
 returns-then-found-wanted c =

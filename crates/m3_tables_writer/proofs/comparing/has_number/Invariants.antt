@@ -1,6 +1,6 @@
 use Rattle.std.proofs.Common.{ℕ, ◌-◌, ◌<◌, ◌≤◌, length, get_or}
-use Rattle.m3_table_writer.specs.Plain.{place_numbers}
-use Rattle.m3_table_writer.proofs.comparing.has_number.Given as goal
+use Rattle.m3_tables_writer.specs.Plain.{place_numbers}
+use Rattle.m3_tables_writer.proofs.comparing.has_number.Given as goal
 
 -- the places before low are below the one looked for, and those from high on are above
 abbrev pub invariant-loop-low : goal.invariant-loop-low

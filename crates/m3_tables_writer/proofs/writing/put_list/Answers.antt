@@ -1,8 +1,8 @@
 use Rattle.std.proofs.Common.{arith}
 use Rattle.std.proofs.lemmas.List.{length-map}
-use Rattle.m3_table_writer.specs.Plain.{place_number, place_numbers}
-use Rattle.m3_table_writer.proofs.WriteLemmas.{length-list_bytes}
-use Rattle.m3_table_writer.proofs.writing.put_list.Goals as goal
+use Rattle.m3_tables_writer.specs.Plain.{place_number, place_numbers}
+use Rattle.m3_tables_writer.proofs.WriteLemmas.{length-list_bytes}
+use Rattle.m3_tables_writer.proofs.writing.put_list.Goals as goal
 
 pub overflow_cast-places : goal.overflow_cast-places
 overflow_cast-places c =

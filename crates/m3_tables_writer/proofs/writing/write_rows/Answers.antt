@@ -1,13 +1,13 @@
 use Rattle.std.proofs.Common.{◌≡◌, ◌++◌, ◌+◌, ℕ, List, length, drop, None, sym, ap, subst, ◌∙◌, arith, length-append}
 use Rattle.std.specs.Option.{option_map}
 use Rattle.std.proofs.lemmas.List.{length-map, drop_all}
-use Rattle.m3_table_writer.specs.Plain.{plain_of, plains_of}
-use Rattle.m3_table_writer.specs.Writing.{row_bytes, word_bytes, directory_bytes, body_bytes, table_bytes}
-use Rattle.m3_table_writer.proofs.WriteLemmas.{length-table_bytes, body_more, body_size, directory_step, all_written, all_listed, whole_table, plains_more}
-use Rattle.m3_table_writer.specs.Tabulates.{Tabulates}
-use Rattle.m3_table_writer.proofs.AgainRows.{table_says}
-use Rattle.m3_table_writer.proofs.PlainFits.{rows_fit, same_instructions, numbers_more, numbers_all}
-use Rattle.m3_table_writer.proofs.writing.write_rows.Goals as goal
+use Rattle.m3_tables_writer.specs.Plain.{plain_of, plains_of}
+use Rattle.m3_tables_writer.specs.Writing.{row_bytes, word_bytes, directory_bytes, body_bytes, table_bytes}
+use Rattle.m3_tables_writer.proofs.WriteLemmas.{length-table_bytes, body_more, body_size, directory_step, all_written, all_listed, whole_table, plains_more}
+use Rattle.m3_tables_writer.specs.Tabulates.{Tabulates}
+use Rattle.m3_tables_writer.proofs.AgainRows.{table_says}
+use Rattle.m3_tables_writer.proofs.PlainFits.{rows_fit, same_instructions, numbers_more, numbers_all}
+use Rattle.m3_tables_writer.proofs.writing.write_rows.Goals as goal
 
 pub overflow_cast-rows : goal.overflow_cast-rows
 overflow_cast-rows c =

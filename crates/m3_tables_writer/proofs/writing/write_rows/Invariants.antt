@@ -2,10 +2,10 @@ use Rattle.std.proofs.Common.{◌≡◌, ◌++◌, length, take, drop, None}
 use Rattle.std.specs.Prelude.{IfSome}
 use Rattle.std.specs.Option.{option_map}
 use Rattle.std.specs.List.{AllByRecursion}
-use Rattle.m3_table_writer.specs.Plain.{plain_of, plains_of, IsRow}
-use Rattle.m3_table_writer.specs.Writing.{word_bytes, directory_bytes, body_bytes}
-use Rattle.m3_table_writer.proofs.PlainFits.{IsNumber}
-use Rattle.m3_table_writer.proofs.writing.write_rows.Given as goal
+use Rattle.m3_tables_writer.specs.Plain.{plain_of, plains_of, IsRow}
+use Rattle.m3_tables_writer.specs.Writing.{word_bytes, directory_bytes, body_bytes}
+use Rattle.m3_tables_writer.proofs.PlainFits.{IsNumber}
+use Rattle.m3_tables_writer.proofs.writing.write_rows.Given as goal
 
 -- what is written and what is still to be written is all
 abbrev pub invariant-loop-number : goal.invariant-loop-number

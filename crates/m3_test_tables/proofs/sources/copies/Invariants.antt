@@ -1,5 +1,5 @@
 use Rattle.std.proofs.Common.{◌<◌, All, length}
-use Rattle.m3_trial.proofs.sources.copies.Given as goal
+use Rattle.m3_test_tables.proofs.sources.copies.Given as goal
 
 -- the copies so far are short
 abbrev pub invariant-sources : goal.invariant-sources

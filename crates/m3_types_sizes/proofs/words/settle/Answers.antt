@@ -1,8 +1,8 @@
 use Rattle.std.proofs.Common.{◌≡◌, ◌<◌, Some, length, arith, sym, ◌∙◌, subst}
 use Rattle.m3_types.specs.declared.nodes.TypeNode.{TypeNode}
-use Rattle.m3_sizes.specs.Sizes.{CanBeTold}
-use Rattle.m3_sizes.proofs.Measuring.{settled_right, right_added, low_added, node_here, one_node, settled_size, sound_added, none_here}
-use Rattle.m3_sizes.proofs.words.settle.Goals as goal
+use Rattle.m3_types_sizes.specs.Sizes.{CanBeTold}
+use Rattle.m3_types_sizes.proofs.Measuring.{settled_right, right_added, low_added, node_here, one_node, settled_size, sound_added, none_here}
+use Rattle.m3_types_sizes.proofs.words.settle.Goals as goal
 
 pub returns-in-Some-words_of_node-clause-right : goal.returns-in-Some-words_of_node-clause-right
 returns-in-Some-words_of_node-clause-right c =

@@ -1,7 +1,7 @@
 use Rattle.std.proofs.Common.{length, arith, ⊎_elim}
 use Rattle.std.proofs.lemmas.Bool.{cases_lt}
-use Rattle.m3_sizes.proofs.Measuring.{settled_full, past_settled}
-use Rattle.m3_sizes.proofs.words.settle_all.Goals as goal
+use Rattle.m3_types_sizes.proofs.Measuring.{settled_full, past_settled}
+use Rattle.m3_types_sizes.proofs.words.settle_all.Goals as goal
 
 pub returns-clause-full : goal.returns-clause-full
 returns-clause-full c = λ g.

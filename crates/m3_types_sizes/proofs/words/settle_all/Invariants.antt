@@ -1,6 +1,6 @@
 use Rattle.std.proofs.Common.{◌≡◌, ℕ, ◌<◌, true, false, length}
-use Rattle.m3_sizes.specs.Sizes.{IsRight, IsLow, AreSized, IsTold, lacking}
-use Rattle.m3_sizes.proofs.words.settle_all.Given as goal
+use Rattle.m3_types_sizes.specs.Sizes.{IsRight, IsLow, AreSized, IsTold, lacking}
+use Rattle.m3_types_sizes.proofs.words.settle_all.Given as goal
 
 -- as long as the table hasn't grown, each type so far is settled
 abbrev pub invariant-loop-i : goal.invariant-loop-i

@@ -1,6 +1,6 @@
 use Rattle.std.proofs.Common.{◌≡◌, length}
-use Rattle.m3_sizes.specs.Sizes.{IsRight, IsLow, AreSized, lacking}
-use Rattle.m3_sizes.proofs.words.table_of_words.Given as goal
+use Rattle.m3_types_sizes.specs.Sizes.{IsRight, IsLow, AreSized, lacking}
+use Rattle.m3_types_sizes.proofs.words.table_of_words.Given as goal
 
 abbrev pub invariant-loop : goal.invariant-loop
 invariant-loop l = record {

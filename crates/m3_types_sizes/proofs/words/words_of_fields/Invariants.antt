@@ -1,6 +1,6 @@
 use Rattle.std.proofs.Common.{◌≡◌, ◌+◌, ◌≤◌, drop}
-use Rattle.m3_sizes.specs.Sizes.{most_words, field_words, known_words, EachField, Known}
-use Rattle.m3_sizes.proofs.words.words_of_fields.Given as goal
+use Rattle.m3_types_sizes.specs.Sizes.{most_words, field_words, known_words, EachField, Known}
+use Rattle.m3_types_sizes.proofs.words.words_of_fields.Given as goal
 
 -- the sum so far and that of the fields that are left are that of all
 abbrev pub invariant-loop-field : goal.invariant-loop-field

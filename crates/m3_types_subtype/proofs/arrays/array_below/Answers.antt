@@ -1,10 +1,10 @@
 use Rattle.std.proofs.Common.{refl}
 use Rattle.std.specs.Prelude.{◌↔◌, IsTrue}
 use Rattle.std.proofs.lemmas.Result.{IfOk-weaker}
-use Rattle.m3_same.specs.Sameness.{Same}
-use Rattle.m3_subtype.specs.Subtypes.{ArrayBelow}
-use Rattle.m3_subtype.proofs.Dimensions.{array_elements, elements_array, array_none}
-use Rattle.m3_subtype.proofs.arrays.array_below.Goals as goal
+use Rattle.m3_types_subtype.specs.Sameness.{Same}
+use Rattle.m3_types_subtype.specs.Subtypes.{ArrayBelow}
+use Rattle.m3_types_subtype.proofs.Dimensions.{array_elements, elements_array, array_none}
+use Rattle.m3_types_subtype.proofs.arrays.array_below.Goals as goal
 
 pub returns-in_default : goal.returns-in_default
 returns-in_default c = (λ h. absurd (let z : ⊥ = cc in z), λ a. absurd (array_none c.args.nodes.now c.args.a c.args.b c.in_default.ensures.none a))

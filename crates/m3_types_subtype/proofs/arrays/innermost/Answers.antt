@@ -1,7 +1,7 @@
 use Rattle.std.proofs.Common.{◌≡◌, suc, ◌+◌, ◌-◌, length, sym, subst, arith}
-use Rattle.m3_subtype.specs.Subtypes.{FitsBelow}
-use Rattle.m3_subtype.proofs.Dimensions.{fits_down, fits_up, fits_here}
-use Rattle.m3_subtype.proofs.arrays.innermost.Goals as goal
+use Rattle.m3_types_subtype.specs.Subtypes.{FitsBelow}
+use Rattle.m3_types_subtype.proofs.Dimensions.{fits_down, fits_up, fits_here}
+use Rattle.m3_types_subtype.proofs.arrays.innermost.Goals as goal
 
 pub returns-in_default-clause-below : goal.returns-in_default-clause-below
 returns-in_default-clause-below c = λ f. fits_here c.args.nodes.now (length c.args.nodes.now + 1 - c.loop-level._level) c.loop-level.x c.loop-level.y c.in_default.ensures.none (c.loop-level.invariant.down f)

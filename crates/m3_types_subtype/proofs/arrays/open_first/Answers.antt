@@ -1,7 +1,7 @@
 use Rattle.std.proofs.Common.{◌≡◌, suc, ◌+◌, ◌-◌, length, refl, sym, subst, arith}
-use Rattle.m3_subtype.specs.Subtypes.{OpenFirst}
-use Rattle.m3_subtype.proofs.Dimensions.{open_first_end, open_first_down, open_first_up, open_first_not}
-use Rattle.m3_subtype.proofs.arrays.open_first.Goals as goal
+use Rattle.m3_types_subtype.specs.Subtypes.{OpenFirst}
+use Rattle.m3_types_subtype.proofs.Dimensions.{open_first_end, open_first_down, open_first_up, open_first_not}
+use Rattle.m3_types_subtype.proofs.arrays.open_first.Goals as goal
 
 pub returns-in_default : goal.returns-in_default
 returns-in_default c = (λ t. c.loop-level.invariant.up (open_first_end c.args.nodes.now (length c.args.nodes.now - c.loop-level._level) c.loop-level.at (sym c.in_default.ensures)), λ o. refl)

@@ -1,6 +1,6 @@
 use Rattle.std.proofs.Common.{◌-◌, length}
-use Rattle.m3_subtype.specs.Subtypes.{OpenFirst}
-use Rattle.m3_subtype.proofs.arrays.open_first.Given as goal
+use Rattle.m3_types_subtype.specs.Subtypes.{OpenFirst}
+use Rattle.m3_types_subtype.proofs.arrays.open_first.Given as goal
 
 -- the answer is that for the dimensions that are left
 abbrev pub invariant-loop-level : goal.invariant-loop-level

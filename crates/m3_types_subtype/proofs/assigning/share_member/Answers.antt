@@ -1,8 +1,8 @@
 use Rattle.std.proofs.Common.{◌≡◌, true, Some, sym, ◌∙◌, ap, subst}
-use Rattle.m3_subtype.specs.Assignments.{Members}
-use Rattle.m3_subtype.specs.Ranges.{members}
-use Rattle.m3_same.specs.Sameness.{Same}
-use Rattle.m3_subtype.proofs.assigning.share_member.Goals as goal
+use Rattle.m3_types_subtype.specs.Assignments.{Members}
+use Rattle.m3_types_subtype.specs.Ranges.{members}
+use Rattle.m3_types_subtype.specs.Sameness.{Same}
+use Rattle.m3_types_subtype.proofs.assigning.share_member.Goals as goal
 
 members_is : (m n : Members) → Some m ≡ Some n → m ≡ n
 members_is m n h = cc

@@ -1,9 +1,9 @@
 use Rattle.std.proofs.Common.{◌≡◌, Bool, true, false, refl}
 use Rattle.std.specs.Prelude.{IsTrue}
-use Rattle.m3_subtype.specs.Subtypes.{null, refany, root, subrange, array, procedure}
-use Rattle.m3_subtype.proofs.Refuting.{only_same}
-use Rattle.m3_subtype.proofs.direct.is_ruled.Goals as goal
-use Rattle.m3_subtype.proofs.direct.is_ruled.Goals.{then-null_below-via-then-null_below, then-null_below-via-else-null_below+then-refany_above, then-null_below-via-else-null_below+else-refany_above+then-root_above}
+use Rattle.m3_types_subtype.specs.Subtypes.{null, refany, root, subrange, array, procedure}
+use Rattle.m3_types_subtype.proofs.Refuting.{only_same}
+use Rattle.m3_types_subtype.proofs.direct.is_ruled.Goals as goal
+use Rattle.m3_types_subtype.proofs.direct.is_ruled.Goals.{then-null_below-via-then-null_below, then-null_below-via-else-null_below+then-refany_above, then-null_below-via-else-null_below+else-refany_above+then-root_above}
 
 pub returns-then-null_below-clause-yes : goal.returns-then-null_below-clause-yes
 returns-then-null_below-clause-yes c = λ t.

@@ -1,9 +1,9 @@
 use Rattle.std.proofs.Common.{refl, subst}
 use Rattle.std.specs.Prelude.{IfSome}
-use Rattle.m3_subtype.specs.Heights.{HasHeight}
-use Rattle.m3_subtype.specs.Subtypes.{same}
-use Rattle.m3_subtype.proofs.Levels.{same_height}
-use Rattle.m3_subtype.proofs.direct.meets.Goals as goal
+use Rattle.m3_types_subtype.specs.Heights.{HasHeight}
+use Rattle.m3_types_subtype.specs.Subtypes.{same}
+use Rattle.m3_types_subtype.proofs.Levels.{same_height}
+use Rattle.m3_types_subtype.proofs.direct.meets.Goals as goal
 
 pub returns-then-heights_differ-clause-no : goal.returns-then-heights_differ-clause-no
 returns-then-heights_differ-clause-no c = λ t d.

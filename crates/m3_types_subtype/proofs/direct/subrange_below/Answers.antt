@@ -2,9 +2,9 @@ use Rattle.std.proofs.Common.{refl}
 use Rattle.std.specs.Prelude.{◌↔◌, IsTrue}
 use Rattle.std.proofs.lemmas.Result.{IfOk-weaker}
 use Rattle.m3_types.specs.Definitions.{types_at}
-use Rattle.m3_same.specs.Sameness.{Matched, Same}
-use Rattle.m3_subtype.specs.Subtypes.{SubrangeBelow}
-use Rattle.m3_subtype.proofs.direct.subrange_below.Goals as goal
+use Rattle.m3_types_subtype.specs.Sameness.{Matched, Same}
+use Rattle.m3_types_subtype.specs.Subtypes.{SubrangeBelow}
+use Rattle.m3_types_subtype.proofs.direct.subrange_below.Goals as goal
 
 pub returns : goal.returns
 returns c =

@@ -1,6 +1,6 @@
 use Rattle.std.proofs.Common.{arith}
 use Rattle.m3_types.proofs.Lists.{same_at}
-use Rattle.m3_subtype.proofs.procedures.same_modes.Goals as goal
+use Rattle.m3_types_subtype.proofs.procedures.same_modes.Goals as goal
 
 pub returns-then-not-same_mode : goal.returns-then-not-same_mode
 returns-then-not-same_mode c =

@@ -1,5 +1,5 @@
 use Rattle.std.proofs.Common.{◌≡◌, map, take}
-use Rattle.m3_subtype.proofs.procedures.same_modes.Given as goal
+use Rattle.m3_types_subtype.proofs.procedures.same_modes.Given as goal
 
 -- the modes so far are equal
 abbrev pub invariant-loop-i : goal.invariant-loop-i

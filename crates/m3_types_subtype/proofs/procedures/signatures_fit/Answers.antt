@@ -1,8 +1,8 @@
 use Rattle.std.proofs.Common.{◌≡◌, map, refl, sym, ◌∙◌, ap}
 use Rattle.std.specs.Prelude.{is_some}
 use Rattle.m3_types.specs.Definitions.{head_of, AProcedure, head_of_formal, head_of_raises}
-use Rattle.m3_subtype.proofs.Signatures.{modes_of_heads, fits, modes_fit, results_fit, raises_fit}
-use Rattle.m3_subtype.proofs.procedures.signatures_fit.Goals as goal
+use Rattle.m3_types_subtype.proofs.Signatures.{modes_of_heads, fits, modes_fit, results_fit, raises_fit}
+use Rattle.m3_types_subtype.proofs.procedures.signatures_fit.Goals as goal
 
 pub returns-then-not-same_modes : goal.returns-then-not-same_modes
 returns-then-not-same_modes c = λ i j.

@@ -2,8 +2,8 @@ use Rattle.std.proofs.Common.{◌≡◌, Option, sym, ap}
 use Rattle.std.specs.Option.{option_map_or}
 use Rattle.m3_types.specs.declared.nodes.TypeNode.{TypeNode}
 use Rattle.m3_types.specs.Definitions.{head_of, head_at, Missing}
-use Rattle.m3_subtype.proofs.Signatures.{fits_along, missing_left, missing_right}
-use Rattle.m3_subtype.proofs.procedures.signatures_fit_at.Goals as goal
+use Rattle.m3_types_subtype.proofs.Signatures.{fits_along, missing_left, missing_right}
+use Rattle.m3_types_subtype.proofs.procedures.signatures_fit_at.Goals as goal
 
 pub returns-in_default : goal.returns-in_default
 returns-in_default c = (λ h. absurd (let z : ⊥ = cc in z), λ s. absurd (missing_left (head_at c.args.nodes.now c.args.a) (head_at c.args.nodes.now c.args.b) (ap (λ (o : Option TypeNode). option_map_or (head_of c.args.a) o Missing) (sym c.in_default.ensures)) s))

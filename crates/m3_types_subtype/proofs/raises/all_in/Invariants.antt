@@ -2,7 +2,7 @@ use Rattle.std.proofs.Common.{take, All}
 use Rattle.std.specs.Prelude.{IsTrue}
 use Rattle.std.specs.Ordering.{nat_cmp}
 use Rattle.std.specs.BTreeSet.{contains}
-use Rattle.m3_subtype.proofs.raises.all_in.Given as goal
+use Rattle.m3_types_subtype.proofs.raises.all_in.Given as goal
 
 -- the exceptions so far are in the set
 abbrev pub invariant-loop-e : goal.invariant-loop-e

@@ -3,7 +3,7 @@ use Rattle.std.specs.Prelude.{IsTrue}
 use Rattle.std.specs.Ordering.{nat_cmp}
 use Rattle.std.specs.BTreeSet.{contains}
 use Rattle.std.proofs.lemmas.List.Elements.{All-contains, All-contains_itself, All-weaker}
-use Rattle.m3_subtype.proofs.raises.raises_within.Goals as goal
+use Rattle.m3_types_subtype.proofs.raises.raises_within.Goals as goal
 
 pub returns-in_ok-set-in-Only-Only : goal.returns-in_ok-set-in-Only-Only
 returns-in_ok-set-in-Only-Only c =

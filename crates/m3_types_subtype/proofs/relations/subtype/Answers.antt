@@ -1,8 +1,8 @@
 use Rattle.std.proofs.Common.{refl, sym, subst}
 use Rattle.m3_types.proofs.Noting.{number_eq}
-use Rattle.m3_same.proofs.Agreement.{same_itself}
-use Rattle.m3_subtype.specs.Subtypes.{Subtype, same, directly}
-use Rattle.m3_subtype.proofs.relations.subtype.Goals as goal
+use Rattle.m3_types_subtype.proofs.Agreement.{same_itself}
+use Rattle.m3_types_subtype.specs.Subtypes.{Subtype, same, directly}
+use Rattle.m3_types_subtype.proofs.relations.subtype.Goals as goal
 
 pub returns-then-eq : goal.returns-then-eq
 returns-then-eq c =

@@ -1,11 +1,11 @@
 use Rattle.std.proofs.Common.{◌≡◌, ◌<◌, ◌^◌, length, refl, sym, ◌∙◌, ap, subst, arith}
-use Rattle.m3_same.specs.Classes.{parent_of, SameClass}
+use Rattle.m3_types_subtype.specs.Classes.{parent_of, SameClass}
 use Rattle.m3_types.specs.Definitions.{parts_at}
-use Rattle.m3_same.specs.Sameness.{Matched, Same}
-use Rattle.m3_same.specs.Assumptions.{Agrees}
-use Rattle.m3_same.proofs.Agreement.{same_agrees, pairwise_length, pairwise_weaker, classes_same}
-use Rattle.m3_same.proofs.Comparing.{at_place, step_done, shrinks, whole}
-use Rattle.m3_same.proofs.sameness.same_lists.Goals as goal
+use Rattle.m3_types_subtype.specs.Sameness.{Matched, Same}
+use Rattle.m3_types_subtype.specs.Assumptions.{Agrees}
+use Rattle.m3_types_subtype.proofs.Agreement.{same_agrees, pairwise_length, pairwise_weaker, classes_same}
+use Rattle.m3_types_subtype.proofs.Comparing.{at_place, step_done, shrinks, whole}
+use Rattle.m3_types_subtype.proofs.sameness.same_lists.Goals as goal
 
 pub returns-then-not-heads_match_at : goal.returns-then-not-heads_match_at
 returns-then-not-heads_match_at c =

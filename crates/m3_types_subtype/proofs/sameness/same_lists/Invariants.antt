@@ -1,8 +1,8 @@
 use Rattle.std.proofs.Common.{◌-◌, ◌≤◌, ◌^◌, length, take, All}
-use Rattle.m3_same.specs.Classes.{parent_of, SameClass}
-use Rattle.m3_same.specs.Sameness.{Matched, Same}
-use Rattle.m3_same.specs.Assumptions.{IsKept, Agrees}
-use Rattle.m3_same.proofs.sameness.same_lists.Given as goal
+use Rattle.m3_types_subtype.specs.Classes.{parent_of, SameClass}
+use Rattle.m3_types_subtype.specs.Sameness.{Matched, Same}
+use Rattle.m3_types_subtype.specs.Assumptions.{IsKept, Agrees}
+use Rattle.m3_types_subtype.proofs.sameness.same_lists.Given as goal
 
 -- The pairs before the next one agree at their top, as far as was assumed; and if the types of the
 -- two lists are the same, so are those of each pair.

@@ -1,6 +1,6 @@
 use Rattle.std.proofs.Common.{◌≡◌, true, arith}
-use Rattle.m3_subtype.proofs.Stepping.{no_reveal, reveals_more, reveals_all}
-use Rattle.m3_subtype.proofs.seen.full_among.Goals as goal
+use Rattle.m3_types_subtype.proofs.Stepping.{no_reveal, reveals_more, reveals_all}
+use Rattle.m3_types_subtype.proofs.seen.full_among.Goals as goal
 
 pub loop-reveal-preserved : goal.loop-reveal-preserved
 loop-reveal-preserved c =

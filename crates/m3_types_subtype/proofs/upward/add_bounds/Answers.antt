@@ -1,10 +1,10 @@
 use Rattle.std.proofs.Common.{◌<◌, length, get_or, arith}
 use Rattle.std.specs.Prelude.{Contains}
 use Rattle.std.proofs.lemmas.List.Elements.{All-get_or, All-contains_itself}
-use Rattle.m3_subtype.specs.Reaching.{Has, BoundAbove}
-use Rattle.m3_subtype.proofs.Adding.{has_stays}
-use Rattle.m3_subtype.proofs.Stepping.{adds_chained, no_reveal, reveals_more, reveals_all}
-use Rattle.m3_subtype.proofs.upward.add_bounds.Goals as goal
+use Rattle.m3_types_subtype.specs.Reaching.{Has, BoundAbove}
+use Rattle.m3_types_subtype.proofs.Adding.{has_stays}
+use Rattle.m3_types_subtype.proofs.Stepping.{adds_chained, no_reveal, reveals_more, reveals_all}
+use Rattle.m3_types_subtype.proofs.upward.add_bounds.Goals as goal
 
 pub loop-reveal-preserved : goal.loop-reveal-preserved
 loop-reveal-preserved c =

@@ -1,7 +1,7 @@
 use Rattle.std.proofs.Common.{sym}
-use Rattle.m3_subtype.specs.Subtypes.{up}
-use Rattle.m3_subtype.proofs.Stepping.{adds_step}
-use Rattle.m3_subtype.proofs.upward.add_named.Goals as goal
+use Rattle.m3_types_subtype.specs.Subtypes.{up}
+use Rattle.m3_types_subtype.proofs.Stepping.{adds_step}
+use Rattle.m3_types_subtype.proofs.upward.add_named.Goals as goal
 
 pub returns-in_ok-add-clause-adds : goal.returns-in_ok-add-clause-adds
 returns-in_ok-add-clause-adds c = λ reveals view.

@@ -1,7 +1,7 @@
 use Rattle.std.proofs.Common.{◌<◌, [], length, arith, below_more}
-use Rattle.m3_subtype.proofs.Adding.{has_stays}
-use Rattle.m3_subtype.proofs.Stepping.{adds_chained, nil_place}
-use Rattle.m3_subtype.proofs.upward.add_nil.Goals as goal
+use Rattle.m3_types_subtype.proofs.Adding.{has_stays}
+use Rattle.m3_types_subtype.proofs.Stepping.{adds_chained, nil_place}
+use Rattle.m3_types_subtype.proofs.upward.add_nil.Goals as goal
 
 pub loop-y-preserved : goal.loop-y-preserved
 loop-y-preserved c =

@@ -3,8 +3,8 @@ use Rattle.std.specs.Prelude.{IsTrue}
 use Rattle.m3_types.specs.declared.nodes.Reveal.{Reveal}
 use Rattle.m3_types.specs.Definitions.{head_at}
 use Rattle.m3_types.specs.Kinds.{has_nil}
-use Rattle.m3_subtype.specs.Reaching.{IsVisited, AddsSteps, Has}
-use Rattle.m3_subtype.proofs.upward.add_nil.Given as goal
+use Rattle.m3_types_subtype.specs.Reaching.{IsVisited, AddsSteps, Has}
+use Rattle.m3_types_subtype.proofs.upward.add_nil.Given as goal
 
 -- each type so far that NIL belongs to is there
 abbrev pub invariant-loop-y : goal.invariant-loop-y

@@ -1,6 +1,6 @@
 use Rattle.std.proofs.Common.{refl}
-use Rattle.m3_subtype.proofs.Stepping.{adds_step, opaque_step}
-use Rattle.m3_subtype.proofs.upward.add_opaque.Goals as goal
+use Rattle.m3_types_subtype.proofs.Stepping.{adds_step, opaque_step}
+use Rattle.m3_types_subtype.proofs.upward.add_opaque.Goals as goal
 
 pub returns-in_ok-add-clause-adds : goal.returns-in_ok-add-clause-adds
 returns-in_ok-add-clause-adds c = λ reveals has.

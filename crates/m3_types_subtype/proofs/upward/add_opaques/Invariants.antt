@@ -1,8 +1,8 @@
 use Rattle.std.proofs.Common.{List, take, All}
 use Rattle.std.specs.Prelude.{Contains}
 use Rattle.m3_types.specs.declared.nodes.Reveal.{Reveal}
-use Rattle.m3_subtype.specs.Reaching.{IsVisited, AddsSteps, OpaqueAbove, Has}
-use Rattle.m3_subtype.proofs.upward.add_opaques.Given as goal
+use Rattle.m3_types_subtype.specs.Reaching.{IsVisited, AddsSteps, OpaqueAbove, Has}
+use Rattle.m3_types_subtype.proofs.upward.add_opaques.Given as goal
 
 -- what the reveals so far give is there
 abbrev pub invariant-loop-reveal : goal.invariant-loop-reveal

@@ -5,11 +5,11 @@ use Rattle.std.proofs.Math.Bool.{Bool-set}
 use Rattle.m3_types.specs.declared.nodes.Reveal.{Reveal}
 use Rattle.m3_types.specs.declared.nodes.TypeNode.{TypeNode}
 use Rattle.m3_types.specs.Kinds.{has_nil}
-use Rattle.m3_subtype.specs.Reaching.{Has, AddsSteps, BoundAbove, OpaqueAbove}
-use Rattle.m3_subtype.proofs.Adding.{has_stays, extends_chained}
-use Rattle.m3_subtype.proofs.Hiding.{hidden_mark}
-use Rattle.m3_subtype.proofs.Stepping.{adds_chained}
-use Rattle.m3_subtype.proofs.upward.add_revealed.Goals as goal
+use Rattle.m3_types_subtype.specs.Reaching.{Has, AddsSteps, BoundAbove, OpaqueAbove}
+use Rattle.m3_types_subtype.proofs.Adding.{has_stays, extends_chained}
+use Rattle.m3_types_subtype.proofs.Hiding.{hidden_mark}
+use Rattle.m3_types_subtype.proofs.Stepping.{adds_chained}
+use Rattle.m3_types_subtype.proofs.upward.add_revealed.Goals as goal
 
 pub returns-clause-adds : goal.returns-clause-adds
 returns-clause-adds c =

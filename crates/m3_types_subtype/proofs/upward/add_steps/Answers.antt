@@ -1,11 +1,11 @@
 use Rattle.std.proofs.Common.{◌≡◌, ℕ, Some, subst}
 use Rattle.m3_types.specs.Definitions.{node_at}
 use Rattle.m3_types.specs.Kinds.{named_above}
-use Rattle.m3_subtype.specs.Reaching.{AddsSteps, Has}
-use Rattle.m3_subtype.specs.Subtypes.{NullBelow}
-use Rattle.m3_subtype.proofs.Adding.{has_stays}
-use Rattle.m3_subtype.proofs.Stepping.{adds_chained, step_added}
-use Rattle.m3_subtype.proofs.upward.add_steps.Goals as goal
+use Rattle.m3_types_subtype.specs.Reaching.{AddsSteps, Has}
+use Rattle.m3_types_subtype.specs.Subtypes.{NullBelow}
+use Rattle.m3_types_subtype.proofs.Adding.{has_stays}
+use Rattle.m3_types_subtype.proofs.Stepping.{adds_chained, step_added}
+use Rattle.m3_types_subtype.proofs.upward.add_steps.Goals as goal
 
 pub returns-clause-adds : goal.returns-clause-adds
 returns-clause-adds c =

@@ -1,13 +1,13 @@
 use Rattle.std.proofs.Common.{◌<◌, length, All, sym, subst, arith}
 use Rattle.std.proofs.lemmas.List.Elements.{All-nil}
-use Rattle.m3_subtype.specs.Subtypes.{Directly, Steps, start}
-use Rattle.m3_subtype.specs.Heights.{AreHeights}
-use Rattle.m3_subtype.specs.Reaching.{IsDone}
-use Rattle.m3_subtype.proofs.Adding.{has_stays, all_added}
-use Rattle.m3_same.proofs.Comparing.{at_place}
-use Rattle.m3_subtype.proofs.Closure.{reaches_subtype}
-use Rattle.m3_subtype.proofs.Exhausting.{extends_longer, done_more, all_done, no_subtype}
-use Rattle.m3_subtype.proofs.upward.is_below.Goals as goal
+use Rattle.m3_types_subtype.specs.Subtypes.{Directly, Steps, start}
+use Rattle.m3_types_subtype.specs.Heights.{AreHeights}
+use Rattle.m3_types_subtype.specs.Reaching.{IsDone}
+use Rattle.m3_types_subtype.proofs.Adding.{has_stays, all_added}
+use Rattle.m3_types_subtype.proofs.Comparing.{at_place}
+use Rattle.m3_types_subtype.proofs.Closure.{reaches_subtype}
+use Rattle.m3_types_subtype.proofs.Exhausting.{extends_longer, done_more, all_done, no_subtype}
+use Rattle.m3_types_subtype.proofs.upward.is_below.Goals as goal
 
 pub loop-next-init : goal.loop-next-init
 loop-next-init c =

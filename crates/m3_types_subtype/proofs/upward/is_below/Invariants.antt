@@ -1,8 +1,8 @@
 use Rattle.std.proofs.Common.{◌-◌, ◌≤◌, ◌^◌, length, take, All}
-use Rattle.m3_subtype.specs.Subtypes.{Steps}
-use Rattle.m3_subtype.specs.Heights.{AreHeights}
-use Rattle.m3_subtype.specs.Reaching.{IsVisited, IsDone, Has}
-use Rattle.m3_subtype.proofs.upward.is_below.Given as goal
+use Rattle.m3_types_subtype.specs.Subtypes.{Steps}
+use Rattle.m3_types_subtype.specs.Heights.{AreHeights}
+use Rattle.m3_types_subtype.specs.Reaching.{IsVisited, IsDone, Has}
+use Rattle.m3_types_subtype.proofs.upward.is_below.Given as goal
 
 -- each type of the list is reached, and those before the next one have all their steps in it
 abbrev pub invariant-loop-next : goal.invariant-loop-next

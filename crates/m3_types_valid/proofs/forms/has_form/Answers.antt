@@ -1,7 +1,7 @@
 use Rattle.std.proofs.Common.{◌≡◌, Some, arith, sym, ◌∙◌}
 use Rattle.m3_types.specs.Definitions.{node_at, types_at, parts_at}
-use Rattle.m3_forms.proofs.FormLemmas.{form_of_rows, types_in_front}
-use Rattle.m3_forms.proofs.forms.has_form.Goals as goal
+use Rattle.m3_types_valid.proofs.FormLemmas.{form_of_rows, types_in_front}
+use Rattle.m3_types_valid.proofs.forms.has_form.Goals as goal
 
 pub has_form_of_rows-requires : goal.has_form_of_rows-requires
 has_form_of_rows-requires c =

@@ -1,8 +1,8 @@
 use Rattle.std.proofs.Common.{◌≡◌, ◌&&◌, ◌==◌, sym, ◌∙◌, ap, is_some}
 use Rattle.std.specs.List.{list_any}
 use Rattle.m3_types.specs.Reveals.{full_reveal}
-use Rattle.m3_forms.proofs.FormLemmas.{any_reveals_fully}
-use Rattle.m3_forms.proofs.graphs.is_revealed_fully.Goals as goal
+use Rattle.m3_types_valid.proofs.FormLemmas.{any_reveals_fully}
+use Rattle.m3_types_valid.proofs.graphs.is_revealed_fully.Goals as goal
 
 pub returns-in-Err : goal.returns-in-Err
 returns-in-Err c =

@@ -1,7 +1,7 @@
 use Rattle.std.proofs.Common.{ap, subst}
 use Rattle.std.proofs.lemmas.Result.{err_from_is_err_and}
-use Rattle.m3_build.specs.Terms.{terms_of}
-use Rattle.m3_build.specs.Machine.{Puts}
+use Rattle.m3_plain.specs.Terms.{terms_of}
+use Rattle.m3_plain.specs.Machine.{Puts}
 use Rattle.m3c.proofs.command.compile.Goals as goal
 
 pub returns-in_err-puts-clause-not_built : goal.returns-in_err-puts-clause-not_built

@@ -1,5 +1,5 @@
 use Rattle.std.proofs.Common.{ap, ◌∙◌, map, refl, List, ℕ, Bor}
-use Rattle.m3_source_commands.specs.Orders.{no_words}
+use Rattle.m3c_source_commands.specs.Orders.{no_words}
 use Rattle.m3c.proofs.ByWords.{commands_of}
 use Rattle.m3c.proofs.command.other_command.Goals as goal
 

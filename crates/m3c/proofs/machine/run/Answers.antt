@@ -1,5 +1,5 @@
 use Rattle.std.proofs.Common.{◌≡◌, ◌+◌, ◌-◌, ◌++◌, [], length, refl, sym, ap, ◌∙◌, arith}
-use Rattle.m3_build.specs.Machine.{run, start, acts}
+use Rattle.m3_plain.specs.Machine.{run, start, acts}
 use Rattle.m3c.specs.Running.{state_of}
 use Rattle.m3c.proofs.Turns.{took_nothing, turned_goes, turned_ends, turned_lacks}
 use Rattle.m3c.proofs.Loops.{took_more, goes_on, ends_now, ends_outside, never_lacks, never_over, instruction_at}

@@ -1,5 +1,5 @@
 use Rattle.std.proofs.Common.{◌≡◌, ◌-◌, ◌≤◌, List, ℕ, length}
-use Rattle.m3_build.specs.Machine.{run, start}
+use Rattle.m3_plain.specs.Machine.{run, start}
 use Rattle.m3c.specs.Command.{Took}
 use Rattle.m3c.specs.Running.{state_of}
 use Rattle.m3c.proofs.machine.run.Given as goal

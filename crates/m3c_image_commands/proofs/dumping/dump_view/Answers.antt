@@ -1,8 +1,8 @@
 use Rattle.std.proofs.Common.{subst, sym}
 use Rattle.m3_image.specs.Views.{image_view}
-use Rattle.m3_dump.specs.Texts.{IsDump}
-use Rattle.m3_image_commands.proofs.RunLemmas.{dumps_text}
-use Rattle.m3_image_commands.proofs.dumping.dump_view.Goals as goal
+use Rattle.m3_image_dump.specs.Texts.{IsDump}
+use Rattle.m3c_image_commands.proofs.RunLemmas.{dumps_text}
+use Rattle.m3c_image_commands.proofs.dumping.dump_view.Goals as goal
 
 pub returns-in-Ok-put : goal.returns-in-Ok-put
 returns-in-Ok-put g c =

@@ -1,7 +1,7 @@
 use Rattle.std.proofs.Common.{ap}
 use Rattle.std.specs.Option.{option_map}
-use Rattle.m3_image_commands.proofs.FetchLemmas.{fetches_as, among_options}
-use Rattle.m3_image_commands.proofs.fetching.fetch_named.Goals as goal
+use Rattle.m3c_image_commands.proofs.FetchLemmas.{fetches_as, among_options}
+use Rattle.m3c_image_commands.proofs.fetching.fetch_named.Goals as goal
 
 pub returns-in-Some-clause-fetches : goal.returns-in-Some-clause-fetches
 returns-in-Some-clause-fetches g c =

@@ -1,6 +1,6 @@
 use Rattle.std.proofs.Common.{refl}
-use Rattle.m3_image_commands.proofs.FetchLemmas.{fails_as, fails_after, among_switches, among_input}
-use Rattle.m3_image_commands.proofs.fetching.fetch_run_files.Goals as goal
+use Rattle.m3c_image_commands.proofs.FetchLemmas.{fails_as, fails_after, among_switches, among_input}
+use Rattle.m3c_image_commands.proofs.fetching.fetch_run_files.Goals as goal
 
 pub returns-in-Err-clause-fetches : goal.returns-in-Err-clause-fetches
 returns-in-Err-clause-fetches g c = fails_as (among_switches _ _) c.in-Err.ensures.fetches

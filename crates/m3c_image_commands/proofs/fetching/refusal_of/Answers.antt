@@ -1,7 +1,7 @@
 use Rattle.std.proofs.Common.{refl, sym, subst}
 use Rattle.std.specs.Prelude.{codes}
-use Rattle.m3_image_commands.specs.Statuses.{Only, Unfetched, read_fault, no_memory, absent, too_long}
-use Rattle.m3_image_commands.proofs.fetching.refusal_of.Goals as goal
+use Rattle.m3c_image_commands.specs.Statuses.{Only, Unfetched, read_fault, no_memory, absent, too_long}
+use Rattle.m3c_image_commands.proofs.fetching.refusal_of.Goals as goal
 
 pub returns-in-Absent : goal.returns-in-Absent
 returns-in-Absent c = λ shelf cap causes. let a = causes.absent c.in-Absent.is in subst (λ n. Unfetched shelf (Only c.args.name.now cap) 6 (codes "absent ") n) (sym c.as_bytes-name.ensures.value) (absent c.args.name.now cap (refl, refl) a.0 a.1)

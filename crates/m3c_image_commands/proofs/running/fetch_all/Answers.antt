@@ -1,6 +1,6 @@
 use Rattle.std.proofs.Common.{refl, inl, inr}
-use Rattle.m3_image_commands.proofs.FetchLemmas.{fails_as, goes_after}
-use Rattle.m3_image_commands.proofs.running.fetch_all.Goals as goal
+use Rattle.m3c_image_commands.proofs.FetchLemmas.{fails_as, goes_after}
+use Rattle.m3c_image_commands.proofs.running.fetch_all.Goals as goal
 
 pub returns-in-Ok-clause-fetches : goal.returns-in-Ok-clause-fetches
 returns-in-Ok-clause-fetches g c = goes_after (λ n k o. inr o) c.fetch_image.ensures.fetches c.fetch_run_files.ensures.fetches (record { held = refl; faults = refl; store_faults = refl; absences = refl; excesses = refl })

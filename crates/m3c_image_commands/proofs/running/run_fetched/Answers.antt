@@ -2,9 +2,9 @@ use Rattle.std.specs.Prelude.{List}
 use Rattle.std.proofs.Common.{refl, sym, subst}
 use Rattle.m3_base.specs.declared.outcomes.Entry.{Entry}
 use Rattle.m3_base.specs.Schedules.{IsSchedule}
-use Rattle.m3_image_commands.specs.Reports.{Setting}
-use Rattle.m3_image_commands.proofs.RunLemmas.{ends_image, refuses_image, image_bytes, refused_bytes}
-use Rattle.m3_image_commands.proofs.running.run_fetched.Goals as goal
+use Rattle.m3c_image_commands.specs.Reports.{Setting}
+use Rattle.m3c_image_commands.proofs.RunLemmas.{ends_image, refuses_image, image_bytes, refused_bytes}
+use Rattle.m3c_image_commands.proofs.running.run_fetched.Goals as goal
 
 pub returns-in-Err : goal.returns-in-Err
 returns-in-Err g c =

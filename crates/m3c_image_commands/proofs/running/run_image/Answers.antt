@@ -1,6 +1,6 @@
 use Rattle.std.proofs.Common.{◌∙◌}
-use Rattle.m3_image_commands.proofs.RunLemmas.{runs_fetched, is_some_named}
-use Rattle.m3_image_commands.proofs.running.run_image.Goals as goal
+use Rattle.m3c_image_commands.proofs.RunLemmas.{runs_fetched, is_some_named}
+use Rattle.m3c_image_commands.proofs.running.run_image.Goals as goal
 
 pub returns : goal.returns
 returns g c =

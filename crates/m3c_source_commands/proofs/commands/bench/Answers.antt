@@ -1,10 +1,10 @@
 use Rattle.std.proofs.Common.{refl, ap, ◌∙◌, false, []}
-use Rattle.m3_image_commands.specs.Reports.{Setting}
-use Rattle.m3_image_commands.specs.ImageCommands.{by_schedule}
-use Rattle.m3_source_commands.specs.SourceCommands.{IsOfNumber}
-use Rattle.m3_source_commands.specs.Orders.{bench_setting}
-use Rattle.m3_source_commands.proofs.OrderLemmas.{bench_limits, execs_ran, execs_refused}
-use Rattle.m3_source_commands.proofs.commands.bench.Goals as goal
+use Rattle.m3c_image_commands.specs.Reports.{Setting}
+use Rattle.m3c_image_commands.specs.ImageCommands.{by_schedule}
+use Rattle.m3c_source_commands.specs.SourceCommands.{IsOfNumber}
+use Rattle.m3c_source_commands.specs.Orders.{bench_setting}
+use Rattle.m3c_source_commands.proofs.OrderLemmas.{bench_limits, execs_ran, execs_refused}
+use Rattle.m3c_source_commands.proofs.commands.bench.Goals as goal
 
 pub returns-in-Ok-compile_into : goal.returns-in-Ok-compile_into
 returns-in-Ok-compile_into g c =

@@ -1,8 +1,8 @@
 use Rattle.std.proofs.Common.{◌≡◌, ℕ, List, map, refl, sym, subst}
-use Rattle.m3_image_commands.specs.Statuses.{Shelving}
-use Rattle.m3_image_commands.proofs.FetchLemmas.{rises}
-use Rattle.m3_source_commands.proofs.OrderLemmas.{builds_stored, builds_refused, stores_on}
-use Rattle.m3_source_commands.proofs.commands.build_files.Goals as goal
+use Rattle.m3c_image_commands.specs.Statuses.{Shelving}
+use Rattle.m3c_image_commands.proofs.FetchLemmas.{rises}
+use Rattle.m3c_source_commands.proofs.OrderLemmas.{builds_stored, builds_refused, stores_on}
+use Rattle.m3c_source_commands.proofs.commands.build_files.Goals as goal
 
 pub returns-in-Ok : goal.returns-in-Ok
 returns-in-Ok g c =

@@ -1,8 +1,8 @@
 use Rattle.std.proofs.Common.{refl, ap, map}
-use Rattle.m3_image_commands.specs.Statuses.{Shelving}
-use Rattle.m3_source_commands.specs.Orders.{order_of}
-use Rattle.m3_source_commands.proofs.OrderLemmas.{builds_of, execs_of, carried}
-use Rattle.m3_source_commands.proofs.commands.carry_out.Goals as goal
+use Rattle.m3c_image_commands.specs.Statuses.{Shelving}
+use Rattle.m3c_source_commands.specs.Orders.{order_of}
+use Rattle.m3c_source_commands.proofs.OrderLemmas.{builds_of, execs_of, carried}
+use Rattle.m3c_source_commands.proofs.commands.carry_out.Goals as goal
 
 pub returns-in-Build : goal.returns-in-Build
 returns-in-Build g c =

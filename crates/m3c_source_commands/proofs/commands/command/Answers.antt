@@ -1,6 +1,6 @@
 use Rattle.std.proofs.Common.{refl, sym}
-use Rattle.m3_source_commands.specs.Orders.{order_of, usage, no_words, carried_out}
-use Rattle.m3_source_commands.proofs.commands.command.Goals as goal
+use Rattle.m3c_source_commands.specs.Orders.{order_of, usage, no_words, carried_out}
+use Rattle.m3c_source_commands.proofs.commands.command.Goals as goal
 
 pub returns-in-Ok-Some : goal.returns-in-Ok-Some
 returns-in-Ok-Some g c =

@@ -1,10 +1,10 @@
 use Rattle.std.proofs.Common.{refl, inl, inr, ◌∙◌}
 use Rattle.std.specs.Prelude.{is_some}
-use Rattle.m3_image_commands.specs.declared.answers.Answer.{Answer}
-use Rattle.m3_image_commands.proofs.FetchLemmas.{fails_as, fails_after}
-use Rattle.m3_image_commands.proofs.RunLemmas.{is_some_named}
-use Rattle.m3_source_commands.proofs.OrderLemmas.{execs_told, execs_unfetched}
-use Rattle.m3_source_commands.proofs.commands.exec_files.Goals as goal
+use Rattle.m3c_image_commands.specs.declared.answers.Answer.{Answer}
+use Rattle.m3c_image_commands.proofs.FetchLemmas.{fails_as, fails_after}
+use Rattle.m3c_image_commands.proofs.RunLemmas.{is_some_named}
+use Rattle.m3c_source_commands.proofs.OrderLemmas.{execs_told, execs_unfetched}
+use Rattle.m3c_source_commands.proofs.commands.exec_files.Goals as goal
 
 pub returns-in-Err : goal.returns-in-Err
 returns-in-Err g c = execs_unfetched _ _ _ _ _ _ _ {A = Answer} _ refl (fails_as (λ n k o. inl o) c.in-Err.ensures)

@@ -1,8 +1,8 @@
 use Rattle.std.proofs.Common.{ap}
 use Rattle.std.specs.Prelude.{is_some}
-use Rattle.m3_source_commands.specs.Orders.{setting_of, usual_setting}
-use Rattle.m3_source_commands.proofs.OrderLemmas.{execs_plain, usual_limits}
-use Rattle.m3_source_commands.proofs.commands.exec_one.Goals as goal
+use Rattle.m3c_source_commands.specs.Orders.{setting_of, usual_setting}
+use Rattle.m3c_source_commands.proofs.OrderLemmas.{execs_plain, usual_limits}
+use Rattle.m3c_source_commands.proofs.commands.exec_one.Goals as goal
 
 pub returns : goal.returns
 returns g c =

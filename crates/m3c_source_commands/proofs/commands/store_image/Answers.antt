@@ -1,6 +1,6 @@
-use Rattle.m3_image_commands.specs.Statuses.{Shelving}
-use Rattle.m3_source_commands.proofs.OrderLemmas.{stores_refused}
-use Rattle.m3_source_commands.proofs.commands.store_image.Goals as goal
+use Rattle.m3c_image_commands.specs.Statuses.{Shelving}
+use Rattle.m3c_source_commands.proofs.OrderLemmas.{stores_refused}
+use Rattle.m3c_source_commands.proofs.commands.store_image.Goals as goal
 
 pub returns-in-Err : goal.returns-in-Err
 returns-in-Err g c =

@@ -1,5 +1,5 @@
-use Rattle.m3_image_commands.specs.Statuses.{no_memory}
-use Rattle.m3_source_commands.proofs.sources.fetch_next.Goals as goal
+use Rattle.m3c_image_commands.specs.Statuses.{no_memory}
+use Rattle.m3c_source_commands.proofs.sources.fetch_next.Goals as goal
 
 pub returns-in-Err-clause-fetches : goal.returns-in-Err-clause-fetches
 returns-in-Err-clause-fetches g c =

@@ -1,10 +1,10 @@
 use Rattle.std.proofs.Common.{◌≡◌, ℕ, List, map, refl, ap, sym, ◌∙◌, Some, arith}
 use Rattle.std.specs.Prelude.{slice_get, ◌<◌, length}
 use Rattle.std.proofs.lemmas.Option.{slice_get_read}
-use Rattle.m3_image_commands.specs.Statuses.{Shelving}
-use Rattle.m3_source_commands.specs.Texts.{texts_of}
-use Rattle.m3_source_commands.proofs.SourceLemmas.{reading_start, reading_more, reading_failed, reading_done, named_at}
-use Rattle.m3_source_commands.proofs.sources.fetch_sources.Goals as goal
+use Rattle.m3c_image_commands.specs.Statuses.{Shelving}
+use Rattle.m3c_source_commands.specs.Texts.{texts_of}
+use Rattle.m3c_source_commands.proofs.SourceLemmas.{reading_start, reading_more, reading_failed, reading_done, named_at}
+use Rattle.m3c_source_commands.proofs.sources.fetch_sources.Goals as goal
 
 pub files-init : goal.files-init
 files-init g c = reading_start _ _ _ (ap (λ texts. map (λ text. text.items) texts) c.new-sources.ensures) (record { held = refl; faults = omega arith; store_faults = omega arith; absences = omega arith; excesses = omega arith })

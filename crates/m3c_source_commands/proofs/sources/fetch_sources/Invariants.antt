@@ -1,7 +1,7 @@
 use Rattle.std.specs.Prelude.{map}
-use Rattle.m3_source_commands.specs.Texts.{texts_of}
-use Rattle.m3_source_commands.proofs.SourceLemmas.{Reading}
-use Rattle.m3_source_commands.proofs.sources.fetch_sources.Given as goal
+use Rattle.m3c_source_commands.specs.Texts.{texts_of}
+use Rattle.m3c_source_commands.proofs.SourceLemmas.{Reading}
+use Rattle.m3c_source_commands.proofs.sources.fetch_sources.Given as goal
 
 abbrev pub invariant-files : goal.invariant-files
 invariant-files g l = Reading (record {

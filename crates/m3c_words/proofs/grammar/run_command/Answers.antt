@@ -1,5 +1,5 @@
-use Rattle.m3_command_line.proofs.Grammars.{arg_added}
-use Rattle.m3_command_line.proofs.grammar.run_command.Goals as goal
+use Rattle.m3c_words.proofs.Grammars.{arg_added}
+use Rattle.m3c_words.proofs.grammar.run_command.Goals as goal
 
 pub returns : goal.returns
 returns c = c.with_run_options.ensures _ (arg_added _ _ _ _ _ c.in_ok-arg.ensures c.command.ensures c.word.ensures)

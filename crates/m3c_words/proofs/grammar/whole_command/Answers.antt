@@ -1,6 +1,6 @@
-use Rattle.m3_command_line.specs.Grammar.{grammar}
-use Rattle.m3_command_line.proofs.Grammars.{command_added, made_above}
-use Rattle.m3_command_line.proofs.grammar.whole_command.Goals as goal
+use Rattle.m3c_words.specs.Grammar.{grammar}
+use Rattle.m3c_words.proofs.Grammars.{command_added, made_above}
+use Rattle.m3c_words.proofs.grammar.whole_command.Goals as goal
 
 pub returns : goal.returns
 unfolding grammar

@@ -1,6 +1,6 @@
 use Rattle.std.proofs.Common.{sym, ◌∙◌}
-use Rattle.m3_command_line.proofs.Readings.{number_read, plus_is_none}
-use Rattle.m3_command_line.proofs.ranges.number_in.Goals as goal
+use Rattle.m3c_words.proofs.Readings.{number_read, plus_is_none}
+use Rattle.m3c_words.proofs.ranges.number_in.Goals as goal
 
 pub returns-then-has_plus : goal.returns-then-has_plus
 returns-then-has_plus c = sym (plus_is_none c.args.word.now (sym c.has_plus.ensures ∙ c.if-has_plus.true))

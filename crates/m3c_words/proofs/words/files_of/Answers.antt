@@ -2,10 +2,10 @@ use Rattle.std.proofs.Common.{◌∙◌, refl, sym, ap, Some, map, codes, Bor, L
 use Rattle.std.specs.Prelude.{option_and_then}
 use Rattle.clap.specs.Matches.{found_of}
 use Rattle.clap.specs.Walk.{rows_of}
-use Rattle.m3_command_line.specs.Asked.{as_files}
-use Rattle.m3_command_line.proofs.Found.{all_in_rows}
-use Rattle.m3_command_line.proofs.Readings.{files_are}
-use Rattle.m3_command_line.proofs.words.files_of.Goals as goal
+use Rattle.m3c_words.specs.Asked.{as_files}
+use Rattle.m3c_words.proofs.Found.{all_in_rows}
+use Rattle.m3c_words.proofs.Readings.{files_are}
+use Rattle.m3c_words.proofs.words.files_of.Goals as goal
 
 pub returns-in_default : goal.returns-in_default
 returns-in_default c = ap (option_and_then as_files) (c.in_default.ensures ∙ all_in_rows (found_of c.args.matches.now) (codes "FILE"))

@@ -1,7 +1,7 @@
 use Rattle.std.proofs.Common.{◌∙◌, refl, sym}
 use Rattle.std.proofs.lemmas.Bool.{false≢true}
-use Rattle.m3_command_line.proofs.Readings.{met, not_met, read, unread}
-use Rattle.m3_command_line.proofs.words.read_words.Goals as goal
+use Rattle.m3c_words.proofs.Readings.{met, not_met, read, unread}
+use Rattle.m3c_words.proofs.words.read_words.Goals as goal
 
 pub returns-in-Some : goal.returns-in-Some
 returns-in-Some c =

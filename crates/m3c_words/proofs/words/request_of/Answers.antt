@@ -1,6 +1,6 @@
 use Rattle.std.proofs.Common.{refl}
-use Rattle.m3_command_line.proofs.Readings.{order_of_build, order_of_run, order_of_exec, order_of_dump, order_of_bench, order_of_none}
-use Rattle.m3_command_line.proofs.words.request_of.Goals as goal
+use Rattle.m3c_words.proofs.Readings.{order_of_build, order_of_run, order_of_exec, order_of_dump, order_of_bench, order_of_none}
+use Rattle.m3c_words.proofs.words.request_of.Goals as goal
 
 pub returns-in-build : goal.returns-in-build
 returns-in-build c = rw (c.in-build.is, order_of_build) c.build_request.ensures

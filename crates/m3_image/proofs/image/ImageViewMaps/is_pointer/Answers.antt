@@ -1,7 +1,7 @@
 use Rattle.std.proofs.Common.{length, sym, ◌∙◌}
 use Rattle.m3_image.specs.Views.{image_view}
-use Rattle.m3_sections.specs.PartViews.{type_of}
-use Rattle.m3_sections.proofs.ShapeLemmas.{found_pointers, pointer_some, pointer_none}
+use Rattle.m3_image_sections.specs.PartViews.{type_of}
+use Rattle.m3_image_sections.proofs.ShapeLemmas.{found_pointers, pointer_some, pointer_none}
 use Rattle.m3_image.proofs.image.ImageViewMaps.is_pointer.Goals as goal
 
 pub is_pointer-requires : goal.is_pointer-requires

@@ -1,7 +1,7 @@
 use Rattle.std.proofs.Common.{◌≡◌, ℕ, length}
 use Rattle.std.specs.Prelude.{nat_lt}
 use Rattle.std.specs.List.{list_all}
-use Rattle.m3_sections.specs.PartViews.{names_of, pairs_of}
+use Rattle.m3_image_sections.specs.PartViews.{names_of, pairs_of}
 use Rattle.m3_image.proofs.program.Places.fit.Given as goal
 
 abbrev pub invariant-loop-file : goal.invariant-loop-file

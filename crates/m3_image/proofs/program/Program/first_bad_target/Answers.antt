@@ -1,7 +1,7 @@
 use Rattle.std.proofs.Common.{length, sym, arith}
 use Rattle.m3_image.specs.Programs.{target_fits}
 use Rattle.m3_image.specs.Views.{program_view}
-use Rattle.m3_sections.proofs.FirstLemmas.{first_zero, first_stop, first_more}
+use Rattle.m3_image_sections.proofs.FirstLemmas.{first_zero, first_stop, first_more}
 use Rattle.m3_image.proofs.program.Program.first_bad_target.Goals as goal
 
 pub loop-pc-init : goal.loop-pc-init

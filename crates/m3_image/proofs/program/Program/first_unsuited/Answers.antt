@@ -2,7 +2,7 @@ use Rattle.std.proofs.Common.{sym, arith}
 use Rattle.m3_tables.specs.Tables.{row_count}
 use Rattle.m3_image.specs.Programs.{row_suits}
 use Rattle.m3_image.specs.Views.{program_view}
-use Rattle.m3_sections.proofs.FirstLemmas.{first_zero, first_stop, first_more}
+use Rattle.m3_image_sections.proofs.FirstLemmas.{first_zero, first_stop, first_more}
 use Rattle.m3_image.proofs.program.Program.first_unsuited.Goals as goal
 
 pub loop-n-init : goal.loop-n-init

@@ -3,9 +3,9 @@ use Rattle.std.proofs.Math.Logic.{∥∥₁_elim}
 use Rattle.std.proofs.lemmas.Option.{slice_get-get_or}
 use Rattle.std.specs.List.{slice_get}
 use Rattle.m3_isa.specs.declared.instructions.Instr.{Instr}
-use Rattle.m3_decoded.specs.Code.{AreInstructions}
-use Rattle.m3_decoded.proofs.InstructionLemmas.{instruction_prop}
-use Rattle.m3_decoded.proofs.decoded.Decoded.fetch.Goals as goal
+use Rattle.m3_image_decoded.specs.Code.{AreInstructions}
+use Rattle.m3_image_decoded.proofs.InstructionLemmas.{instruction_prop}
+use Rattle.m3_image_decoded.proofs.decoded.Decoded.fetch.Goals as goal
 
 pub returns-clause-good : goal.returns-clause-good
 returns-clause-good c =

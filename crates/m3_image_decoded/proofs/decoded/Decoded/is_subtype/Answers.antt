@@ -1,11 +1,11 @@
 use Rattle.std.proofs.Common.{◌≡◌, List, length, map, sym, ◌∙◌, ap, subst}
-use Rattle.m3_sections.specs.Parts.{CellType}
+use Rattle.m3_image_sections.specs.Parts.{CellType}
 use Rattle.m3_image.specs.Views.{image_view}
-use Rattle.m3_decoded.specs.declared.types.ReadyType.{ReadyType}
-use Rattle.m3_decoded.specs.Ancestors.{IsForest}
-use Rattle.m3_decoded.specs.ReadyTypes.{ready_type}
-use Rattle.m3_decoded.proofs.TypeLemmas.{forest_of}
-use Rattle.m3_decoded.proofs.decoded.Decoded.is_subtype.Goals as goal
+use Rattle.m3_image_decoded.specs.declared.types.ReadyType.{ReadyType}
+use Rattle.m3_image_decoded.specs.Ancestors.{IsForest}
+use Rattle.m3_image_decoded.specs.ReadyTypes.{ready_type}
+use Rattle.m3_image_decoded.proofs.TypeLemmas.{forest_of}
+use Rattle.m3_image_decoded.proofs.decoded.Decoded.is_subtype.Goals as goal
 
 pub is_subtype-requires-clause-forest : goal.is_subtype-requires-clause-forest
 is_subtype-requires-clause-forest c =

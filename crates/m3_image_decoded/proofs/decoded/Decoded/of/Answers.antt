@@ -1,12 +1,12 @@
 use Rattle.std.proofs.Common.{◌≡◌, List, length, map, sym, ◌∙◌, ap, subst}
-use Rattle.m3_sections.specs.Parts.{CellType}
+use Rattle.m3_image_sections.specs.Parts.{CellType}
 use Rattle.m3_image.specs.Views.{image_view}
-use Rattle.m3_decoded.specs.declared.types.ReadyType.{ReadyType}
-use Rattle.m3_decoded.specs.Ancestors.{IsForest}
-use Rattle.m3_decoded.specs.Jumps.{JumpsFit}
-use Rattle.m3_decoded.specs.ReadyTypes.{ready_type}
-use Rattle.m3_decoded.proofs.TypeLemmas.{forest_of}
-use Rattle.m3_decoded.proofs.decoded.Decoded.of.Goals as goal
+use Rattle.m3_image_decoded.specs.declared.types.ReadyType.{ReadyType}
+use Rattle.m3_image_decoded.specs.Ancestors.{IsForest}
+use Rattle.m3_image_decoded.specs.Jumps.{JumpsFit}
+use Rattle.m3_image_decoded.specs.ReadyTypes.{ready_type}
+use Rattle.m3_image_decoded.proofs.TypeLemmas.{forest_of}
+use Rattle.m3_image_decoded.proofs.decoded.Decoded.of.Goals as goal
 
 pub jumps-requires : goal.jumps-requires
 jumps-requires c =

@@ -1,11 +1,11 @@
 use Rattle.std.proofs.Common.{◌≡◌, ◌<◌, List, length, Some, sym, ◌∙◌, subst, arith}
 use Rattle.std.specs.List.{slice_get}
-use Rattle.m3_sections.specs.Parts.{CellType}
+use Rattle.m3_image_sections.specs.Parts.{CellType}
 use Rattle.m3_image.specs.Views.{image_view}
-use Rattle.m3_sections.specs.PartViews.{type_of}
-use Rattle.m3_sections.proofs.ShapeLemmas.{pointer_some}
-use Rattle.m3_decoded.proofs.AncestorLemmas.{ready_at}
-use Rattle.m3_decoded.proofs.decoded.DecodedMaps.is_pointer.Goals as goal
+use Rattle.m3_image_sections.specs.PartViews.{type_of}
+use Rattle.m3_image_sections.proofs.ShapeLemmas.{pointer_some}
+use Rattle.m3_image_decoded.proofs.AncestorLemmas.{ready_at}
+use Rattle.m3_image_decoded.proofs.decoded.DecodedMaps.is_pointer.Goals as goal
 
 pub returns : goal.returns
 returns c =

@@ -1,12 +1,12 @@
 use Rattle.std.proofs.Common.{◌≡◌, ◌<◌, length, List, ℕ, Some, sym, ◌∙◌, ap, subst, arith}
 use Rattle.std.proofs.lemmas.Option.{slice_get-get_or}
 use Rattle.std.specs.List.{slice_get}
-use Rattle.m3_decoded.specs.declared.span.Span.{Span}
-use Rattle.m3_decoded.specs.Parts.{part, IsSpan}
+use Rattle.m3_image_decoded.specs.declared.span.Span.{Span}
+use Rattle.m3_image_decoded.specs.Parts.{part, IsSpan}
 use Rattle.m3_tables.specs.Sections.{tidy_list}
 use Rattle.m3_tables.specs.Tables.{section_of, row_count}
 use Rattle.m3_tables.proofs.OnceLemmas.{tidy_list_once}
-use Rattle.m3_decoded.proofs.rows.TidyLists.get.Goals as goal
+use Rattle.m3_image_decoded.proofs.rows.TidyLists.get.Goals as goal
 
 pub part_of-requires : goal.part_of-requires
 part_of-requires c =

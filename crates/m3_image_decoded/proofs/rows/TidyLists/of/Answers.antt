@@ -1,10 +1,10 @@
 use Rattle.std.proofs.Common.{◌≡◌, List, [], ◌∷◌, length, sym, refl, ◌∙◌, ap, subst, arith, length-append}
 use Rattle.m3_tables.specs.Sections.{tidy_list}
 use Rattle.m3_tables.specs.Tables.{section_of}
-use Rattle.m3_decoded.specs.declared.span.Span.{Span}
-use Rattle.m3_decoded.specs.Parts.{part, IsSpan}
-use Rattle.m3_decoded.proofs.RowLemmas.{AreTold, told_more, was_next}
-use Rattle.m3_decoded.proofs.rows.TidyLists.of.Goals as goal
+use Rattle.m3_image_decoded.specs.declared.span.Span.{Span}
+use Rattle.m3_image_decoded.specs.Parts.{part, IsSpan}
+use Rattle.m3_image_decoded.proofs.RowLemmas.{AreTold, told_more, was_next}
+use Rattle.m3_image_decoded.proofs.rows.TidyLists.of.Goals as goal
 
 pub loop-n-preserved : goal.loop-n-preserved
 loop-n-preserved c =

@@ -2,9 +2,9 @@ use Rattle.std.proofs.Common.{◌≡◌, ℕ, Some, length}
 use Rattle.std.specs.List.{slice_get}
 use Rattle.m3_tables.specs.Sections.{was_list, tidy_list}
 use Rattle.m3_tables.specs.Tables.{section_of}
-use Rattle.m3_decoded.specs.declared.span.Span.{Span}
-use Rattle.m3_decoded.specs.Parts.{part, IsSpan}
-use Rattle.m3_decoded.proofs.rows.TidyLists.of.Given as goal
+use Rattle.m3_image_decoded.specs.declared.span.Span.{Span}
+use Rattle.m3_image_decoded.specs.Parts.{part, IsSpan}
+use Rattle.m3_image_decoded.proofs.rows.TidyLists.of.Given as goal
 
 abbrev pub invariant-loop-n : goal.invariant-loop-n
 invariant-loop-n l =

@@ -1,7 +1,7 @@
 use Rattle.std.proofs.Common.{◌≡◌, ◌<◌, ◌≢◌, ℕ, false, length, get_or, set, arith, get_or-set_other, get_or-set_same, below_more, length-set}
 use Rattle.m3_heap.specs.Shapes.{is_listed}
-use Rattle.m3_sections.specs.PartViews.{type_of}
-use Rattle.m3_decoded.proofs.types.ReadyType.of.Goals as goal
+use Rattle.m3_image_sections.specs.PartViews.{type_of}
+use Rattle.m3_image_decoded.proofs.types.ReadyType.of.Goals as goal
 
 pub loop-k-preserved : goal.loop-k-preserved
 loop-k-preserved c =

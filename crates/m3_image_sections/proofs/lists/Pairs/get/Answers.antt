@@ -1,9 +1,9 @@
 use Rattle.std.proofs.Common.{◌≡◌, ℕ, ◌*◌, ◌-◌, length, take, drop, Some, sym, ap, ◌∙◌, arith}
 use Rattle.std.proofs.lemmas.List.{take_rest}
 use Rattle.m3_tables.specs.Numbers.{word_in}
-use Rattle.m3_sections.specs.Parts.{pair_in}
-use Rattle.m3_sections.proofs.ListLemmas.{each_at, each_past}
-use Rattle.m3_sections.proofs.lists.Pairs.get.Goals as goal
+use Rattle.m3_image_sections.specs.Parts.{pair_in}
+use Rattle.m3_image_sections.proofs.ListLemmas.{each_at, each_past}
+use Rattle.m3_image_sections.proofs.lists.Pairs.get.Goals as goal
 
 pub returns-then-place-self : goal.returns-then-place-self
 returns-then-place-self c = sym (each_past 8 pair_in c.args.self.now.count c.args.self.now.bytes.now c.args.place (omega arith))

@@ -1,8 +1,8 @@
 use Rattle.std.proofs.Common.{◌*◌, Some, sym, ap, ◌∙◌}
 use Rattle.std.proofs.lemmas.List.{take_rest}
-use Rattle.m3_sections.specs.Parts.{proc_in}
-use Rattle.m3_sections.proofs.ListLemmas.{each_at}
-use Rattle.m3_sections.proofs.procs.Procs.at_place.Goals as goal
+use Rattle.m3_image_sections.specs.Parts.{proc_in}
+use Rattle.m3_image_sections.proofs.ListLemmas.{each_at}
+use Rattle.m3_image_sections.proofs.procs.Procs.at_place.Goals as goal
 
 pub returns : goal.returns
 returns c =

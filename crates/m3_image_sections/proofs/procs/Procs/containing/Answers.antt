@@ -1,9 +1,9 @@
 use Rattle.std.proofs.Common.{◌≡◌, ℕ, ◌+◌, ◌-◌, ◌/◌, ◌<◌, sym, ◌∙◌, arith}
-use Rattle.m3_sections.specs.Parts.{proc_in}
-use Rattle.m3_sections.specs.PartViews.{procs_of}
-use Rattle.m3_sections.proofs.ListLemmas.{length_each}
-use Rattle.m3_sections.proofs.ProcLemmas.{end_at, end_known, halve_up, halve_down, containing_at, containing_none, fit_follows}
-use Rattle.m3_sections.proofs.procs.Procs.containing.Goals as goal
+use Rattle.m3_image_sections.specs.Parts.{proc_in}
+use Rattle.m3_image_sections.specs.PartViews.{procs_of}
+use Rattle.m3_image_sections.proofs.ListLemmas.{length_each}
+use Rattle.m3_image_sections.proofs.ProcLemmas.{end_at, end_known, halve_up, halve_down, containing_at, containing_none, fit_follows}
+use Rattle.m3_image_sections.proofs.procs.Procs.containing.Goals as goal
 
 pub loop-low-preserved-then-end-instr : goal.loop-low-preserved-then-end-instr
 loop-low-preserved-then-end-instr c =

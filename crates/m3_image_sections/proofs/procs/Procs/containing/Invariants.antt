@@ -1,7 +1,7 @@
 use Rattle.std.proofs.Common.{ℕ, ◌-◌, ◌<◌, ◌≤◌}
-use Rattle.m3_sections.specs.PartViews.{procs_of}
-use Rattle.m3_sections.proofs.ProcLemmas.{end_at}
-use Rattle.m3_sections.proofs.procs.Procs.containing.Given as goal
+use Rattle.m3_image_sections.specs.PartViews.{procs_of}
+use Rattle.m3_image_sections.proofs.ProcLemmas.{end_at}
+use Rattle.m3_image_sections.proofs.procs.Procs.containing.Given as goal
 
 -- the procedures before low end at the instruction or before it, and those from high on behind it
 abbrev pub invariant-loop-low : goal.invariant-loop-low

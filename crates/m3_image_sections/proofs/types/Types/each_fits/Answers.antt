@@ -1,8 +1,8 @@
 use Rattle.std.proofs.Common.{◌≡◌, suc, length, ap, arith}
-use Rattle.m3_sections.specs.Parts.{type_at}
-use Rattle.m3_sections.specs.PartViews.{types_of}
-use Rattle.m3_sections.proofs.ListLemmas.{length_many}
-use Rattle.m3_sections.proofs.types.Types.each_fits.Goals as goal
+use Rattle.m3_image_sections.specs.Parts.{type_at}
+use Rattle.m3_image_sections.specs.PartViews.{types_of}
+use Rattle.m3_image_sections.proofs.ListLemmas.{length_many}
+use Rattle.m3_image_sections.proofs.types.Types.each_fits.Goals as goal
 
 pub overflow_add-number : goal.overflow_add-number
 overflow_add-number c =

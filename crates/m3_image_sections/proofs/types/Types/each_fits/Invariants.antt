@@ -1,7 +1,7 @@
 use Rattle.std.proofs.Common.{◌≡◌, ◌+◌, length}
-use Rattle.m3_sections.specs.Forms.{types_fit_from}
-use Rattle.m3_sections.specs.PartViews.{types_of}
-use Rattle.m3_sections.proofs.types.Types.each_fits.Given as goal
+use Rattle.m3_image_sections.specs.Forms.{types_fit_from}
+use Rattle.m3_image_sections.specs.PartViews.{types_of}
+use Rattle.m3_image_sections.proofs.types.Types.each_fits.Given as goal
 
 abbrev pub invariant-loop-found : goal.invariant-loop-found
 invariant-loop-found l = record {

@@ -1,7 +1,7 @@
 use Rattle.std.specs.List.{slice_get}
-use Rattle.m3_sections.specs.PartViews.{types_of}
-use Rattle.m3_sections.proofs.ListLemmas.{none_left}
-use Rattle.m3_sections.proofs.types.Types.get.Goals as goal
+use Rattle.m3_image_sections.specs.PartViews.{types_of}
+use Rattle.m3_image_sections.proofs.ListLemmas.{none_left}
+use Rattle.m3_image_sections.proofs.types.Types.get.Goals as goal
 
 pub returns-in_err-next : goal.returns-in_err-next
 returns-in_err-next c =

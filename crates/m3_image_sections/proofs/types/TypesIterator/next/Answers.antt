@@ -1,9 +1,9 @@
 use Rattle.std.proofs.Common.{◌≡◌, suc, length, ap, rules, arith}
-use Rattle.m3_sections.specs.Parts.{type_at}
-use Rattle.m3_sections.specs.Fields.{many_in}
-use Rattle.m3_sections.specs.PartViews.{type_of}
-use Rattle.m3_sections.proofs.ListLemmas.{types_some, type_less}
-use Rattle.m3_sections.proofs.types.TypesIterator.next.Goals as goal
+use Rattle.m3_image_sections.specs.Parts.{type_at}
+use Rattle.m3_image_sections.specs.Fields.{many_in}
+use Rattle.m3_image_sections.specs.PartViews.{type_of}
+use Rattle.m3_image_sections.proofs.ListLemmas.{types_some, type_less}
+use Rattle.m3_image_sections.proofs.types.TypesIterator.next.Goals as goal
 
 pub invariant_of-self : goal.invariant_of-self
 invariant_of-self c =

@@ -1,8 +1,8 @@
-use Rattle.m3_sections.specs.Fields.{past_many}
-use Rattle.m3_sections.specs.Parts.{variable_at}
-use Rattle.m3_sections.specs.PartViews.{variable_of}
-use Rattle.m3_sections.proofs.ListLemmas.{past_step, past_stop, past_end}
-use Rattle.m3_sections.proofs.variables.Variables.past.Goals as goal
+use Rattle.m3_image_sections.specs.Fields.{past_many}
+use Rattle.m3_image_sections.specs.Parts.{variable_at}
+use Rattle.m3_image_sections.specs.PartViews.{variable_of}
+use Rattle.m3_image_sections.proofs.ListLemmas.{past_step, past_stop, past_end}
+use Rattle.m3_image_sections.proofs.variables.Variables.past.Goals as goal
 
 pub returns-in_err-after : goal.returns-in_err-after
 returns-in_err-after c =

@@ -1,5 +1,5 @@
 use Rattle.std.proofs.Common.{◌≡◌, ◌+◌, ◌++◌, [], drop}
-use Rattle.m3_sizes.specs.Sizes.{HasSize, EachField, field_words}
+use Rattle.m3_types_sizes.specs.Sizes.{HasSize, EachField, field_words}
 use Rattle.m3_layout.specs.Pointers.{field_pointers}
 use Rattle.m3_layout.specs.Depths.{value_words, value_pointers}
 use Rattle.m3_layout.specs.Walking.{AreRuns}

@@ -1,10 +1,10 @@
 use Rattle.std.specs.Prelude.{ℕ, slice_get}
 use Rattle.std.proofs.Common.{sym, ap, ◌∙◌, arith, rules}
-use Rattle.m3_sections.specs.Parts.{Image}
+use Rattle.m3_image_sections.specs.Parts.{Image}
 use Rattle.m3_image.specs.Views.{image_view}
-use Rattle.m3_strides.specs.State.{first_globals}
-use Rattle.m3_decoded.specs.Ready.{image_of}
-use Rattle.m3_new_cells.specs.Seen.{Rest}
+use Rattle.m3_run_meaning.specs.State.{first_globals}
+use Rattle.m3_image_decoded.specs.Ready.{image_of}
+use Rattle.m3_run_state.specs.Seen.{Rest}
 use Rattle.m3_machine.proofs.Images.{main_at_point}
 use Rattle.m3_machine.proofs.Starting.{first_is, begins_there, ready_there, program_is}
 use Rattle.m3_machine.proofs.machine.Machine.new.Goals as goal

@@ -2,10 +2,10 @@ use Rattle.std.specs.Prelude.{◌≡◌, ◌<◌, ◌+◌, ◌^◌, ◌++◌, []
 use Rattle.std.proofs.Common.{refl, ap, subst, ◌∙◌, arith, rules}
 use Rattle.m3_base.specs.declared.outcomes.Outcome.{Outcome}
 use Rattle.m3_base.specs.declared.outcomes.Outcome.TheVariants.{Spent}
-use Rattle.m3_sections.specs.Parts.{Program}
-use Rattle.m3_strides.specs.Points.{Says_spent}
-use Rattle.m3_turns.specs.Courses.{IsOther}
-use Rattle.m3_new_cells.specs.Seen.{Rest, state_of, program_of}
+use Rattle.m3_image_sections.specs.Parts.{Program}
+use Rattle.m3_run_meaning.specs.Points.{Says_spent}
+use Rattle.m3_run_laws.specs.Courses.{IsOther}
+use Rattle.m3_run_state.specs.Seen.{Rest, state_of, program_of}
 use Rattle.m3_machine.specs.RunCalls.{Turned}
 use Rattle.m3_machine.proofs.Taking.{took_nothing, took_more}
 use Rattle.m3_machine.proofs.Turning.{followed, known_so, at_first, at_next, ran_over, ran_out, ready_again}

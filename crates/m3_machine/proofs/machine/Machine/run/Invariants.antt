@@ -1,5 +1,5 @@
 use Rattle.std.specs.Prelude.{ℕ, ◌≡◌, ◌+◌, ◌<◌, ◌^◌, List}
-use Rattle.m3_new_cells.specs.Seen.{state_of, program_of, rest_of, Took}
+use Rattle.m3_run_state.specs.Seen.{state_of, program_of, rest_of, Took}
 use Rattle.m3_machine.specs.RunCalls.{At_turn, IsReady}
 use Rattle.m3_machine.proofs.Turning.{followed}
 use Rattle.m3_machine.proofs.machine.Machine.run.Given as goal

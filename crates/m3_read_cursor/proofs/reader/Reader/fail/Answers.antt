@@ -1,7 +1,7 @@
 use Rattle.std.proofs.Common.{rules}
-use Rattle.m3_cursor.proofs.Rests.{failed}
-use Rattle.m3_cursor.proofs.reader.Reader.fail.Goals as goal
-use Rattle.m3_cursor.proofs.reader.Reader.fail.Goals.{then-is_none, else-is_none}
+use Rattle.m3_read_cursor.proofs.Rests.{failed}
+use Rattle.m3_read_cursor.proofs.reader.Reader.fail.Goals as goal
+use Rattle.m3_read_cursor.proofs.reader.Reader.fail.Goals.{then-is_none, else-is_none}
 
 pub returns-clause-follows : goal.returns-clause-follows
 returns-clause-follows c = record {

@@ -1,7 +1,7 @@
 use Rattle.std.proofs.Common.{rules, refl}
 use Rattle.std.proofs.lemmas.List.{take_rest}
-use Rattle.m3_cursor.proofs.Rests.{stepped}
-use Rattle.m3_cursor.proofs.reader.Reader.step.Goals as goal
+use Rattle.m3_read_cursor.proofs.Rests.{stepped}
+use Rattle.m3_read_cursor.proofs.reader.Reader.step.Goals as goal
 
 pub returns-in-len1-up-clause-follows : goal.returns-in-len1-up-clause-follows
 returns-in-len1-up-clause-follows c = record {

@@ -1,6 +1,6 @@
 use Rattle.std.proofs.Common.{refl, length}
-use Rattle.m3_cursor.proofs.Rests.{misnamed, one_fault}
-use Rattle.m3_cursor.proofs.reader.Reader.take_closing.Goals as goal
+use Rattle.m3_read_cursor.proofs.Rests.{misnamed, one_fault}
+use Rattle.m3_read_cursor.proofs.reader.Reader.take_closing.Goals as goal
 
 pub returns-then-is_none-clause-follows : goal.returns-then-is_none-clause-follows
 returns-then-is_none-clause-follows c =

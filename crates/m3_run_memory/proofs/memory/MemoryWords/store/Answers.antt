@@ -1,9 +1,9 @@
 use Rattle.std.specs.Prelude.{length, true}
 use Rattle.std.proofs.Common.{ap, ◌∙◌, cond}
 use Rattle.m3_threads.specs.Spaces.{is_in_stack}
-use Rattle.m3_memory.specs.Addresses.{outside_of, settable_of}
-use Rattle.m3_memory.proofs.StackPuts.{stored_in_memory, keeps_stacks, same_in_stack}
-use Rattle.m3_memory.proofs.memory.MemoryWords.store.Goals as goal
+use Rattle.m3_run_memory.specs.Addresses.{outside_of, settable_of}
+use Rattle.m3_run_memory.proofs.StackPuts.{stored_in_memory, keeps_stacks, same_in_stack}
+use Rattle.m3_run_memory.proofs.memory.MemoryWords.store.Goals as goal
 
 pub returns-clause-stored : goal.returns-clause-stored
 returns-clause-stored g c = λ set x.

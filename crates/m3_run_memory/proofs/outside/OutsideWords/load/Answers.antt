@@ -1,9 +1,9 @@
 use Rattle.std.specs.Prelude.{length, slice_get, ◌-◌}
 use Rattle.std.proofs.Common.{sym, ap, ◌∙◌, arith, Some}
 use Rattle.std.proofs.lemmas.Option.{slice_get-get_or, slice_get_past}
-use Rattle.m3_memory.specs.OutsideLaws.{at_constant, at_global, at_nothing}
-use Rattle.m3_memory.proofs.Placing.{placed, unplaced}
-use Rattle.m3_memory.proofs.outside.OutsideWords.load.Goals as goal
+use Rattle.m3_run_memory.specs.OutsideLaws.{at_constant, at_global, at_nothing}
+use Rattle.m3_run_memory.proofs.Placing.{placed, unplaced}
+use Rattle.m3_run_memory.proofs.outside.OutsideWords.load.Goals as goal
 
 pub returns-then-place-len : goal.returns-then-place-len
 returns-then-place-len g c =

@@ -1,10 +1,10 @@
 use Rattle.std.proofs.Common.{length, slice_set, sym, ap, ◌∙◌, arith, cond, not}
 use Rattle.std.specs.Prelude.{◌==◌}
 use Rattle.m3_heap.specs.CellWords.{words_after, writable_after}
-use Rattle.m3_memory.specs.Addresses.{globals_base, is_from, outside_of}
-use Rattle.m3_memory.proofs.Placing.{placed, unplaced, not-settable, first-not-settable, global_stored, cell_stored}
-use Rattle.m3_memory.proofs.outside.OutsideWords.store.Goals as goal
-use Rattle.m3_memory.proofs.outside.OutsideWords.store.Goals.{then-place-eq0-via-then-place-eq0, then-place-eq0-via-else-place-eq0+then-place-len}
+use Rattle.m3_run_memory.specs.Addresses.{globals_base, is_from, outside_of}
+use Rattle.m3_run_memory.proofs.Placing.{placed, unplaced, not-settable, first-not-settable, global_stored, cell_stored}
+use Rattle.m3_run_memory.proofs.outside.OutsideWords.store.Goals as goal
+use Rattle.m3_run_memory.proofs.outside.OutsideWords.store.Goals.{then-place-eq0-via-then-place-eq0, then-place-eq0-via-else-place-eq0+then-place-len}
 
 pub returns-then-at-ge-HEAP-clause-stored : goal.returns-then-at-ge-HEAP-clause-stored
 returns-then-at-ge-HEAP-clause-stored g c = λ set x.

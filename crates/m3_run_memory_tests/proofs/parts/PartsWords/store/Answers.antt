@@ -1,10 +1,10 @@
 use Rattle.std.proofs.Common.{◌≡◌, false, true, cond, ap, arith}
 use Rattle.std.proofs.lemmas.Bool.Decides.{nat_tests}
 use Rattle.m3_heap.specs.CellWords.{words_after, writable_after}
-use Rattle.m3_memory_tests.specs.Held.{is_global}
-use Rattle.m3_memory_tests.proofs.Storing.{stored_in}
-use Rattle.m3_memory_tests.proofs.parts.PartsWords.store.Goals as goal
-use Rattle.m3_memory_tests.proofs.parts.PartsWords.store.Goals.{else-at-ge-GLOBALS-via-then-at-ge-GLOBALS+else-at, else-at-ge-GLOBALS-via-else-at-ge-GLOBALS}
+use Rattle.m3_run_memory_tests.specs.Held.{is_global}
+use Rattle.m3_run_memory_tests.proofs.Storing.{stored_in}
+use Rattle.m3_run_memory_tests.proofs.parts.PartsWords.store.Goals as goal
+use Rattle.m3_run_memory_tests.proofs.parts.PartsWords.store.Goals.{else-at-ge-GLOBALS-via-then-at-ge-GLOBALS+else-at, else-at-ge-GLOBALS-via-else-at-ge-GLOBALS}
 
 pub returns-else-at-ge-GLOBALS-clause-stored : goal.returns-else-at-ge-GLOBALS-clause-stored
 returns-else-at-ge-GLOBALS-clause-stored g c = λ set x.

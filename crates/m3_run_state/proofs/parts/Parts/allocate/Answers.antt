@@ -1,7 +1,7 @@
 use Rattle.std.proofs.Common.{◌∙◌}
 use Rattle.std.proofs.Math.Logic.{∥∥₁_elim, ∥∥₁_prop}
-use Rattle.m3_new_cells.proofs.NewCells.{if_some, is_low}
-use Rattle.m3_new_cells.proofs.parts.Parts.allocate.Goals as goal
+use Rattle.m3_run_state.proofs.NewCells.{if_some, is_low}
+use Rattle.m3_run_state.proofs.parts.Parts.allocate.Goals as goal
 
 pub invariant_of-self : goal.invariant_of-self
 invariant_of-self g c =

@@ -1,11 +1,11 @@
 use Rattle.std.specs.Prelude.{ℕ, ◌≡◌, ◌+◌, Some, slice_get}
 use Rattle.std.proofs.Common.{sym, ap, subst, ◌∙◌, arith}
 use Rattle.m3_threads.specs.All.{thread_named}
-use Rattle.m3_strides.specs.State.{State}
-use Rattle.m3_strides.specs.Making.{HasNew}
-use Rattle.m3_new_cells.specs.Seen.{Rest, state_of, program_of}
-use Rattle.m3_new_cells.proofs.Forking.{found_forked, started}
-use Rattle.m3_new_cells.proofs.parts.Parts.begin_thread.Goals as goal
+use Rattle.m3_run_meaning.specs.State.{State}
+use Rattle.m3_run_meaning.specs.Making.{HasNew}
+use Rattle.m3_run_state.specs.Seen.{Rest, state_of, program_of}
+use Rattle.m3_run_state.proofs.Forking.{found_forked, started}
+use Rattle.m3_run_state.proofs.parts.Parts.begin_thread.Goals as goal
 
 pub finish_fork-requires-clause-new : goal.finish_fork-requires-clause-new
 finish_fork-requires-clause-new g c = subst (λ (x : State). HasNew 1 4 c.args.cell x) (sym c.fork.ensures.others) c.requires.new

@@ -1,7 +1,7 @@
 use Rattle.std.specs.Prelude.{ℕ, ◌+◌, ◌%◌, Option, unwrap_or}
 use Rattle.std.proofs.Common.{ap, ◌∙◌}
 use Rattle.m3_isa.specs.Arithmetic.{byte_in}
-use Rattle.m3_new_cells.proofs.parts.Parts.byte_before.Goals as goal
+use Rattle.m3_run_state.proofs.parts.Parts.byte_before.Goals as goal
 
 pub returns : goal.returns
 returns g c = λ before was.

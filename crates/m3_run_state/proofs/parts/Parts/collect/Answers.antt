@@ -1,10 +1,10 @@
 use Rattle.std.specs.Prelude.{ℕ}
 use Rattle.std.proofs.Common.{refl, sym, subst}
 use Rattle.m3_roots.specs.RoomSizes.{IsRoomFor}
-use Rattle.m3_decoded.specs.Ready.{image_of}
-use Rattle.m3_new_cells.specs.Seen.{state_of, program_of}
-use Rattle.m3_new_cells.proofs.Collecting.{image_program, collects, spoils}
-use Rattle.m3_new_cells.proofs.parts.Parts.collect.Goals as goal
+use Rattle.m3_image_decoded.specs.Ready.{image_of}
+use Rattle.m3_run_state.specs.Seen.{state_of, program_of}
+use Rattle.m3_run_state.proofs.Collecting.{image_program, collects, spoils}
+use Rattle.m3_run_state.proofs.parts.Parts.collect.Goals as goal
 
 pub returns-then-done-clause-good : goal.returns-then-done-clause-good
 returns-then-done-clause-good g c = λ e going.

@@ -1,13 +1,13 @@
 use Rattle.std.specs.Prelude.{ℕ, ◌≡◌, ◌+◌, List, Option}
 use Rattle.std.proofs.Common.{sym, ap, subst, ◌∙◌, arith}
-use Rattle.m3_strides.specs.Progress.{became}
-use Rattle.m3_strides.specs.State.{memory_of}
-use Rattle.m3_strides.specs.Texts.{text_words}
-use Rattle.m3_strides.specs.Making.{HasNew}
-use Rattle.m3_strides.specs.NewTexts.{part_of, FillsText}
-use Rattle.m3_new_cells.specs.Seen.{state_of, program_of}
-use Rattle.m3_new_cells.proofs.BlankLemmas.{both_empty}
-use Rattle.m3_new_cells.proofs.parts.Parts.cut_into.Goals as goal
+use Rattle.m3_run_meaning.specs.Progress.{became}
+use Rattle.m3_run_meaning.specs.State.{memory_of}
+use Rattle.m3_run_meaning.specs.Texts.{text_words}
+use Rattle.m3_run_meaning.specs.Making.{HasNew}
+use Rattle.m3_run_meaning.specs.NewTexts.{part_of, FillsText}
+use Rattle.m3_run_state.specs.Seen.{state_of, program_of}
+use Rattle.m3_run_state.proofs.BlankLemmas.{both_empty}
+use Rattle.m3_run_state.proofs.parts.Parts.cut_into.Goals as goal
 
 none : (n : ℕ) → n + 0 ≡ n
 none n = omega arith

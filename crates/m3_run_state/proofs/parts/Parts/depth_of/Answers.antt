@@ -3,8 +3,8 @@ use Rattle.std.proofs.Common.{ap, ◌∙◌, arith}
 use Rattle.m3_threads.specs.declared.status.Thread.{Thread}
 use Rattle.m3_threads.specs.All.{words_of}
 use Rattle.m3_threads.specs.Going.{of_thread}
-use Rattle.m3_new_cells.proofs.Depths.{depth_same}
-use Rattle.m3_new_cells.proofs.parts.Parts.depth_of.Goals as goal
+use Rattle.m3_run_state.proofs.Depths.{depth_same}
+use Rattle.m3_run_state.proofs.parts.Parts.depth_of.Goals as goal
 
 pub returns-in-Some-clause-same : goal.returns-in-Some-clause-same
 returns-in-Some-clause-same g c =

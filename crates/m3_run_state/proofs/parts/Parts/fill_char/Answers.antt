@@ -1,14 +1,14 @@
 use Rattle.std.specs.Prelude.{ℕ, ◌≡◌, ◌+◌, ◌%◌, [], ◌∷◌, true, slice_index}
 use Rattle.std.proofs.Common.{refl, sym, ap, subst, ◌∙◌, arith}
 use Rattle.m3_isa.specs.Memory.{put}
-use Rattle.m3_strides.specs.Progress.{became}
-use Rattle.m3_strides.specs.State.{Becomes, memory_of, can_set}
-use Rattle.m3_strides.specs.Texts.{text_rest}
-use Rattle.m3_strides.specs.NewTexts.{Fills, with_words}
-use Rattle.m3_new_cells.specs.Seen.{Rest, state_of, program_of}
-use Rattle.m3_new_cells.proofs.NewCells.{HasBlank, blank_can_set}
-use Rattle.m3_new_cells.proofs.Filling.{with_none, fill_step, put_there, others_on, still_running}
-use Rattle.m3_new_cells.proofs.parts.Parts.fill_char.Goals as goal
+use Rattle.m3_run_meaning.specs.Progress.{became}
+use Rattle.m3_run_meaning.specs.State.{Becomes, memory_of, can_set}
+use Rattle.m3_run_meaning.specs.Texts.{text_rest}
+use Rattle.m3_run_meaning.specs.NewTexts.{Fills, with_words}
+use Rattle.m3_run_state.specs.Seen.{Rest, state_of, program_of}
+use Rattle.m3_run_state.proofs.NewCells.{HasBlank, blank_can_set}
+use Rattle.m3_run_state.proofs.Filling.{with_none, fill_step, put_there, others_on, still_running}
+use Rattle.m3_run_state.proofs.parts.Parts.fill_char.Goals as goal
 
 pub returns-clause-fills : goal.returns-clause-fills
 returns-clause-fills g c = λ t running.

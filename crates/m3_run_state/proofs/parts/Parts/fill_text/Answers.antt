@@ -1,15 +1,15 @@
 use Rattle.std.specs.Prelude.{ℕ, ◌≡◌, ◌+◌, ◌<◌, List, true, length, slice_index, take}
 use Rattle.std.proofs.Common.{refl, sym, ap, subst, ◌∙◌, arith, take_all, length-take-le}
-use Rattle.m3_strides.specs.State.{memory_of, can_set}
-use Rattle.m3_sections.specs.Parts.{Program}
-use Rattle.m3_strides.specs.Texts.{text_words, text_rest}
-use Rattle.m3_strides.specs.NewTexts.{with_words}
-use Rattle.m3_new_cells.specs.Blanks.{WasBlank, both_bytes}
-use Rattle.m3_new_cells.specs.Seen.{Rest, state_of, program_of}
-use Rattle.m3_new_cells.proofs.NewCells.{HasBlank, blank_can_set}
-use Rattle.m3_new_cells.proofs.BlankLemmas.{was_blank, both_length, rest_length}
-use Rattle.m3_new_cells.proofs.Filling.{with_none, fill_step, put_there, others_itself, others_on}
-use Rattle.m3_new_cells.proofs.parts.Parts.fill_text.Goals as goal
+use Rattle.m3_run_meaning.specs.State.{memory_of, can_set}
+use Rattle.m3_image_sections.specs.Parts.{Program}
+use Rattle.m3_run_meaning.specs.Texts.{text_words, text_rest}
+use Rattle.m3_run_meaning.specs.NewTexts.{with_words}
+use Rattle.m3_run_state.specs.Blanks.{WasBlank, both_bytes}
+use Rattle.m3_run_state.specs.Seen.{Rest, state_of, program_of}
+use Rattle.m3_run_state.proofs.NewCells.{HasBlank, blank_can_set}
+use Rattle.m3_run_state.proofs.BlankLemmas.{was_blank, both_length, rest_length}
+use Rattle.m3_run_state.proofs.Filling.{with_none, fill_step, put_there, others_itself, others_on}
+use Rattle.m3_run_state.proofs.parts.Parts.fill_text.Goals as goal
 
 pub words-init : goal.words-init
 words-init g c =

@@ -4,14 +4,14 @@ use Rattle.m3_isa.specs.Memory.{put}
 use Rattle.m3_isa.specs.Effects.{answered}
 use Rattle.m3_isa.specs.declared.registers.Regs.{Regs}
 use Rattle.m3_threads.specs.All.{thread_named}
-use Rattle.m3_strides.specs.State.{State, memory_of, can_set, with_all, with_regs, Becomes}
-use Rattle.m3_strides.specs.Progress.{Goes}
-use Rattle.m3_strides.specs.NewTexts.{standing_at}
-use Rattle.m3_new_cells.specs.Seen.{Rest, state_of, program_of}
-use Rattle.m3_new_cells.proofs.NewCells.{HasBlank, blank_can_set}
-use Rattle.m3_new_cells.proofs.Filling.{put_there, still_running}
-use Rattle.m3_new_cells.proofs.Forking.{found_standing}
-use Rattle.m3_new_cells.proofs.parts.Parts.finish_fork.Goals as goal
+use Rattle.m3_run_meaning.specs.State.{State, memory_of, can_set, with_all, with_regs, Becomes}
+use Rattle.m3_run_meaning.specs.Progress.{Goes}
+use Rattle.m3_run_meaning.specs.NewTexts.{standing_at}
+use Rattle.m3_run_state.specs.Seen.{Rest, state_of, program_of}
+use Rattle.m3_run_state.proofs.NewCells.{HasBlank, blank_can_set}
+use Rattle.m3_run_state.proofs.Filling.{put_there, still_running}
+use Rattle.m3_run_state.proofs.Forking.{found_standing}
+use Rattle.m3_run_state.proofs.parts.Parts.finish_fork.Goals as goal
 
 pub returns-clause-stands : goal.returns-clause-stands
 returns-clause-stands g c = λ few t begins running next.

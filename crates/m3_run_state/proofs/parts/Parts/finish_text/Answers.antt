@@ -1,14 +1,14 @@
 use Rattle.std.specs.Prelude.{◌≡◌, Bool, true, false}
 use Rattle.std.proofs.Common.{sym, ap, subst, ◌∙◌, rules}
-use Rattle.m3_strides.specs.declared.progress.Progress.{Progress as Answer}
-use Rattle.m3_strides.specs.Progress.{became}
-use Rattle.m3_strides.specs.State.{memory_of}
-use Rattle.m3_strides.specs.Texts.{text_bytes}
-use Rattle.m3_strides.specs.Acts.{has_text}
-use Rattle.m3_strides.specs.NewTexts.{bytes_if, both, part_of, FillsText}
-use Rattle.m3_new_cells.specs.Seen.{state_of, program_of}
-use Rattle.m3_new_cells.proofs.Filling.{still_running}
-use Rattle.m3_new_cells.proofs.parts.Parts.finish_text.Goals as goal
+use Rattle.m3_run_meaning.specs.declared.progress.Progress.{Progress as Answer}
+use Rattle.m3_run_meaning.specs.Progress.{became}
+use Rattle.m3_run_meaning.specs.State.{memory_of}
+use Rattle.m3_run_meaning.specs.Texts.{text_bytes}
+use Rattle.m3_run_meaning.specs.Acts.{has_text}
+use Rattle.m3_run_meaning.specs.NewTexts.{bytes_if, both, part_of, FillsText}
+use Rattle.m3_run_state.specs.Seen.{state_of, program_of}
+use Rattle.m3_run_state.proofs.Filling.{still_running}
+use Rattle.m3_run_state.proofs.parts.Parts.finish_text.Goals as goal
 
 pub returns-then-not-has_part-clause-fills : goal.returns-then-not-has_part-clause-fills
 returns-then-not-has_part-clause-fills g c = λ t running.

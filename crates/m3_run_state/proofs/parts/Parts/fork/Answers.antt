@@ -1,6 +1,6 @@
 use Rattle.std.specs.Prelude.{ℕ, Some}
 use Rattle.std.proofs.Common.{arith, refl, ap, rules}
-use Rattle.m3_new_cells.proofs.parts.Parts.fork.Goals as goal
+use Rattle.m3_run_state.proofs.parts.Parts.fork.Goals as goal
 
 pub returns-in-Ok-clause-forks : goal.returns-in-Ok-clause-forks
 returns-in-Ok-clause-forks g c = λ few room.

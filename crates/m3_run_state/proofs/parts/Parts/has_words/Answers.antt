@@ -3,10 +3,10 @@ use Rattle.std.proofs.Common.{sym, ap, ◌∙◌, arith, rules}
 use Rattle.m3_base.specs.Words.{add_words}
 use Rattle.m3_isa.specs.Effects.{every}
 use Rattle.m3_isa.proofs.Every.{every-fails}
-use Rattle.m3_strides.specs.State.{memory_of}
-use Rattle.m3_new_cells.specs.Seen.{state_of, program_of}
-use Rattle.m3_new_cells.proofs.TextBytes.{every_more}
-use Rattle.m3_new_cells.proofs.parts.Parts.has_words.Goals as goal
+use Rattle.m3_run_meaning.specs.State.{memory_of}
+use Rattle.m3_run_state.specs.Seen.{state_of, program_of}
+use Rattle.m3_run_state.proofs.TextBytes.{every_more}
+use Rattle.m3_run_state.proofs.parts.Parts.has_words.Goals as goal
 
 pub words-preserved : goal.words-preserved
 words-preserved g c =

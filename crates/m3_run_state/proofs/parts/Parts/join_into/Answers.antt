@@ -1,12 +1,12 @@
 use Rattle.std.specs.Prelude.{ℕ}
 use Rattle.std.proofs.Common.{sym, subst}
 use Rattle.m3_isa.specs.Effects.{reg}
-use Rattle.m3_strides.specs.Progress.{became}
-use Rattle.m3_strides.specs.State.{memory_of}
-use Rattle.m3_strides.specs.Making.{HasNew}
-use Rattle.m3_strides.specs.NewTexts.{both, part_of, FillsText}
-use Rattle.m3_new_cells.specs.Seen.{state_of, program_of}
-use Rattle.m3_new_cells.proofs.parts.Parts.join_into.Goals as goal
+use Rattle.m3_run_meaning.specs.Progress.{became}
+use Rattle.m3_run_meaning.specs.State.{memory_of}
+use Rattle.m3_run_meaning.specs.Making.{HasNew}
+use Rattle.m3_run_meaning.specs.NewTexts.{both, part_of, FillsText}
+use Rattle.m3_run_state.specs.Seen.{state_of, program_of}
+use Rattle.m3_run_state.proofs.parts.Parts.join_into.Goals as goal
 
 pub finish_text-requires-clause-new : goal.finish_text-requires-clause-new
 finish_text-requires-clause-new g c = subst (λ (w : ℕ). HasNew 0 w c.args.start (state_of c.args.self.now)) (sym c.words_for-words.ensures.words) c.requires.new

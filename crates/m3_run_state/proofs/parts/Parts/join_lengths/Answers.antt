@@ -1,12 +1,12 @@
 use Rattle.std.specs.Prelude.{ℕ, Ok, Err}
 use Rattle.std.proofs.Common.{refl, ap, subst, arith}
 use Rattle.m3_isa.specs.Effects.{reg}
-use Rattle.m3_sections.specs.Parts.{Program}
-use Rattle.m3_strides.specs.Progress.{became}
-use Rattle.m3_strides.specs.Making.{Makes, HasNew}
-use Rattle.m3_strides.specs.NewTexts.{both, part_of, GivesText}
-use Rattle.m3_new_cells.specs.Seen.{Rest, state_of, program_of}
-use Rattle.m3_new_cells.proofs.parts.Parts.join_lengths.Goals as goal
+use Rattle.m3_image_sections.specs.Parts.{Program}
+use Rattle.m3_run_meaning.specs.Progress.{became}
+use Rattle.m3_run_meaning.specs.Making.{Makes, HasNew}
+use Rattle.m3_run_meaning.specs.NewTexts.{both, part_of, GivesText}
+use Rattle.m3_run_state.specs.Seen.{Rest, state_of, program_of}
+use Rattle.m3_run_state.proofs.parts.Parts.join_lengths.Goals as goal
 
 pub join_into-requires-clause-small : goal.join_into-requires-clause-small
 join_into-requires-clause-small g c = omega (arith, c.in-Ok.ensures.low.1, c.words_for-words.ensures.words)

@@ -2,11 +2,11 @@ use Rattle.std.specs.Prelude.{ℕ, Result}
 use Rattle.std.proofs.Common.{ap, subst, ◌∙◌, refl}
 use Rattle.m3_base.specs.declared.outcomes.Outcome.{Outcome}
 use Rattle.m3_isa.specs.Effects.{reg}
-use Rattle.m3_strides.specs.Progress.{Ends, became}
-use Rattle.m3_strides.specs.State.{memory_of}
-use Rattle.m3_strides.specs.NewTexts.{Cats, lengths_at}
-use Rattle.m3_new_cells.specs.Seen.{state_of, program_of}
-use Rattle.m3_new_cells.proofs.parts.Parts.join_texts.Goals as goal
+use Rattle.m3_run_meaning.specs.Progress.{Ends, became}
+use Rattle.m3_run_meaning.specs.State.{memory_of}
+use Rattle.m3_run_meaning.specs.NewTexts.{Cats, lengths_at}
+use Rattle.m3_run_state.specs.Seen.{state_of, program_of}
+use Rattle.m3_run_state.proofs.parts.Parts.join_texts.Goals as goal
 
 pub returns-in-Ok-clause-cats : goal.returns-in-Ok-clause-cats
 returns-in-Ok-clause-cats g c = λ going t running.

@@ -1,15 +1,15 @@
 use Rattle.std.specs.Prelude.{ℕ, Ok}
 use Rattle.std.proofs.Common.{refl, sym, ap, subst, arith}
-use Rattle.m3_sections.specs.Parts.{Program}
-use Rattle.m3_sections.specs.PartViews.{type_of}
-use Rattle.m3_strides.specs.Progress.{Ends, became}
-use Rattle.m3_strides.specs.State.{State, memory_of}
-use Rattle.m3_strides.specs.Making.{Makes}
-use Rattle.m3_strides.specs.NewTexts.{Sizes, Fails_at_size, Makes_open, GivesOpen, no_sizes, makes_open, open_words}
-use Rattle.m3_new_cells.specs.Seen.{Rest, state_of, program_of}
-use Rattle.m3_new_cells.proofs.Going.{still_going}
-use Rattle.m3_new_cells.proofs.OpenSizes.{words_said}
-use Rattle.m3_new_cells.proofs.parts.Parts.make_by_sizes.Goals as goal
+use Rattle.m3_image_sections.specs.Parts.{Program}
+use Rattle.m3_image_sections.specs.PartViews.{type_of}
+use Rattle.m3_run_meaning.specs.Progress.{Ends, became}
+use Rattle.m3_run_meaning.specs.State.{State, memory_of}
+use Rattle.m3_run_meaning.specs.Making.{Makes}
+use Rattle.m3_run_meaning.specs.NewTexts.{Sizes, Fails_at_size, Makes_open, GivesOpen, no_sizes, makes_open, open_words}
+use Rattle.m3_run_state.specs.Seen.{Rest, state_of, program_of}
+use Rattle.m3_run_state.proofs.Going.{still_going}
+use Rattle.m3_run_state.proofs.OpenSizes.{words_said}
+use Rattle.m3_run_state.proofs.parts.Parts.make_by_sizes.Goals as goal
 
 pub make_sized-requires-clause-room : goal.make_sized-requires-clause-room
 make_sized-requires-clause-room g c = omega (arith, c.read_sizes.ensures.few, c.words_asked-words.ensures)

@@ -1,10 +1,10 @@
 use Rattle.std.proofs.Common.{ap, subst}
-use Rattle.m3_sections.specs.Parts.{Program}
-use Rattle.m3_strides.specs.State.{State}
-use Rattle.m3_strides.specs.Making.{Makes_late, at_once, late}
-use Rattle.m3_new_cells.specs.Seen.{Rest, state_of}
-use Rattle.m3_new_cells.proofs.Going.{still_going}
-use Rattle.m3_new_cells.proofs.parts.Parts.make_cell.Goals as goal
+use Rattle.m3_image_sections.specs.Parts.{Program}
+use Rattle.m3_run_meaning.specs.State.{State}
+use Rattle.m3_run_meaning.specs.Making.{Makes_late, at_once, late}
+use Rattle.m3_run_state.specs.Seen.{Rest, state_of}
+use Rattle.m3_run_state.proofs.Going.{still_going}
+use Rattle.m3_run_state.proofs.parts.Parts.make_cell.Goals as goal
 
 pub returns-in-Some-clause-made : goal.returns-in-Some-clause-made
 returns-in-Some-clause-made g c = λ going. at_once c.in-Some.cell _ c.in-Some.ensures.allocated

@@ -1,11 +1,11 @@
 use Rattle.std.specs.Prelude.{◌%◌, [], ◌∷◌, Some, Ok, Err}
 use Rattle.std.proofs.Common.{refl, ap, subst}
 use Rattle.m3_isa.specs.Effects.{reg}
-use Rattle.m3_sections.specs.Parts.{Program}
-use Rattle.m3_strides.specs.Progress.{became}
-use Rattle.m3_strides.specs.NewTexts.{GivesText}
-use Rattle.m3_new_cells.specs.Seen.{Rest, state_of}
-use Rattle.m3_new_cells.proofs.parts.Parts.make_char.Goals as goal
+use Rattle.m3_image_sections.specs.Parts.{Program}
+use Rattle.m3_run_meaning.specs.Progress.{became}
+use Rattle.m3_run_meaning.specs.NewTexts.{GivesText}
+use Rattle.m3_run_state.specs.Seen.{Rest, state_of}
+use Rattle.m3_run_state.proofs.parts.Parts.make_char.Goals as goal
 
 pub returns-in-Ok-clause-makes : goal.returns-in-Ok-clause-makes
 returns-in-Ok-clause-makes g c = λ going.

@@ -1,13 +1,13 @@
 use Rattle.std.specs.Prelude.{ℕ, ◌≡◌, ◌+◌, Ok, Err}
 use Rattle.std.proofs.Common.{refl, ap, subst, ◌∙◌, arith}
 use Rattle.m3_isa.specs.Effects.{reg}
-use Rattle.m3_sections.specs.Parts.{Program}
-use Rattle.m3_strides.specs.Progress.{Ends, became}
-use Rattle.m3_strides.specs.Texts.{text_words}
-use Rattle.m3_strides.specs.Making.{Makes, HasNew}
-use Rattle.m3_strides.specs.NewTexts.{part_of, GivesText, Makes_text}
-use Rattle.m3_new_cells.specs.Seen.{Rest, state_of, program_of}
-use Rattle.m3_new_cells.proofs.parts.Parts.make_cut.Goals as goal
+use Rattle.m3_image_sections.specs.Parts.{Program}
+use Rattle.m3_run_meaning.specs.Progress.{Ends, became}
+use Rattle.m3_run_meaning.specs.Texts.{text_words}
+use Rattle.m3_run_meaning.specs.Making.{Makes, HasNew}
+use Rattle.m3_run_meaning.specs.NewTexts.{part_of, GivesText, Makes_text}
+use Rattle.m3_run_state.specs.Seen.{Rest, state_of, program_of}
+use Rattle.m3_run_state.proofs.parts.Parts.make_cut.Goals as goal
 
 none : (n : ℕ) → n + 0 ≡ n
 none n = omega arith

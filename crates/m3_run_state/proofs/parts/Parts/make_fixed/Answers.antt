@@ -1,9 +1,9 @@
 use Rattle.std.specs.Prelude.{ℕ, slice_get, Ok, Err}
 use Rattle.std.proofs.Common.{refl, sym, subst, rules}
-use Rattle.m3_strides.specs.Progress.{Ends, became}
-use Rattle.m3_strides.specs.Making.{Makes_fixed, fixed_words, not_fixed, makes_fixed}
-use Rattle.m3_new_cells.specs.Seen.{state_of, program_of}
-use Rattle.m3_new_cells.proofs.parts.Parts.make_fixed.Goals as goal
+use Rattle.m3_run_meaning.specs.Progress.{Ends, became}
+use Rattle.m3_run_meaning.specs.Making.{Makes_fixed, fixed_words, not_fixed, makes_fixed}
+use Rattle.m3_run_state.specs.Seen.{state_of, program_of}
+use Rattle.m3_run_state.proofs.parts.Parts.make_fixed.Goals as goal
 
 pub returns-in-Err-clause-makes : goal.returns-in-Err-clause-makes
 returns-in-Err-clause-makes g c = λ going.

@@ -1,6 +1,6 @@
 use Rattle.std.proofs.Common.{rules}
-use Rattle.m3_strides.specs.Making.{made_late, full_late, stuck_late}
-use Rattle.m3_new_cells.proofs.parts.Parts.make_late.Goals as goal
+use Rattle.m3_run_meaning.specs.Making.{made_late, full_late, stuck_late}
+use Rattle.m3_run_state.proofs.parts.Parts.make_late.Goals as goal
 
 pub returns-then-not-collect-clause-made : goal.returns-then-not-collect-clause-made
 returns-then-not-collect-clause-made g c = λ going. stuck_late _ (c.collect.ensures.bad (search rules) going)

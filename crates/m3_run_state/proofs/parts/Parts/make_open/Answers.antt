@@ -2,13 +2,13 @@ use Rattle.std.specs.Prelude.{ℕ, ◌≡◌, Result, slice_get}
 use Rattle.std.specs.Int.{cast_unsigned, w32}
 use Rattle.std.proofs.Common.{sym, ap, subst, ◌∙◌, rules}
 use Rattle.m3_base.specs.declared.outcomes.Outcome.{Outcome}
-use Rattle.m3_sections.specs.Parts.{CellType}
-use Rattle.m3_sections.specs.PartViews.{type_of}
-use Rattle.m3_strides.specs.Progress.{became}
-use Rattle.m3_strides.specs.NewTexts.{Makes_open, open_type, not_open}
-use Rattle.m3_new_cells.specs.Seen.{state_of, program_of}
-use Rattle.m3_new_cells.proofs.OpenSizes.{there_is}
-use Rattle.m3_new_cells.proofs.parts.Parts.make_open.Goals as goal
+use Rattle.m3_image_sections.specs.Parts.{CellType}
+use Rattle.m3_image_sections.specs.PartViews.{type_of}
+use Rattle.m3_run_meaning.specs.Progress.{became}
+use Rattle.m3_run_meaning.specs.NewTexts.{Makes_open, open_type, not_open}
+use Rattle.m3_run_state.specs.Seen.{state_of, program_of}
+use Rattle.m3_run_state.proofs.OpenSizes.{there_is}
+use Rattle.m3_run_state.proofs.parts.Parts.make_open.Goals as goal
 
 pub returns-in-Err-clause-makes : goal.returns-in-Err-clause-makes
 returns-in-Err-clause-makes g c = λ going t running.

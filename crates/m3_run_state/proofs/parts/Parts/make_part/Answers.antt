@@ -4,12 +4,12 @@ use Rattle.std.proofs.Common.{refl, ap, subst, ◌∙◌, rules}
 use Rattle.m3_base.specs.Words.{add_words}
 use Rattle.m3_base.specs.declared.outcomes.Outcome.{Outcome}
 use Rattle.m3_isa.specs.Effects.{reg}
-use Rattle.m3_strides.specs.Act.{or_trap}
-use Rattle.m3_strides.specs.Progress.{Ends, became}
-use Rattle.m3_strides.specs.State.{memory_of}
-use Rattle.m3_strides.specs.NewTexts.{Makes_text, Subs, sub_count, part_of}
-use Rattle.m3_new_cells.specs.Seen.{state_of, program_of}
-use Rattle.m3_new_cells.proofs.parts.Parts.make_part.Goals as goal
+use Rattle.m3_run_meaning.specs.Act.{or_trap}
+use Rattle.m3_run_meaning.specs.Progress.{Ends, became}
+use Rattle.m3_run_meaning.specs.State.{memory_of}
+use Rattle.m3_run_meaning.specs.NewTexts.{Makes_text, Subs, sub_count, part_of}
+use Rattle.m3_run_state.specs.Seen.{state_of, program_of}
+use Rattle.m3_run_state.proofs.parts.Parts.make_part.Goals as goal
 
 pub returns-in-Ok-clause-subs : goal.returns-in-Ok-clause-subs
 returns-in-Ok-clause-subs g c = λ going t running.

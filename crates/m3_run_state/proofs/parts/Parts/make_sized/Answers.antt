@@ -1,12 +1,12 @@
 use Rattle.std.specs.Prelude.{ℕ, ◌+◌, List, length, Ok, Err}
 use Rattle.std.proofs.Common.{refl, ap, subst, arith}
-use Rattle.m3_sections.specs.Parts.{Program}
-use Rattle.m3_strides.specs.Progress.{became}
-use Rattle.m3_strides.specs.State.{Becomes, memory_of}
-use Rattle.m3_strides.specs.NewTexts.{with_words, GivesOpen}
-use Rattle.m3_new_cells.specs.Seen.{Rest, state_of, program_of}
-use Rattle.m3_new_cells.proofs.Filling.{still_running}
-use Rattle.m3_new_cells.proofs.parts.Parts.make_sized.Goals as goal
+use Rattle.m3_image_sections.specs.Parts.{Program}
+use Rattle.m3_run_meaning.specs.Progress.{became}
+use Rattle.m3_run_meaning.specs.State.{Becomes, memory_of}
+use Rattle.m3_run_meaning.specs.NewTexts.{with_words, GivesOpen}
+use Rattle.m3_run_state.specs.Seen.{Rest, state_of, program_of}
+use Rattle.m3_run_state.proofs.Filling.{still_running}
+use Rattle.m3_run_state.proofs.parts.Parts.make_sized.Goals as goal
 
 pub write_sizes-requires-clause-room : goal.write_sizes-requires-clause-room
 write_sizes-requires-clause-room g c =

@@ -1,12 +1,12 @@
 use Rattle.std.specs.Prelude.{ℕ, ◌≡◌, ◌+◌, take, Option, unwrap_or}
 use Rattle.std.proofs.Common.{refl, sym, ap, ◌∙◌, arith}
 use Rattle.m3_base.specs.Words.{add_words}
-use Rattle.m3_strides.specs.State.{memory_of}
-use Rattle.m3_strides.specs.Texts.{text_byte}
-use Rattle.m3_new_cells.specs.Seen.{state_of, program_of}
-use Rattle.m3_new_cells.proofs.TextBytes.{word_bytes}
-use Rattle.m3_new_cells.proofs.Putting.{start_pieces, more_pieces}
-use Rattle.m3_new_cells.proofs.parts.Parts.put_part.Goals as goal
+use Rattle.m3_run_meaning.specs.State.{memory_of}
+use Rattle.m3_run_meaning.specs.Texts.{text_byte}
+use Rattle.m3_run_state.specs.Seen.{state_of, program_of}
+use Rattle.m3_run_state.proofs.TextBytes.{word_bytes}
+use Rattle.m3_run_state.proofs.Putting.{start_pieces, more_pieces}
+use Rattle.m3_run_state.proofs.parts.Parts.put_part.Goals as goal
 
 pub pieces-init : goal.pieces-init
 pieces-init g c =

@@ -1,9 +1,9 @@
 use Rattle.std.specs.Prelude.{◌≡◌, ◌++◌, ◌*◌, min, map, Some, IfSome}
 use Rattle.std.specs.List.{range_with_len}
-use Rattle.m3_strides.specs.State.{memory_of}
-use Rattle.m3_strides.specs.Texts.{text_byte}
-use Rattle.m3_new_cells.specs.Seen.{state_of, program_of}
-use Rattle.m3_new_cells.proofs.parts.Parts.put_part.Given as goal
+use Rattle.m3_run_meaning.specs.State.{memory_of}
+use Rattle.m3_run_meaning.specs.Texts.{text_byte}
+use Rattle.m3_run_state.specs.Seen.{state_of, program_of}
+use Rattle.m3_run_state.proofs.parts.Parts.put_part.Given as goal
 
 -- no fault came, and the bytes of the words so far were put
 abbrev pub invariant-pieces : goal.invariant-pieces

@@ -1,16 +1,16 @@
 use Rattle.std.specs.Prelude.{◌≡◌, false, true, None, Some}
 use Rattle.std.proofs.Common.{sym, ap, ◌∙◌, rules}
 use Rattle.m3_isa.specs.Effects.{next}
-use Rattle.m3_strides.specs.declared.progress.Progress.{Progress as Answer}
-use Rattle.m3_strides.specs.Act.{Puts, stops_with_trap}
-use Rattle.m3_strides.specs.Progress.{became}
-use Rattle.m3_strides.specs.State.{memory_of}
-use Rattle.m3_strides.specs.Texts.{text_bytes}
-use Rattle.m3_strides.specs.Acts.{puts_text}
-use Rattle.m3_new_cells.specs.Seen.{state_of, program_of}
-use Rattle.m3_new_cells.proofs.TextBytes.{put_none}
-use Rattle.m3_new_cells.proofs.Putting.{put_loaded, put_found, put_as}
-use Rattle.m3_new_cells.proofs.parts.Parts.put_text.Goals as goal
+use Rattle.m3_run_meaning.specs.declared.progress.Progress.{Progress as Answer}
+use Rattle.m3_run_meaning.specs.Act.{Puts, stops_with_trap}
+use Rattle.m3_run_meaning.specs.Progress.{became}
+use Rattle.m3_run_meaning.specs.State.{memory_of}
+use Rattle.m3_run_meaning.specs.Texts.{text_bytes}
+use Rattle.m3_run_meaning.specs.Acts.{puts_text}
+use Rattle.m3_run_state.specs.Seen.{state_of, program_of}
+use Rattle.m3_run_state.proofs.TextBytes.{put_none}
+use Rattle.m3_run_state.proofs.Putting.{put_loaded, put_found, put_as}
+use Rattle.m3_run_state.proofs.parts.Parts.put_text.Goals as goal
 
 pub returns-in-None-clause-puts : goal.returns-in-None-clause-puts
 returns-in-None-clause-puts g c = λ t running.

@@ -2,11 +2,11 @@ use Rattle.std.specs.Prelude.{ℕ, ◌≡◌, ◌<◌, ◌+◌, ◌-◌, ◌*◌
 use Rattle.std.proofs.Common.{sym, ap, subst, ◌∙◌, arith}
 use Rattle.std.proofs.lemmas.List.{length_push}
 use Rattle.m3_base.specs.Words.{add_words}
-use Rattle.m3_strides.specs.State.{State, memory_of}
-use Rattle.m3_strides.specs.NewTexts.{Sizes, none, more, not_there, too_large, product}
-use Rattle.m3_new_cells.specs.Seen.{Rest, state_of, program_of}
-use Rattle.m3_new_cells.proofs.OpenSizes.{product_more, stopped, lt_of_nat_le, le_of_nat_le}
-use Rattle.m3_new_cells.proofs.parts.Parts.read_sizes.Goals as goal
+use Rattle.m3_run_meaning.specs.State.{State, memory_of}
+use Rattle.m3_run_meaning.specs.NewTexts.{Sizes, none, more, not_there, too_large, product}
+use Rattle.m3_run_state.specs.Seen.{Rest, state_of, program_of}
+use Rattle.m3_run_state.proofs.OpenSizes.{product_more, stopped, lt_of_nat_le, le_of_nat_le}
+use Rattle.m3_run_state.proofs.parts.Parts.read_sizes.Goals as goal
 
 pub sizes-init : goal.sizes-init
 sizes-init g c =

@@ -1,8 +1,8 @@
 use Rattle.std.specs.Prelude.{◌≡◌, ◌≤◌, ◌-◌, ◌^◌, min, length, vec_capacity}
-use Rattle.m3_strides.specs.State.{memory_of}
-use Rattle.m3_strides.specs.NewTexts.{Sizes, product}
-use Rattle.m3_new_cells.specs.Seen.{state_of, program_of, rest_of}
-use Rattle.m3_new_cells.proofs.parts.Parts.read_sizes.Given as goal
+use Rattle.m3_run_meaning.specs.State.{memory_of}
+use Rattle.m3_run_meaning.specs.NewTexts.{Sizes, product}
+use Rattle.m3_run_state.specs.Seen.{state_of, program_of, rest_of}
+use Rattle.m3_run_state.proofs.parts.Parts.read_sizes.Given as goal
 
 -- nothing but the sizes is other than before, and where there is room, those so far were read
 abbrev pub invariant-sizes : goal.invariant-sizes

@@ -1,10 +1,10 @@
 use Rattle.std.specs.Prelude.{List}
 use Rattle.std.proofs.Common.{sym, ap}
 use Rattle.m3_threads.specs.declared.status.Thread.{Thread}
-use Rattle.m3_strides.specs.State.{regs_set, with_all}
-use Rattle.m3_new_cells.specs.Seen.{state_of}
-use Rattle.m3_new_cells.proofs.Forking.{unchanged, none_there}
-use Rattle.m3_new_cells.proofs.parts.Parts.set_regs.Goals as goal
+use Rattle.m3_run_meaning.specs.State.{regs_set, with_all}
+use Rattle.m3_run_state.specs.Seen.{state_of}
+use Rattle.m3_run_state.proofs.Forking.{unchanged, none_there}
+use Rattle.m3_run_state.proofs.parts.Parts.set_regs.Goals as goal
 
 pub returns-in_default-clause-set : goal.returns-in_default-clause-set
 returns-in_default-clause-set g c =

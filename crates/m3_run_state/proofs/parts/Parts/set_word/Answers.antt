@@ -1,7 +1,7 @@
 use Rattle.std.proofs.Common.{◌∙◌}
 use Rattle.std.proofs.Math.Logic.{∥∥₁_elim, ∥∥₁_prop}
-use Rattle.m3_memory.proofs.Keeping.{still-counted}
-use Rattle.m3_new_cells.proofs.parts.Parts.set_word.Goals as goal
+use Rattle.m3_run_memory.proofs.Keeping.{still-counted}
+use Rattle.m3_run_state.proofs.parts.Parts.set_word.Goals as goal
 
 pub invariant_of-self : goal.invariant_of-self
 invariant_of-self g c =

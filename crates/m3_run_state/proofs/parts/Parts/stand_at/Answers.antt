@@ -2,10 +2,10 @@ use Rattle.std.specs.Prelude.{List}
 use Rattle.std.proofs.Common.{sym, ap, arith, rules}
 use Rattle.m3_threads.specs.declared.status.Thread.{Thread}
 use Rattle.m3_threads.specs.Going.{status_at, with_status}
-use Rattle.m3_strides.specs.State.{with_all}
-use Rattle.m3_new_cells.specs.Seen.{state_of}
-use Rattle.m3_new_cells.proofs.Forking.{unchanged, none_there}
-use Rattle.m3_new_cells.proofs.parts.Parts.stand_at.Goals as goal
+use Rattle.m3_run_meaning.specs.State.{with_all}
+use Rattle.m3_run_state.specs.Seen.{state_of}
+use Rattle.m3_run_state.proofs.Forking.{unchanged, none_there}
+use Rattle.m3_run_state.proofs.parts.Parts.stand_at.Goals as goal
 
 pub returns-then-not-may_count-clause-stands : goal.returns-then-not-may_count-clause-stands
 returns-then-not-may_count-clause-stands g c = λ few.

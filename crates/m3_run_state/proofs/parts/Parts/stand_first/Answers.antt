@@ -1,10 +1,10 @@
 use Rattle.std.specs.Prelude.{◌≡◌}
 use Rattle.std.proofs.Common.{ap, ◌∙◌}
 use Rattle.m3_isa.specs.declared.instructions.Instr.{Instr}
-use Rattle.m3_strides.specs.State.{with_all}
-use Rattle.m3_strides.specs.NewTexts.{standing_at}
-use Rattle.m3_new_cells.specs.Seen.{state_of}
-use Rattle.m3_new_cells.proofs.parts.Parts.stand_first.Goals as goal
+use Rattle.m3_run_meaning.specs.State.{with_all}
+use Rattle.m3_run_meaning.specs.NewTexts.{standing_at}
+use Rattle.m3_run_state.specs.Seen.{state_of}
+use Rattle.m3_run_state.proofs.parts.Parts.stand_first.Goals as goal
 
 pub returns-in-Some-clause-stands : goal.returns-in-Some-clause-stands
 returns-in-Some-clause-stands g c = λ few begins found.

@@ -2,11 +2,11 @@ use Rattle.std.specs.Prelude.{◌≡◌, ◌≢◌, ◌==◌, true, length, Ok, 
 use Rattle.std.proofs.Common.{refl, sym, ap, subst, ◌∙◌, arith, rules, eq-eqb}
 use Rattle.std.proofs.lemmas.Bool.{false≢true}
 use Rattle.std.proofs.lemmas.Bool.Decides.{nat_tests}
-use Rattle.m3_sections.specs.Parts.{Program}
-use Rattle.m3_strides.specs.Progress.{Ends, became}
-use Rattle.m3_strides.specs.NewTexts.{GivesThread, too_many, makes_thread}
-use Rattle.m3_new_cells.specs.Seen.{Rest, state_of}
-use Rattle.m3_new_cells.proofs.parts.Parts.start_thread.Goals as goal
+use Rattle.m3_image_sections.specs.Parts.{Program}
+use Rattle.m3_run_meaning.specs.Progress.{Ends, became}
+use Rattle.m3_run_meaning.specs.NewTexts.{GivesThread, too_many, makes_thread}
+use Rattle.m3_run_state.specs.Seen.{Rest, state_of}
+use Rattle.m3_run_state.proofs.parts.Parts.start_thread.Goals as goal
 
 pub returns-then-not-may_count-clause-forks : goal.returns-then-not-may_count-clause-forks
 returns-then-not-may_count-clause-forks g c = λ going few.

@@ -1,9 +1,9 @@
 use Rattle.std.specs.Prelude.{◌≡◌, ◌+◌, ◌-◌, ◌*◌, slice_index, take, drop}
 use Rattle.std.proofs.Common.{sym, ap, ◌∙◌, arith}
-use Rattle.m3_strides.specs.Texts.{packed, text_rest}
-use Rattle.m3_new_cells.specs.Blanks.{both_bytes}
-use Rattle.m3_new_cells.proofs.BlankLemmas.{both_length, rest_word}
-use Rattle.m3_new_cells.proofs.parts.Parts.text_word.Goals as goal
+use Rattle.m3_run_meaning.specs.Texts.{packed, text_rest}
+use Rattle.m3_run_state.specs.Blanks.{both_bytes}
+use Rattle.m3_run_state.proofs.BlankLemmas.{both_length, rest_word}
+use Rattle.m3_run_state.proofs.parts.Parts.text_word.Goals as goal
 
 pub returns : goal.returns
 returns g c = λ before was.

@@ -1,9 +1,9 @@
 use Rattle.std.specs.Prelude.{◌≡◌, ◌≢◌, ◌+◌, slice_index, slice_set}
 use Rattle.std.proofs.Common.{sym, ap, ◌∙◌, arith, ⊎_elim, get_or-set_other, get_or-set_same, length-set}
 use Rattle.std.proofs.lemmas.Bool.{cases_eq}
-use Rattle.m3_new_cells.specs.Blanks.{both_bytes}
-use Rattle.m3_new_cells.proofs.Packing.{word_from}
-use Rattle.m3_new_cells.proofs.parts.Parts.word_before.Goals as goal
+use Rattle.m3_run_state.specs.Blanks.{both_bytes}
+use Rattle.m3_run_state.proofs.Packing.{word_from}
+use Rattle.m3_run_state.proofs.parts.Parts.word_before.Goals as goal
 
 pub bytes-preserved : goal.bytes-preserved
 bytes-preserved g c =

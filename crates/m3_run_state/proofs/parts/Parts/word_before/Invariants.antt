@@ -1,9 +1,9 @@
 use Rattle.std.specs.Prelude.{ℕ, ◌≡◌, ◌+◌, ◌<◌, length, slice_index}
 use Rattle.m3_isa.specs.Memory.{Memory}
-use Rattle.m3_strides.specs.State.{memory_of}
-use Rattle.m3_new_cells.specs.Blanks.{WasBlank, both_bytes}
-use Rattle.m3_new_cells.specs.Seen.{state_of, program_of}
-use Rattle.m3_new_cells.proofs.parts.Parts.word_before.Given as goal
+use Rattle.m3_run_meaning.specs.State.{memory_of}
+use Rattle.m3_run_state.specs.Blanks.{WasBlank, both_bytes}
+use Rattle.m3_run_state.specs.Seen.{state_of, program_of}
+use Rattle.m3_run_state.proofs.parts.Parts.word_before.Given as goal
 
 -- the bytes so far
 abbrev pub invariant-bytes : goal.invariant-bytes

@@ -1,12 +1,12 @@
 use Rattle.std.specs.Prelude.{ℕ, ◌≡◌, ◌+◌, ◌<◌, List, true, length, slice_index}
 use Rattle.std.proofs.Common.{refl, sym, ap, ◌∙◌, arith, take_all}
 use Rattle.std.proofs.lemmas.List.{get_or_read}
-use Rattle.m3_strides.specs.State.{memory_of, can_set}
-use Rattle.m3_strides.specs.NewTexts.{with_words}
-use Rattle.m3_new_cells.specs.Seen.{Rest, state_of, program_of}
-use Rattle.m3_new_cells.proofs.NewCells.{HasBlank, blank_can_set}
-use Rattle.m3_new_cells.proofs.Filling.{with_none, fill_step, put_there, others_itself, others_on}
-use Rattle.m3_new_cells.proofs.parts.Parts.write_sizes.Goals as goal
+use Rattle.m3_run_meaning.specs.State.{memory_of, can_set}
+use Rattle.m3_run_meaning.specs.NewTexts.{with_words}
+use Rattle.m3_run_state.specs.Seen.{Rest, state_of, program_of}
+use Rattle.m3_run_state.proofs.NewCells.{HasBlank, blank_can_set}
+use Rattle.m3_run_state.proofs.Filling.{with_none, fill_step, put_there, others_itself, others_on}
+use Rattle.m3_run_state.proofs.parts.Parts.write_sizes.Goals as goal
 
 pub sizes-init : goal.sizes-init
 sizes-init g c =

@@ -1,8 +1,8 @@
 use Rattle.std.specs.Prelude.{ℕ, ◌≡◌, ◌+◌, take}
-use Rattle.m3_strides.specs.State.{memory_of, can_set, HasOtherWords}
-use Rattle.m3_strides.specs.NewTexts.{with_words}
-use Rattle.m3_new_cells.specs.Seen.{state_of, program_of, rest_of}
-use Rattle.m3_new_cells.proofs.parts.Parts.write_sizes.Given as goal
+use Rattle.m3_run_meaning.specs.State.{memory_of, can_set, HasOtherWords}
+use Rattle.m3_run_meaning.specs.NewTexts.{with_words}
+use Rattle.m3_run_state.specs.Seen.{state_of, program_of, rest_of}
+use Rattle.m3_run_state.proofs.parts.Parts.write_sizes.Given as goal
 
 -- the sizes so far stand behind the header, and nothing else is other than before
 abbrev pub invariant-sizes : goal.invariant-sizes

@@ -1,7 +1,7 @@
 use Rattle.std.proofs.Common.{◌∙◌, ap}
-use Rattle.m3_sizes.specs.Sizes.{known_at}
-use Rattle.m3_sizes.proofs.Measuring.{sized_if}
-use Rattle.m3_sizes.proofs.sized.SizedTypes.has_size.Goals as goal
+use Rattle.m3_types_sizes.specs.Sizes.{known_at}
+use Rattle.m3_types_sizes.proofs.Measuring.{sized_if}
+use Rattle.m3_types_sizes.proofs.sized.SizedTypes.has_size.Goals as goal
 
 pub returns : goal.returns
 returns c =

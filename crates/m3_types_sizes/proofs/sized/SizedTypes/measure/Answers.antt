@@ -1,7 +1,7 @@
 use Rattle.std.proofs.Common.{◌≡◌, length, subst}
-use Rattle.m3_sizes.specs.Sizes.{IsRight, AreSized, IsFull}
-use Rattle.m3_sizes.proofs.Measuring.{shallow_if}
-use Rattle.m3_sizes.proofs.sized.SizedTypes.measure.Goals as goal
+use Rattle.m3_types_sizes.specs.Sizes.{IsRight, AreSized, IsFull}
+use Rattle.m3_types_sizes.proofs.Measuring.{shallow_if}
+use Rattle.m3_types_sizes.proofs.sized.SizedTypes.measure.Goals as goal
 
 pub invariant_of-result : goal.invariant_of-result
 invariant_of-result c =

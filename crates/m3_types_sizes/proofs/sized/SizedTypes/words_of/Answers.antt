@@ -1,7 +1,7 @@
 use Rattle.std.proofs.Common.{◌∙◌, ap, sym, subst}
-use Rattle.m3_sizes.specs.Sizes.{known_at, AreWords}
-use Rattle.m3_sizes.proofs.Measuring.{shallow_if, words_known}
-use Rattle.m3_sizes.proofs.sized.SizedTypes.words_of.Goals as goal
+use Rattle.m3_types_sizes.specs.Sizes.{known_at, AreWords}
+use Rattle.m3_types_sizes.proofs.Measuring.{shallow_if, words_known}
+use Rattle.m3_types_sizes.proofs.sized.SizedTypes.words_of.Goals as goal
 
 pub returns-clause-words : goal.returns-clause-words
 returns-clause-words c =

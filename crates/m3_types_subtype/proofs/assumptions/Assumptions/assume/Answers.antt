@@ -1,9 +1,9 @@
 use Rattle.std.proofs.Common.{◌≡◌, ℕ, ◌+◌, ◌<◌, sym, subst}
 use Rattle.std.specs.Prelude.{if◌then◌else◌}
-use Rattle.m3_same.specs.Classes.{parent_of, root_count}
-use Rattle.m3_same.specs.Assumptions.{IsKept}
-use Rattle.m3_same.proofs.Keeping.{kept_joined}
-use Rattle.m3_same.proofs.assumptions.Assumptions.assume.Goals as goal
+use Rattle.m3_types_subtype.specs.Classes.{parent_of, root_count}
+use Rattle.m3_types_subtype.specs.Assumptions.{IsKept}
+use Rattle.m3_types_subtype.proofs.Keeping.{kept_joined}
+use Rattle.m3_types_subtype.proofs.assumptions.Assumptions.assume.Goals as goal
 
 pub returns-in_ok-push-clause-kept : goal.returns-in_ok-push-clause-kept
 returns-in_ok-push-clause-kept c =

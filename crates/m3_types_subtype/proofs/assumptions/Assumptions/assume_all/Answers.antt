@@ -1,9 +1,9 @@
 use Rattle.std.proofs.Common.{get_or, length, arith, below_more}
-use Rattle.m3_same.specs.Classes.{parent_of, SameClass}
-use Rattle.m3_same.specs.Sameness.{Same}
-use Rattle.m3_same.proofs.Agreement.{pairwise_at, pairwise_from_places}
-use Rattle.m3_same.proofs.Keeping.{front_stays, longer_stays, forced_stays}
-use Rattle.m3_same.proofs.assumptions.Assumptions.assume_all.Goals as goal
+use Rattle.m3_types_subtype.specs.Classes.{parent_of, SameClass}
+use Rattle.m3_types_subtype.specs.Sameness.{Same}
+use Rattle.m3_types_subtype.proofs.Agreement.{pairwise_at, pairwise_from_places}
+use Rattle.m3_types_subtype.proofs.Keeping.{front_stays, longer_stays, forced_stays}
+use Rattle.m3_types_subtype.proofs.assumptions.Assumptions.assume_all.Goals as goal
 
 pub loop-i-preserved : goal.loop-i-preserved
 loop-i-preserved c =

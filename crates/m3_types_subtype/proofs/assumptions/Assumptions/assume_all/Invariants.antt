@@ -1,9 +1,9 @@
 use Rattle.std.proofs.Common.{◌≡◌, ℕ, ◌<◌, ◌≤◌, List, length, get_or, take, All}
 use Rattle.m3_types.specs.declared.nodes.TypeNode.{TypeNode}
-use Rattle.m3_same.specs.Classes.{parent_of, SameClass}
-use Rattle.m3_same.specs.Sameness.{Matched, Same}
-use Rattle.m3_same.specs.Assumptions.{IsKept}
-use Rattle.m3_same.proofs.assumptions.Assumptions.assume_all.Given as goal
+use Rattle.m3_types_subtype.specs.Classes.{parent_of, SameClass}
+use Rattle.m3_types_subtype.specs.Sameness.{Matched, Same}
+use Rattle.m3_types_subtype.specs.Assumptions.{IsKept}
+use Rattle.m3_types_subtype.proofs.assumptions.Assumptions.assume_all.Given as goal
 
 abbrev pub invariant-loop-i : goal.invariant-loop-i
 invariant-loop-i l = record {

@@ -1,7 +1,7 @@
 use Rattle.std.proofs.Common.{◌≡◌, ℕ, zero, suc, ◌+◌, sym, subst, arith}
-use Rattle.m3_subtype.specs.Heights.{HasHeight, top, below}
-use Rattle.m3_subtype.proofs.Levels.{height_of_sum}
-use Rattle.m3_subtype.proofs.heights.Heights.count.Goals as goal
+use Rattle.m3_types_subtype.specs.Heights.{HasHeight, top, below}
+use Rattle.m3_types_subtype.proofs.Levels.{height_of_sum}
+use Rattle.m3_types_subtype.proofs.heights.Heights.count.Goals as goal
 
 pub returns-in-Some : goal.returns-in-Some
 returns-in-Some c =

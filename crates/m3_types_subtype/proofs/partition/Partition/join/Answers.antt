@@ -1,7 +1,7 @@
 use Rattle.std.proofs.Common.{◌≡◌, sym, ◌∙◌, ap}
-use Rattle.m3_same.specs.Classes.{parent_of, root_of}
-use Rattle.m3_same.proofs.Forest.{root_of_root, root_is_root}
-use Rattle.m3_same.proofs.partition.Partition.join.Goals as goal
+use Rattle.m3_types_subtype.specs.Classes.{parent_of, root_of}
+use Rattle.m3_types_subtype.proofs.Forest.{root_of_root, root_is_root}
+use Rattle.m3_types_subtype.proofs.partition.Partition.join.Goals as goal
 
 -- the first root is still one after the second look-up
 pub link-requires-clause-low : goal.link-requires-clause-low

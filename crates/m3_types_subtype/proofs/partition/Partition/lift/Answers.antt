@@ -1,7 +1,7 @@
-use Rattle.m3_same.specs.Classes.{parent_of}
-use Rattle.m3_same.proofs.Forest.{root_of_shorter, root_count_shorter}
-use Rattle.m3_same.proofs.Parents.{parents_lifted, lifted_descends}
-use Rattle.m3_same.proofs.partition.Partition.lift.Goals as goal
+use Rattle.m3_types_subtype.specs.Classes.{parent_of}
+use Rattle.m3_types_subtype.proofs.Forest.{root_of_shorter, root_count_shorter}
+use Rattle.m3_types_subtype.proofs.Parents.{parents_lifted, lifted_descends}
+use Rattle.m3_types_subtype.proofs.partition.Partition.lift.Goals as goal
 
 pub returns-clause-classes : goal.returns-clause-classes
 returns-clause-classes c =

@@ -1,7 +1,7 @@
-use Rattle.m3_same.specs.Classes.{parent_of}
-use Rattle.m3_same.proofs.Forest.{root_of_joined, root_count_joined}
-use Rattle.m3_same.proofs.Parents.{parent_written, parent_elsewhere, linked_descends}
-use Rattle.m3_same.proofs.partition.Partition.link.Goals as goal
+use Rattle.m3_types_subtype.specs.Classes.{parent_of}
+use Rattle.m3_types_subtype.proofs.Forest.{root_of_joined, root_count_joined}
+use Rattle.m3_types_subtype.proofs.Parents.{parent_written, parent_elsewhere, linked_descends}
+use Rattle.m3_types_subtype.proofs.partition.Partition.link.Goals as goal
 
 pub returns-clause-roots : goal.returns-clause-roots
 returns-clause-roots c =

@@ -1,7 +1,7 @@
 use Rattle.std.proofs.Common.{◌≡◌, sym, ◌∙◌, ap, arith}
-use Rattle.m3_same.specs.Classes.{parent_of, root_of}
-use Rattle.m3_same.proofs.Forest.{root_of_root, root_of_parent}
-use Rattle.m3_same.proofs.partition.Partition.root.Goals as goal
+use Rattle.m3_types_subtype.specs.Classes.{parent_of, root_of}
+use Rattle.m3_types_subtype.proofs.Forest.{root_of_root, root_of_parent}
+use Rattle.m3_types_subtype.proofs.partition.Partition.root.Goals as goal
 
 pub returns-then-up-at-clause-root : goal.returns-then-up-at-clause-root
 returns-then-up-at-clause-root c =

@@ -1,6 +1,6 @@
 use Rattle.std.proofs.Common.{◌≡◌, ◌≤◌, ℕ}
-use Rattle.m3_same.specs.Classes.{parent_of, root_of, root_count}
-use Rattle.m3_same.proofs.partition.Partition.root.Given as goal
+use Rattle.m3_types_subtype.specs.Classes.{parent_of, root_of, root_count}
+use Rattle.m3_types_subtype.proofs.partition.Partition.root.Given as goal
 
 -- the roots are those at the call, and the way goes on in the class of the number
 abbrev pub invariant-loop-at : goal.invariant-loop-at

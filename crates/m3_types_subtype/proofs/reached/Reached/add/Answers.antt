@@ -1,7 +1,7 @@
 use Rattle.std.proofs.Common.{sym, ◌∙◌, subst}
-use Rattle.m3_subtype.specs.Reaching.{IsVisited}
-use Rattle.m3_subtype.proofs.Adding.{kept_added}
-use Rattle.m3_subtype.proofs.reached.Reached.add.Goals as goal
+use Rattle.m3_types_subtype.specs.Reaching.{IsVisited}
+use Rattle.m3_types_subtype.proofs.Adding.{kept_added}
+use Rattle.m3_types_subtype.proofs.reached.Reached.add.Goals as goal
 
 pub returns-in_ok-push-clause-kept : goal.returns-in_ok-push-clause-kept
 returns-in_ok-push-clause-kept c =

@@ -1,7 +1,0 @@
-//! NEW of a type, with sizes or bindings (rules 55, 60, 65 and 66).
-#![tactic(auto)]
-
-mod methods;
-mod news;
-
-pub use news::new_call;

@@ -1,0 +1,10 @@
+//! The loop over the instructions of one thread, as far as nothing has to be chosen between them:
+//! each that it carries out is a step of the machine by its definitions (`m3_run_meaning`).
+#![tactic(auto)]
+
+mod halts;
+mod steps;
+mod strides;
+
+pub use halts::Halt;
+pub use strides::{Pace, stride};

@@ -1,6 +1,0 @@
-pub mod Forest
-pub mod Parents
-pub mod Joining
-pub mod Agreement
-pub mod Keeping
-pub mod Comparing
