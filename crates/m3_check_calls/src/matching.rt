@@ -1,8 +1,9 @@
 use bumpalo::Bump;
 use bumpalo::collections::into_bump_slice;
 use m3_base::{NoMemory, place_number};
-use m3_check_state::{Checker, Given, Member};
+use m3_check_state::{Checker, Given};
 use m3_check_types::{formals_of, own_member};
+use m3_decl_lookup::Member;
 use m3_syntax::Name;
 use m3_types::{Formal, Mode, TypeId};
 

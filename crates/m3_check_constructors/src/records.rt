@@ -3,9 +3,10 @@ use bumpalo::Bump;
 use bumpalo::collections::into_bump_slice;
 use m3_base::{NoMemory, Pos, place_number};
 use m3_check_assigning::assigned;
-use m3_check_state::{Checker, Given, Member};
+use m3_check_state::{Checker, Given};
 use m3_check_types::own_member;
 use m3_core::{CoreExpr, FieldValue};
+use m3_decl_lookup::Member;
 use m3_syntax::Name;
 use m3_types::{Field, TypeId, TypeNode};
 

@@ -1,12 +1,12 @@
 use m3_base::{NoMemory, Pos, rules};
 use m3_check_assigning::{chain_of, chain_thing, placed_chain, read_chain, with_step};
 use m3_check_names::entity_thing;
-use m3_check_state::{Checker, Draft, Found, Member, Method, State, Thing, Valued};
+use m3_check_state::{Checker, Draft, Method, State, Thing, Valued};
 use m3_check_types::{
     fits, is_array, is_reference, newest_member, own_member, type_member, visible_type,
 };
 use m3_core::Step;
-use m3_decl_lookup::{field_kind, method_kind};
+use m3_decl_lookup::{Found, Member, field_kind, method_kind};
 use m3_syntax::Name;
 use m3_types::{TypeId, TypeNode};
 

@@ -4,12 +4,12 @@ use bumpalo::collections::into_bump_slice;
 use m3_base::{NoMemory, Pos, rules};
 use m3_check_arithmetic_calls::type_given;
 use m3_check_assigning::{assigned, judge_all, judge_given, value_given};
-use m3_check_state::{Checker, Found, Given, Member, Thing};
+use m3_check_state::{Checker, Given, Thing};
 use m3_check_types::{
     is_integer, is_subtype, is_unveiled, newest_member, own_member, visible_type,
 };
 use m3_core::{Binding, CoreExpr};
-use m3_decl_lookup::{field_kind, method_kind};
+use m3_decl_lookup::{Found, Member, field_kind, method_kind};
 use m3_syntax::Name;
 use m3_types::{Secret, TypeId, TypeNode};
 

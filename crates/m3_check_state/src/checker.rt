@@ -1,14 +1,13 @@
-use crate::members::Member;
 use crate::things::Thing;
 use bumpalo::Bump;
 use m3_base::{Least, NoMemory, Pos, Refusal};
 use m3_core::{CoreExpr, Step};
-use m3_decl_lookup::Declared;
+use m3_decl_lookup::{Declared, Members};
 use m3_link_scopes::{EntityId, Program};
 use m3_syntax::Kept;
 use m3_types::TypeId;
 use std::alloc::Global;
-use std::collections::{HashMap, HashSet};
+use std::collections::HashMap;
 
 const PHASE: u8 = 6;
 
@@ -49,9 +48,7 @@ pub struct Checker<'p, 'a> {
     pub variables: HashMap<EntityId, Variable>,
     /// The steps of the chains in the making, each chain's behind those of the chains around it.
     pub steps: Vec<Step<'a>>,
-    /// The fields, methods and formals of the types that were asked for one, by name.
-    pub members: HashMap<(TypeId, &'a [u8]), Member>,
-    pub listed: HashSet<TypeId>,
+    pub members: Members<'a>,
     /// What each unit sees of the opaque types that were asked for.
     pub seen: HashMap<(u32, TypeId), TypeId>,
     /// The open array type of each element type that SUBARRAY met.
@@ -75,8 +72,7 @@ impl<'p, 'a> Checker<'p, 'a> {
             level: 0,
             variables: HashMap::new(alloc),
             steps: Vec::new(alloc),
-            members: HashMap::new(alloc),
-            listed: HashSet::new(alloc),
+            members: Members::new(alloc),
             seen: HashMap::new(alloc),
             open: HashMap::new(alloc),
         }

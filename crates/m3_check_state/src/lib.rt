@@ -5,9 +5,7 @@
 mod checker;
 mod constants;
 mod kinds;
-mod members;
 mod things;
 
 pub use checker::{Checker, Held, Variable};
-pub use members::{Found, Member};
 pub use things::{Change, Draft, Given, Method, State, Thing, Valued};

@@ -2,9 +2,9 @@ use crate::kinds::is_reference;
 use crate::listing::{newest_member, own_member};
 use bumpalo::collections::into_bump_slice;
 use m3_base::{NoMemory, Pos, rules};
-use m3_check_state::{Checker, Member, Thing};
+use m3_check_state::{Checker, Thing};
 use m3_core::CoreExpr;
-use m3_decl_lookup::method_kind;
+use m3_decl_lookup::{Member, method_kind};
 use m3_syntax::Name;
 use m3_types::{ConstId, ConstValue, Formal, Mode, TypeId, TypeNode};
 

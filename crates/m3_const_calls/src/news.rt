@@ -1,7 +1,8 @@
 use bumpalo::Bump;
 use bumpalo::collections::into_bump_slice;
 use m3_base::{NoMemory, Pos};
-use m3_const_values::{Evaluator, Member, newest_member};
+use m3_const_values::{Evaluator, newest_member};
+use m3_decl_lookup::Member;
 use m3_syntax::{Actual, Expr, Selector};
 use m3_types::{ConstId, ConstValue, Field, Method, Override, TypeId, TypeNode};
 

@@ -1,11 +1,11 @@
 use crate::method_constants::method_constant;
 use m3_base::{NoMemory, Pos, rules};
 use m3_const_values::{
-    Evaluator, Known, Member, Reason, Thing, Worth, both, bounds_of, entity_thing, fits, is_array,
+    Evaluator, Known, Reason, Thing, Worth, both, bounds_of, entity_thing, fits, is_array,
     is_known_reference, is_reference, newest_member, own_member, plain_node, seen_structure,
 };
 use m3_core::{Value, ValueId};
-use m3_decl_lookup::{field_kind, method_kind};
+use m3_decl_lookup::{Member, field_kind, method_kind};
 use m3_syntax::Name;
 use m3_types::{TypeId, TypeNode};
 
@@ -127,7 +127,7 @@ fn value_member<'a>(
             Some(signature) => Ok(Thing::Method(signature)),
             None => Ok(Thing::Bad),
         },
-        Member::Value(_) => Ok(Thing::Bad),
+        Member::Formal(_) | Member::Value(_) => Ok(Thing::Bad),
     }
 }
 

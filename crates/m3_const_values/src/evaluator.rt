@@ -1,9 +1,8 @@
-use crate::members::{Found, Member};
 use crate::worth::{Known, Reason, Thing, Worth};
 use bumpalo::Bump;
 use m3_base::{NoMemory, Pos, place_number, rules};
 use m3_core::{Value, ValueId};
-use m3_decl_lookup::Declared;
+use m3_decl_lookup::{Declared, Found, Members};
 use m3_link_scopes::{EntityId, Program};
 use m3_types::{Reveal, TypeId, TypeNode};
 use std::alloc::Global;
@@ -62,9 +61,7 @@ pub struct Evaluator<'p, 'a> {
     pub is_complete: bool,
     /// The reveals of opaque types by view, a full one where there is one.
     pub early: HashMap<(u32, TypeId), Reveal>,
-    /// The fields, methods and formals of the types that were asked for one, by name.
-    pub members: HashMap<(TypeId, &'a [u8]), Member>,
-    pub listed: HashSet<TypeId>,
+    pub members: Members<'a>,
     /// Members of object types that were found, by view.
     pub found: HashMap<(u32, TypeId, &'a [u8]), Option<Found>>,
 }
@@ -92,8 +89,7 @@ impl<'p, 'a> Evaluator<'p, 'a> {
             nilable: HashSet::new(alloc),
             is_complete: false,
             early: HashMap::new(alloc),
-            members: HashMap::new(alloc),
-            listed: HashSet::new(alloc),
+            members: Members::new(alloc),
             found: HashMap::new(alloc),
         }
     }

@@ -13,7 +13,6 @@ mod conversions;
 mod evaluator;
 mod kinds;
 mod listing;
-mod members;
 mod names;
 mod worth;
 
@@ -25,7 +24,6 @@ pub use kinds::{
     seen_structure, share_base,
 };
 pub use listing::{newest_member, own_member};
-pub use members::Member;
 pub use names::{
     entity_named, entity_thing, is_built_in, thing_named, type_of, type_of_entity, type_of_name,
 };

@@ -2,10 +2,9 @@ use bumpalo::Bump;
 use bumpalo::collections::into_bump_slice;
 use m3_base::{NoMemory, Pos, rules};
 use m3_const_arithmetic::add_range;
-use m3_const_values::{
-    Evaluator, Known, Member, Reason, Thing, Worth, converted, fits, own_member,
-};
+use m3_const_values::{Evaluator, Known, Reason, Thing, Worth, converted, fits, own_member};
 use m3_core::{Value, ValueId};
+use m3_decl_lookup::Member;
 use m3_syntax::Name;
 use m3_types::{Field, TypeId, TypeNode};
 

@@ -1,6 +1,6 @@
 use m3_base::{NoMemory, place_number, rules};
-use m3_const_values::{Member, is_subtype, newest_member, seen_structure, type_of_name};
-use m3_decl_lookup::method_kind;
+use m3_const_values::{is_subtype, newest_member, seen_structure, type_of_name};
+use m3_decl_lookup::{Member, method_kind};
 use m3_decl_state::{Declarer, MethodValue};
 use m3_link_gather::TypeAt;
 use m3_syntax::TypeExp;

@@ -1,6 +1,6 @@
 use crate::counts::Counts;
 use crate::expressions::{count_builtin, count_chain, count_expression};
-use m3_core::{Bound, CoreStmt, WithBinding};
+use m3_core::{Arm, Bound, CaseBranch, CoreStmt, Handler, TypeBranch, WithBinding};
 
 /// Counts what stands in a row of statements.
 #[cycle(statements)]
@@ -30,11 +30,27 @@ fn count_statement(counts: &mut Counts<'_, '_>, s: &CoreStmt<'_>) {
             count_statements(counts, initial);
             count_statements(counts, body);
         }
-        CoreStmt::Case { .. } => count_case(counts, s),
+        CoreStmt::Case {
+            value,
+            branches,
+            otherwise,
+            ..
+        } => {
+            count_expression(counts, value);
+            count_branches(counts, branches);
+            count_statements(counts, otherwise.body);
+        }
         CoreStmt::Exit { .. } => {}
         CoreStmt::Eval { value, .. } => count_expression(counts, value),
         CoreStmt::For { .. } => count_for(counts, s),
-        CoreStmt::If { .. } => count_if(counts, s),
+        CoreStmt::If {
+            arms,
+            otherwise,
+            ..
+        } => {
+            count_arms(counts, arms);
+            count_statements(counts, otherwise.body);
+        }
         CoreStmt::Loop { body, .. } => {
             counts.add_point();
             count_statements(counts, body);
@@ -62,12 +78,30 @@ fn count_statement(counts: &mut Counts<'_, '_>, s: &CoreStmt<'_>) {
             count_statements(counts, body);
             count_expression(counts, condition);
         }
-        CoreStmt::TryExcept { .. } => count_try(counts, s),
+        CoreStmt::TryExcept {
+            body,
+            handlers,
+            otherwise,
+            ..
+        } => {
+            count_statements(counts, body);
+            count_handlers(counts, handlers);
+            count_statements(counts, otherwise.body);
+        }
         CoreStmt::TryFinally { body, last, .. } => {
             count_statements(counts, body);
             count_statements(counts, last);
         }
-        CoreStmt::TypeCase { .. } => count_type_case(counts, s),
+        CoreStmt::TypeCase {
+            value,
+            branches,
+            otherwise,
+            ..
+        } => {
+            count_expression(counts, value);
+            count_type_branches(counts, branches);
+            count_statements(counts, otherwise.body);
+        }
         CoreStmt::With { bindings, body, .. } => {
             count_bound(counts, bindings);
             count_statements(counts, body);
@@ -96,69 +130,31 @@ fn count_for(counts: &mut Counts<'_, '_>, s: &CoreStmt<'_>) {
 }
 
 #[cycle(statements)]
-fn count_case(counts: &mut Counts<'_, '_>, s: &CoreStmt<'_>) {
-    if let CoreStmt::Case {
-        value,
-        branches,
-        otherwise,
-        ..
-    } = s
-    {
-        count_expression(counts, value);
-        for branch in *branches {
-            count_statements(counts, branch.body);
-        }
-        count_statements(counts, otherwise.body);
+fn count_branches(counts: &mut Counts<'_, '_>, branches: &[CaseBranch<'_>]) {
+    for branch in branches {
+        count_statements(counts, branch.body);
     }
 }
 
 #[cycle(statements)]
-fn count_if(counts: &mut Counts<'_, '_>, s: &CoreStmt<'_>) {
-    if let CoreStmt::If {
-        arms,
-        otherwise,
-        ..
-    } = s
-    {
-        for arm in *arms {
-            count_expression(counts, arm.condition);
-            count_statements(counts, arm.body);
-        }
-        count_statements(counts, otherwise.body);
+fn count_arms(counts: &mut Counts<'_, '_>, arms: &[Arm<'_>]) {
+    for arm in arms {
+        count_expression(counts, arm.condition);
+        count_statements(counts, arm.body);
     }
 }
 
 #[cycle(statements)]
-fn count_try(counts: &mut Counts<'_, '_>, s: &CoreStmt<'_>) {
-    if let CoreStmt::TryExcept {
-        body,
-        handlers,
-        otherwise,
-        ..
-    } = s
-    {
-        count_statements(counts, body);
-        for handler in *handlers {
-            count_statements(counts, handler.body);
-        }
-        count_statements(counts, otherwise.body);
+fn count_handlers(counts: &mut Counts<'_, '_>, handlers: &[Handler<'_>]) {
+    for handler in handlers {
+        count_statements(counts, handler.body);
     }
 }
 
 #[cycle(statements)]
-fn count_type_case(counts: &mut Counts<'_, '_>, s: &CoreStmt<'_>) {
-    if let CoreStmt::TypeCase {
-        value,
-        branches,
-        otherwise,
-        ..
-    } = s
-    {
-        count_expression(counts, value);
-        for branch in *branches {
-            count_statements(counts, branch.body);
-        }
-        count_statements(counts, otherwise.body);
+fn count_type_branches(counts: &mut Counts<'_, '_>, branches: &[TypeBranch<'_>]) {
+    for branch in branches {
+        count_statements(counts, branch.body);
     }
 }
 
