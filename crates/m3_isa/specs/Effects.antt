@@ -219,6 +219,16 @@ CarriesOut (Traps n) answer regs old new_regs new = (answer ≡ Trapped n) × (n
 CarriesOut NotPlain answer regs old new_regs new =
     (answer ≡ Other) × (new_regs ≡ regs) × ((at : ℕ) → new at ≡ old at)
 
+-- a step that only reads carries out an effect, wherever the newest frame begins
+abbrev pub CarriesOutReading : (Regs → Effect) → Step → Memory → List ℕ → ℕ → List ℕ → ℕ → Type 0
+CarriesOutReading effect answer memory r pc new_r new_pc =
+    (fp : ℕ) → CarriesOut (effect (at_hand r pc fp)) answer (at_hand r pc fp) memory (at_hand new_r new_pc fp) memory
+
+-- a step that leaves the registers carries out an effect, whatever they and the newest frame are
+abbrev pub CarriesOutWriting : (Regs → Effect) → Step → ℕ → ℕ → Memory → Memory → Type 0
+CarriesOutWriting effect answer pc new_pc old new =
+    (r : List ℕ) (fp : ℕ) → CarriesOut (effect (at_hand r pc fp)) answer (at_hand r pc fp) old (at_hand r new_pc fp) new
+
 -- the addresses that an instruction may write, in some other order than the table's where it traps
 abbrev pub may_write_of : Op → ℕ → ℕ → ℕ → Regs → ℕ → Bool
 may_write_of Copy a b c regs at = is_among at (reg regs a) (reg regs c)

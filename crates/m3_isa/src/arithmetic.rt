@@ -1,3 +1,5 @@
+//! What the instructions make of words and of their signed readings.
+
 ghost use Rattle.std.specs.Prelude.{◌≡◌, ◌+◌, ◌*◌, ◌/◌, ◌%◌, ◌^◌, ◌<◌, ◌≤◌, ◌==◌, cond, Some, pos, ◌+ℤ◌, ◌-ℤ◌, ◌*ℤ◌};
 ghost use Rattle.m3_base.specs.Words.{signed_of, word_of};
 ghost use Rattle.m3_isa.specs.Arithmetic.{integer_word, unless_zero, floor_quotient, floor_rest, shifted, rotated, moved_by, flag, byte_in, below_length};

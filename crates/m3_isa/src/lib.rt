@@ -3,7 +3,7 @@
 #![tactic(auto)]
 
 mod answers;
-mod arithmetic;
+pub mod arithmetic;
 mod blocks;
 mod code_bytes;
 mod instructions;

@@ -1,14 +1,28 @@
-ghost use Rattle.std.specs.Prelude.{◌≡◌, ◌≢◌, ℕ, List, slice_set, if◌then◌else◌, false, ◌<◌, ◌+◌, ◌*◌, ◌/◌, ◌%◌, ◌^◌};
+ghost use Rattle.std.specs.Prelude.{◌≡◌, ◌≢◌, ◌<◌, ◌+◌, ◌*◌, ◌/◌, ◌%◌, ◌^◌, ℕ, false};
+ghost use Rattle.std.specs.Prelude.{slice_set, if◌then◌else◌};
 ghost use Rattle.std.specs.Int.{cast_unsigned, w32};
 ghost use Rattle.m3_isa.specs.Instructions.{IsInstruction};
-ghost use Rattle.m3_isa.specs.Effects.{reg, effect, at_hand, loads, stores, copies, fills, filled, compares, compares_texts, compares_bytes, is_among, takes_byte, given_if_there, counter_after, CarriesOut, KeepsOnTrap};
+ghost use Rattle.m3_isa.specs.Effects.{effect, at_hand, CarriesOut, KeepsOnTrap, is_among};
+ghost use Rattle.m3_isa.specs.Effects.{CarriesOutReading, CarriesOutWriting};
+ghost use Rattle.m3_isa.specs.Effects.{loads, stores, copies, fills, filled, takes_byte};
+ghost use Rattle.m3_isa.specs.Effects.{compares, compares_texts, compares_bytes};
+ghost use Rattle.m3_isa.specs.Effects.{given_if_there, counter_after};
 ghost use Rattle.m3_base.specs.Words.{add_words};
 
 use crate::answers::Step;
+use crate::arithmetic::{difference, product, quotient, quotient_down, rest, rest_up, sum};
 use crate::instructions::{Instr, Op};
 use crate::memory::Words;
 use crate::registers::{Regs, signed, word};
 use crate::{arithmetic, blocks};
+
+// Two blocks of so many words or bytes, by their addresses.
+#[derive(Clone, Copy)]
+struct Blocks {
+    length: u64,
+    left: u64,
+    right: u64,
+}
 
 // Where the constants and the globals begin.
 const CONSTANTS: u64 = 1 << 50;
@@ -27,15 +41,19 @@ pub fn step<W: Words>(i: &Instr, regs: &mut Regs, mem: &mut W) -> Step
     carry_out(i, &mut regs.r, &mut regs.pc, regs.fp, mem)
 }
 
-/// Carries out one plain instruction on registers that stand beside the number of the instruction and
-/// the first address of the newest frame, as a loop over instructions holds them. It is meant for one
-/// such loop: it becomes part of its caller, and none of the three is passed on by reference.
+/// Carries out one plain instruction on registers that stand beside the number of the instruction
+/// and the first address of the newest frame, as a loop over instructions holds them. It is meant
+/// for one such loop: it becomes part of its caller, and none of the three is passed on by
+/// reference.
 #[inline(always)]
 pub fn carry_out<W: Words>(i: &Instr, r: &mut [u64; 16], pc: &mut u32, fp: u64, mem: &mut W) -> Step
     requires { IsInstruction i.now }
-    ensures effect { CarriesOut (effect i.now (at_hand r.old pc.old fp) (W.holds mem.old) (W.writable mem.old))
-        result (at_hand r.old pc.old fp) (W.holds mem.old) (at_hand r.new pc.new fp) (W.holds mem.new) }
-    ensures trap { KeepsOnTrap i.now result (at_hand r.old pc.old fp) (W.holds mem.old) (W.holds mem.new) }
+    ensures effect { CarriesOut
+        (effect i.now (at_hand r.old pc.old fp) (W.holds mem.old) (W.writable mem.old))
+        result (at_hand r.old pc.old fp) (W.holds mem.old)
+        (at_hand r.new pc.new fp) (W.holds mem.new) }
+    ensures trap { KeepsOnTrap i.now result (at_hand r.old pc.old fp) (W.holds mem.old)
+        (W.holds mem.new) }
     ensures other { result ≡ Step.Other → mem.new ≡ mem.old }
     ensures writable { (at : ℕ) → W.writable mem.new at ≡ W.writable mem.old at }
     ensures keeps { W.keeps mem.old mem.new }
@@ -60,55 +78,13 @@ pub fn carry_out<W: Words>(i: &Instr, r: &mut [u64; 16], pc: &mut u32, fp: u64, 
         Op::Sub => gives(i.a, word(r, i.b).wrapping_sub(word(r, i.c)), r, pc),
         Op::Mul => gives(i.a, word(r, i.b).wrapping_mul(word(r, i.c)), r, pc),
         Op::Addi => gives(i.a, arithmetic::moved(word(r, i.b), i.imm), r, pc),
-        Op::Addo => or_jump(
-            i.a,
-            i.imm,
-            arithmetic::sum(word(r, i.b), word(r, i.c)),
-            r,
-            pc,
-        ),
-        Op::Subo => or_jump(
-            i.a,
-            i.imm,
-            arithmetic::difference(word(r, i.b), word(r, i.c)),
-            r,
-            pc,
-        ),
-        Op::Mulo => or_jump(
-            i.a,
-            i.imm,
-            arithmetic::product(word(r, i.b), word(r, i.c)),
-            r,
-            pc,
-        ),
-        Op::Divf => or_jump(
-            i.a,
-            i.imm,
-            arithmetic::quotient_down(word(r, i.b), word(r, i.c)),
-            r,
-            pc,
-        ),
-        Op::Modf => or_jump(
-            i.a,
-            i.imm,
-            arithmetic::rest_up(word(r, i.b), word(r, i.c)),
-            r,
-            pc,
-        ),
-        Op::Divu => or_jump(
-            i.a,
-            i.imm,
-            arithmetic::quotient(word(r, i.b), word(r, i.c)),
-            r,
-            pc,
-        ),
-        Op::Modu => or_jump(
-            i.a,
-            i.imm,
-            arithmetic::rest(word(r, i.b), word(r, i.c)),
-            r,
-            pc,
-        ),
+        Op::Addo => or_jump(i, sum(word(r, i.b), word(r, i.c)), r, pc),
+        Op::Subo => or_jump(i, difference(word(r, i.b), word(r, i.c)), r, pc),
+        Op::Mulo => or_jump(i, product(word(r, i.b), word(r, i.c)), r, pc),
+        Op::Divf => or_jump(i, quotient_down(word(r, i.b), word(r, i.c)), r, pc),
+        Op::Modf => or_jump(i, rest_up(word(r, i.b), word(r, i.c)), r, pc),
+        Op::Divu => or_jump(i, quotient(word(r, i.b), word(r, i.c)), r, pc),
+        Op::Modu => or_jump(i, rest(word(r, i.b), word(r, i.c)), r, pc),
         Op::And => gives(i.a, word(r, i.b) & word(r, i.c), r, pc),
         Op::Or => gives(i.a, word(r, i.b) | word(r, i.c), r, pc),
         Op::Xor => gives(i.a, word(r, i.b) ^ word(r, i.c), r, pc),
@@ -131,7 +107,14 @@ pub fn carry_out<W: Words>(i: &Instr, r: &mut [u64; 16], pc: &mut u32, fp: u64, 
         Op::Tget => get_byte(i.a, word(r, i.b), word(r, i.c), r, pc, mem),
         Op::Copy => copy(word(r, i.c), word(r, i.b), word(r, i.a), pc, mem),
         Op::Fill => fill(word(r, i.b), word(r, i.a), word(r, i.c), pc, mem),
-        Op::Eqw => compare(i.a, word(r, i.a), word(r, i.b), word(r, i.c), r, pc, mem),
+        Op::Eqw => {
+            let both = Blocks {
+                length: word(r, i.a),
+                left: word(r, i.b),
+                right: word(r, i.c),
+            };
+            compare(i.a, both, r, pc, mem)
+        }
         Op::Teq => compare_texts(i.a, word(r, i.b), word(r, i.c), r, pc, mem),
         Op::Call
         | Op::Callr
@@ -218,15 +201,15 @@ fn jumps_if(test: bool, imm: i32, pc: &mut u32) -> Step
 
 // Gives a register the word, or jumps where there is none.
 #[inline(always)]
-fn or_jump(a: u8, imm: i32, word: Option<u64>, r: &mut [u64; 16], pc: &mut u32) -> Step
-    requires { a < 16 }
+fn or_jump(i: &Instr, word: Option<u64>, r: &mut [u64; 16], pc: &mut u32) -> Step
+    requires { i.now.a < 16 }
     ensures answer { result ≡ Step.Went }
-    ensures registers { r.new ≡ given_if_there r.old a word }
-    ensures counter { pc.new ≡ counter_after pc.old imm word }
+    ensures registers { r.new ≡ given_if_there r.old i.now.a word }
+    ensures counter { pc.new ≡ counter_after pc.old i.now.imm word }
 {
     match word {
-        Some(word) => gives(a, word, r, pc),
-        None => jumps(imm, pc),
+        Some(word) => gives(i.a, word, r, pc),
+        None => jumps(i.imm, pc),
     }
 }
 
@@ -234,8 +217,8 @@ fn or_jump(a: u8, imm: i32, word: Option<u64>, r: &mut [u64; 16], pc: &mut u32) 
 #[inline(always)]
 fn load<W: Words>(a: u8, at: u64, r: &mut [u64; 16], pc: &mut u32, mem: &W) -> Step
     requires { a < 16 }
-    ensures { (fp : ℕ) → CarriesOut (loads (at_hand r.old pc.old fp) (W.holds mem.now) a (W.holds mem.now at))
-        result (at_hand r.old pc.old fp) (W.holds mem.now) (at_hand r.new pc.new fp) (W.holds mem.now) }
+    ensures { CarriesOutReading (λ regs. loads regs (W.holds mem.now) a (W.holds mem.now at))
+        result (W.holds mem.now) r.old pc.old r.new pc.new }
 {
     match mem.load(at) {
         Some(word) => gives(a, word, r, pc),
@@ -246,8 +229,9 @@ fn load<W: Words>(a: u8, at: u64, r: &mut [u64; 16], pc: &mut u32, mem: &W) -> S
 // Puts a word at an address.
 #[inline(always)]
 fn store<W: Words>(at: u64, word: u64, pc: &mut u32, mem: &mut W) -> Step
-    ensures effect { (r : List ℕ) (fp : ℕ) → CarriesOut (stores (at_hand r pc.old fp) (W.holds mem.old) (W.writable mem.old) at word)
-        result (at_hand r pc.old fp) (W.holds mem.old) (at_hand r pc.new fp) (W.holds mem.new) }
+    ensures effect { CarriesOutWriting
+        (λ regs. stores regs (W.holds mem.old) (W.writable mem.old) at word)
+        result pc.old pc.new (W.holds mem.old) (W.holds mem.new) }
     ensures trap { result ≢ Step.Went → (x : ℕ) → W.holds mem.new x ≡ W.holds mem.old x }
     ensures plain { result ≢ Step.Other }
     ensures writable { (x : ℕ) → W.writable mem.new x ≡ W.writable mem.old x }
@@ -263,8 +247,9 @@ fn store<W: Words>(at: u64, word: u64, pc: &mut u32, mem: &mut W) -> Step
 // Copies n words.
 #[inline(always)]
 fn copy<W: Words>(n: u64, from: u64, to: u64, pc: &mut u32, mem: &mut W) -> Step
-    ensures effect { (r : List ℕ) (fp : ℕ) → CarriesOut (copies (at_hand r pc.old fp) (W.holds mem.old) (W.writable mem.old) n from to)
-        result (at_hand r pc.old fp) (W.holds mem.old) (at_hand r pc.new fp) (W.holds mem.new) }
+    ensures effect { CarriesOutWriting
+        (λ regs. copies regs (W.holds mem.old) (W.writable mem.old) n from to)
+        result pc.old pc.new (W.holds mem.old) (W.holds mem.new) }
     ensures outside { (x : ℕ) → is_among x to n ≡ false → W.holds mem.new x ≡ W.holds mem.old x }
     ensures plain { result ≢ Step.Other }
     ensures writable { (x : ℕ) → W.writable mem.new x ≡ W.writable mem.old x }
@@ -280,8 +265,9 @@ fn copy<W: Words>(n: u64, from: u64, to: u64, pc: &mut u32, mem: &mut W) -> Step
 // Fills n words, each from one a distance below it.
 #[inline(always)]
 fn fill<W: Words>(n: u64, from: u64, distance: u64, pc: &mut u32, mem: &mut W) -> Step
-    ensures effect { (r : List ℕ) (fp : ℕ) → CarriesOut (fills (at_hand r pc.old fp) (filled (W.holds mem.old) (W.writable mem.old) from distance n))
-        result (at_hand r pc.old fp) (W.holds mem.old) (at_hand r pc.new fp) (W.holds mem.new) }
+    ensures effect { CarriesOutWriting
+        (λ regs. fills regs (filled (W.holds mem.old) (W.writable mem.old) from distance n))
+        result pc.old pc.new (W.holds mem.old) (W.holds mem.new) }
     ensures outside { (x : ℕ) → is_among x (add_words from distance) n ≡ false
         → W.holds mem.new x ≡ W.holds mem.old x }
     ensures plain { result ≢ Step.Other }
@@ -295,22 +281,15 @@ fn fill<W: Words>(n: u64, from: u64, distance: u64, pc: &mut u32, mem: &mut W) -
     }
 }
 
-// Says in a register whether the n words from one address on are those from another on.
+// Says in a register whether two blocks have the same words.
 #[inline(always)]
-fn compare<W: Words>(
-    a: u8,
-    n: u64,
-    left: u64,
-    right: u64,
-    r: &mut [u64; 16],
-    pc: &mut u32,
-    mem: &W,
-) -> Step
+fn compare<W: Words>(a: u8, both: Blocks, r: &mut [u64; 16], pc: &mut u32, mem: &W) -> Step
     requires { a < 16 }
-    ensures { (fp : ℕ) → CarriesOut (compares (at_hand r.old pc.old fp) (W.holds mem.now) a n left right)
-        result (at_hand r.old pc.old fp) (W.holds mem.now) (at_hand r.new pc.new fp) (W.holds mem.now) }
+    ensures { CarriesOutReading
+        (λ regs. compares regs (W.holds mem.now) a both.length both.left both.right)
+        result (W.holds mem.now) r.old pc.old r.new pc.new }
 {
-    match blocks::equal_words(n, left, right, mem) {
+    match blocks::equal_words(both.length, both.left, both.right, mem) {
         Some(equal) => gives(a, arithmetic::truth(equal), r, pc),
         None => Step::Trapped(2),
     }
@@ -327,9 +306,9 @@ fn compare_texts<W: Words>(
     mem: &W,
 ) -> Step
     requires { a < 16 }
-    ensures { (fp : ℕ) → CarriesOut (compares_texts (at_hand r.old pc.old fp) (W.holds mem.now) a left right
+    ensures { CarriesOutReading (λ regs. compares_texts regs (W.holds mem.now) a left right
         (W.holds mem.now (add_words left 1)) (W.holds mem.now (add_words right 1)))
-        result (at_hand r.old pc.old fp) (W.holds mem.now) (at_hand r.new pc.new fp) (W.holds mem.now) }
+        result (W.holds mem.now) r.old pc.old r.new pc.new }
 {
     let Some(bytes) = mem.load(left.wrapping_add(1)) else {
         return Step::Trapped(2);
@@ -340,25 +319,23 @@ fn compare_texts<W: Words>(
     if bytes != others {
         return gives(a, 0, r, pc);
     }
-    compare_bytes(a, bytes, left, right, r, pc, mem)
+    let both = Blocks {
+        length: bytes,
+        left,
+        right,
+    };
+    compare_bytes(a, both, r, pc, mem)
 }
 
 // Says in a register whether two texts of one length have the same bytes.
 #[inline(always)]
-fn compare_bytes<W: Words>(
-    a: u8,
-    bytes: u64,
-    left: u64,
-    right: u64,
-    r: &mut [u64; 16],
-    pc: &mut u32,
-    mem: &W,
-) -> Step
+fn compare_bytes<W: Words>(a: u8, both: Blocks, r: &mut [u64; 16], pc: &mut u32, mem: &W) -> Step
     requires { a < 16 }
-    ensures { (fp : ℕ) → CarriesOut (compares_bytes (at_hand r.old pc.old fp) (W.holds mem.now) a bytes left right)
-        result (at_hand r.old pc.old fp) (W.holds mem.now) (at_hand r.new pc.new fp) (W.holds mem.now) }
+    ensures { CarriesOutReading
+        (λ regs. compares_bytes regs (W.holds mem.now) a both.length both.left both.right)
+        result (W.holds mem.now) r.old pc.old r.new pc.new }
 {
-    match blocks::equal_bytes(bytes, left, right, mem) {
+    match blocks::equal_bytes(both.length, both.left, both.right, mem) {
         Some(equal) => gives(a, arithmetic::truth(equal), r, pc),
         None => Step::Trapped(2),
     }
@@ -368,8 +345,9 @@ fn compare_bytes<W: Words>(
 #[inline(always)]
 fn get_byte<W: Words>(a: u8, text: u64, n: u64, r: &mut [u64; 16], pc: &mut u32, mem: &W) -> Step
     requires { a < 16 }
-    ensures { (fp : ℕ) → CarriesOut (takes_byte (at_hand r.old pc.old fp) (W.holds mem.now) a n (W.holds mem.now (add_words text (2 + n / 8))))
-        result (at_hand r.old pc.old fp) (W.holds mem.now) (at_hand r.new pc.new fp) (W.holds mem.now) }
+    ensures { CarriesOutReading (λ regs. takes_byte regs (W.holds mem.now) a n
+        (W.holds mem.now (add_words text (2 + n / 8))))
+        result (W.holds mem.now) r.old pc.old r.new pc.new }
 {
     match mem.load(text.wrapping_add(2 + n / 8)) {
         Some(word) => gives(a, arithmetic::byte(word, n % 8), r, pc),

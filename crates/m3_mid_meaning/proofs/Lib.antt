@@ -1,4 +1,3 @@
-pub mod Shifts
 pub mod Longer
 pub mod Layouts
 pub mod Stepwise
