@@ -48,31 +48,46 @@ pub fn forward<L: Ledger>(
     Some(start)
 }
 
+// A copy of a cell, by its start and the kind that its header tells.
+#[derive(Clone, Copy)]
+struct Copied {
+    start: u64,
+    kind: u32,
+}
+
 // Forwards one word of a copy, if it is a pointer. False says that it is one that can't be.
 fn scan_word<M: Maps, L: Ledger>(
     left: &mut Half,
     kept: &mut Half,
-    start: u64,
-    kind: u32,
+    copied: Copied,
     place: u64,
     maps: &M,
     steps: &mut Steps<L>,
 ) -> bool
     requires tracing { IsTracing left.old kept.old }
-    requires starts { is_start kept.old.cells start ≡ true }
-    requires kind { kind ≡ kind_in (header (words_from kept.old.cells start)) }
+    requires starts { is_start kept.old.cells copied.start ≡ true }
+    requires kind { copied.kind ≡ kind_in (header (words_from kept.old.cells copied.start)) }
     requires after_header { 0 < place }
-    requires within { place < length (words_from kept.old.cells start) }
+    requires within { place < length (words_from kept.old.cells copied.start) }
     ensures tracing { IsTracing left.new kept.new }
     ensures grows { Grows left.old kept.old left.new kept.new }
-    ensures starts { is_start kept.new.cells start ≡ true }
-    ensures same_length { length (words_from kept.new.cells start) ≡ length (words_from kept.old.cells start) }
-    ensures same_header { header (words_from kept.new.cells start) ≡ header (words_from kept.old.cells start) }
-    ensures scanned { (roots : List ℕ) → Scans (M.shapes maps.now) roots left.old kept.old (start + place)
-        → MatchBool result (Scans (M.shapes maps.now) roots left.new kept.new (start + place + 1)) (HasBadPointer (M.shapes maps.now) (old_cells left.old kept.old) roots) }
-    ensures cost { OnTrue result (steps.new + met (M.shapes maps.now) left.old kept.old (start + place) + total_words kept.old.cells
-        ≡ steps.old + met (M.shapes maps.now) left.new kept.new (start + place + 1) + total_words kept.new.cells) }
+    ensures starts { is_start kept.new.cells copied.start ≡ true }
+    ensures same_length { length (words_from kept.new.cells copied.start)
+        ≡ length (words_from kept.old.cells copied.start) }
+    ensures same_header { header (words_from kept.new.cells copied.start)
+        ≡ header (words_from kept.old.cells copied.start) }
+    ensures scanned { (roots : List ℕ)
+        → Scans (M.shapes maps.now) roots left.old kept.old (copied.start + place)
+        → MatchBool result
+        (Scans (M.shapes maps.now) roots left.new kept.new (copied.start + place + 1))
+        (HasBadPointer (M.shapes maps.now) (old_cells left.old kept.old) roots) }
+    ensures cost { OnTrue result (steps.new
+        + met (M.shapes maps.now) left.old kept.old (copied.start + place)
+        + total_words kept.old.cells ≡ steps.old
+        + met (M.shapes maps.now) left.new kept.new (copied.start + place + 1)
+        + total_words kept.new.cells) }
 {
+    let Copied { start, kind } = copied;
     if !maps.is_pointer(kind, place) {
         return true;
     }
@@ -111,7 +126,7 @@ fn scan_cell<M: Maps, L: Ledger>(
     let kind = (header % (1 << 32)) as u32;
     let words = header >> 32;
     for place in 1..words {
-        if !scan_word(left, kept, start, kind, place, maps, steps) {
+        if !scan_word(left, kept, Copied { start, kind }, place, maps, steps) {
             return None;
         }
     }
