@@ -1,7 +1,7 @@
-ghost use Rattle.std.specs.Prelude.{◌≡◌, ◌↔◌, ◌<◌, IsTrue, length, All};
+ghost use Rattle.std.specs.Prelude.{◌≡◌, ◌↔◌, ◌<◌, IsTrue};
 ghost use Rattle.m3_mid.specs.declared.ops.MidOp.TheVariants as ops;
 ghost use Rattle.m3_mid_valid.specs.Kinds.{HasKind, IsNumber};
-ghost use Rattle.m3_mid_valid.specs.Calls.{IsActual, FitsCallee, FitsResult, FitsRaised, AreShown};
+ghost use Rattle.m3_mid_valid.specs.Calls.{FitsResult, FitsRaised, AreShown};
 ghost use Rattle.m3_mid_valid.specs.WellFormed.{FitsSizes, IsOp, FitsException, IsBlockNumber};
 ghost use Rattle.m3_mid_valid.specs.WellFormed.{IsEnd};
 
@@ -12,7 +12,7 @@ use crate::operations::{
     fits_arith, fits_index, fits_move, fits_number, fits_relation, is_number_sum,
 };
 use crate::services::fits_service;
-use m3_mid::{Actual, Callee, End, Kind, MidOp, Operand, Proc, Raised, Shown};
+use m3_mid::{End, Kind, MidOp, Operand, Proc, Raised, Shown};
 
 fn fits_sizes(p: &Proc, sizes: Option<u32>) -> bool
     ensures { IsTrue result ↔ FitsSizes p.now sizes }
@@ -23,22 +23,12 @@ fn fits_sizes(p: &Proc, sizes: Option<u32>) -> bool
     }
 }
 
-fn fits_call(
-    p: &Proc,
-    formals: &[u32],
-    callee: Callee,
-    passed: &[Actual],
-    to: Option<u32>,
-    raised: Option<Raised>,
-    shown: &[Shown],
-) -> bool
-    ensures { IsTrue result ↔ (FitsCallee p.now formals.now callee passed.now
-        × (All (IsActual p.now) passed.now × (FitsResult p.now to
-        × (FitsRaised p.now raised × AreShown p.now shown.now)))) }
+// What a call gives back, and what is shown while it runs.
+fn fits_answer(p: &Proc, to: Option<u32>, raised: Option<Raised>, shown: &[Shown]) -> bool
+    ensures { IsTrue result ↔ (FitsResult p.now to × (FitsRaised p.now raised
+        × AreShown p.now shown.now)) }
 {
-    fits_callee(p, formals, callee, passed)
-        && (are_actuals(p, passed)
-            && (fits_result(p, to) && (fits_raised(p, raised) && are_shown(p, shown))))
+    fits_result(p, to) && (fits_raised(p, raised) && are_shown(p, shown))
 }
 
 fn has_kinds(temps: &[Kind], first: u32, kind: Kind, second: u32, other: Kind) -> bool
@@ -136,7 +126,10 @@ pub(crate) fn is_op(p: &Proc, around: &Surroundings, op: MidOp) -> bool
             result,
             raised,
             shown,
-        } => fits_call(p, around.formals, callee, actuals, result, raised, shown),
+        } => {
+            fits_callee(p, around.formals, callee, actuals)
+                && (are_actuals(p, actuals) && fits_answer(p, result, raised, shown))
+        }
         MidOp::Make {
             to,
             cell,
