@@ -1,5 +1,6 @@
 use crate::chains::plan_value;
 use m3_core::Binding;
+use m3_lower_operators::TypedValue;
 use m3_lower_places::move_words;
 use m3_lower_state::{
     Builder, Location, Pending, Place, Value, cleared_value, copy_words, form_of, kind_of,
@@ -46,7 +47,11 @@ pub fn store_bindings<'m>(
                 sizes: 0,
                 dims: 0,
             };
-            code = store_value(b, *value, kind_of(binding.value), to, code);
+            let stored = TypedValue {
+                value: *value,
+                kind: kind_of(binding.value),
+            };
+            code = store_value(b, stored, to, code);
         }
     }
     code
@@ -73,22 +78,21 @@ fn field_word(b: &Builder, made: TypeId, binding: &Binding) -> u64 {
 /// Stores a value that is made at a place.
 pub fn store_value<'m>(
     b: &mut Builder<'m, '_>,
-    value: Value,
-    kind: Option<TypeId>,
+    stored: TypedValue,
     to: Place,
     rest: Pending<'m>,
 ) -> Pending<'m> {
-    match value {
+    match stored.value {
         Value::Nothing => rest,
         Value::Word(operand) => store_word(b, to, 0, operand, rest),
         Value::Words { first, count } => store_words(b, to, first, count, rest),
         Value::Known { .. } => {
             let first = b.temps(Kind::Number, 2);
             let code = store_words(b, to, first, 2, rest);
-            move_words(value, first, code)
+            move_words(stored.value, first, code)
         }
         Value::At(from) => {
-            let words = match kind {
+            let words = match stored.kind {
                 Some(kind) => b.storage.words(kind),
                 None => 0,
             };

@@ -1,5 +1,6 @@
 use crate::actuals::Passed;
 use m3_base::Pos;
+use m3_lower_operators::TypedValue;
 use m3_lower_state::{
     Around, Builder, Location, Pending, Place, Value, choice, load_words, not_nil,
 };
@@ -11,6 +12,22 @@ use m3_types::{Formal, Raises, TypeId, TypeNode};
 pub struct Signature<'a> {
     pub formals: &'a [Formal<'a>],
     pub can_raise: bool,
+}
+
+/// A method, by the object type whose part declares it and its place there.
+#[derive(Clone, Copy)]
+pub struct Method {
+    pub owner: TypeId,
+    pub place: u32,
+}
+
+/// A call but for what it passes: what is called, whether that can raise an exception, and where
+/// the result is wanted.
+#[derive(Clone, Copy)]
+pub struct Call {
+    pub callee: Callee,
+    pub can_raise: bool,
+    pub result: TypedValue,
 }
 
 /// The signature of a procedure type.
@@ -30,10 +47,10 @@ pub fn signature_of<'s>(b: &Builder<'_, 's>, kind: Option<TypeId>) -> Signature<
     }
 }
 
-/// The signature of a method, by the object type whose part declares it.
-pub fn signature_of_method<'s>(b: &Builder<'_, 's>, owner: TypeId, method: u32) -> Signature<'s> {
-    let kind = match b.storage.node(owner) {
-        TypeNode::Object(_, _, _, methods, _) => match methods.get(method as usize) {
+/// The signature of a method.
+pub fn signature_of_method<'s>(b: &Builder<'_, 's>, method: Method) -> Signature<'s> {
+    let kind = match b.storage.node(method.owner) {
+        TypeNode::Object(_, _, _, methods, _) => match methods.get(method.place as usize) {
             Some(method) => Some(method.signature),
             None => None,
         },
@@ -112,15 +129,12 @@ struct Received<'m> {
 pub fn call_with<'m>(
     b: &mut Builder<'m, '_>,
     around: Around,
-    callee: Callee,
+    call: Call,
     passed: &Passed,
-    can_raise: bool,
-    after: Value,
-    kind: Option<TypeId>,
     rest: Pending<'m>,
 ) -> Pending<'m> {
-    let Received { word, buffer, code } = receive(b, after, kind, rest);
-    let raised = if can_raise { Some(b.raised) } else { None };
+    let Received { word, buffer, code } = receive(b, call.result, rest);
+    let raised = if call.can_raise { Some(b.raised) } else { None };
     let code = match raised {
         Some(raised) => unless_raised(b, around, raised, code),
         None => code,
@@ -129,7 +143,7 @@ pub fn call_with<'m>(
     let actuals = row_of_call(b, passed, buffer);
     let shown = b.shown(around);
     let code = code.after(MidOp::Call {
-        callee,
+        callee: call.callee,
         actuals,
         result: word,
         raised,
@@ -181,13 +195,8 @@ fn unless_raised<'m>(
     )
 }
 
-fn receive<'m>(
-    b: &mut Builder<'m, '_>,
-    after: Value,
-    kind: Option<TypeId>,
-    rest: Pending<'m>,
-) -> Received<'m> {
-    match after {
+fn receive<'m>(b: &mut Builder<'m, '_>, wanted: TypedValue, rest: Pending<'m>) -> Received<'m> {
+    match wanted.value {
         Value::Word(Operand::Temp(to)) => Received {
             word: Some(to),
             buffer: None,
@@ -204,7 +213,7 @@ fn receive<'m>(
                 code,
             }
         }
-        Value::At(place) => receive_at(b, place, kind, rest),
+        Value::At(place) => receive_at(b, place, wanted.kind, rest),
         Value::Nothing | Value::Word(Operand::Number(_)) | Value::Known { .. } => Received {
             word: None,
             buffer: None,

@@ -1,8 +1,8 @@
 use crate::chains::plan_value;
 use m3_core::{CoreExpr, Operation, SetElement};
-use m3_lower_operators::{PlannedElement, result_of, value_at};
+use m3_lower_operators::{Operands, PlannedElement, TypedValue, result_of, value_at};
 use m3_lower_places::source;
-use m3_lower_state::{Builder, Value};
+use m3_lower_state::{Builder, Value, kind_of};
 use m3_mid::Operand;
 
 /// What the operands of a row and its results will be: first the leftmost operand, and then for
@@ -12,6 +12,33 @@ pub struct Row {
     pub left: Value,
     pub rights: Vec<Value>,
     pub results: Vec<Value>,
+}
+
+impl Row {
+    /// The operands of an operation of the row that was planned, by its place.
+    pub fn operands_at(&self, first: &CoreExpr, row: &[Operation], place: usize) -> Operands {
+        let left = match place.checked_sub(1) {
+            Some(before) => TypedValue {
+                value: value_at(&self.results, before),
+                kind: match row.get(before) {
+                    Some(operation) => Some(operation.kind),
+                    None => None,
+                },
+            },
+            None => TypedValue {
+                value: self.left,
+                kind: kind_of(first),
+            },
+        };
+        let right = TypedValue {
+            value: value_at(&self.rights, place),
+            kind: match row.get(place) {
+                Some(operation) => kind_of(operation.right),
+                None => None,
+            },
+        };
+        Operands { left, right }
+    }
 }
 
 /// Plans so many operations of a row, the last result of which goes where it is wanted.

@@ -54,15 +54,29 @@ fn plan_sizes(b: &mut Builder, array: KnownShape, dims: u32) -> u64 {
     values
 }
 
-/// The words of an element of a constructor, whose sizes are known.
-pub fn row_words(b: &Builder, to: Place, element: TypeId, inner: u32) -> u64 {
-    let mut words = element_words(b, element, inner);
-    for dim in 0..inner {
+/// An element of a constructor: its type, the open dimensions of that, and its words.
+#[derive(Clone, Copy)]
+pub struct Element {
+    pub kind: TypeId,
+    pub dims: u32,
+    pub words: u64,
+}
+
+/// What each element is of a constructor of a type at a place, whose sizes are known.
+pub fn element_of(b: &Builder, kind: TypeId, to: Place) -> Element {
+    let element = inner_element(b, kind, 1);
+    let dims = dims_of(b, element);
+    let mut words = element_words(b, element, dims);
+    for dim in 0..dims {
         if let Operand::Number(size) = b.size_at(to.sizes.wrapping_add(1).wrapping_add(dim)) {
             words = words.wrapping_mul(size.cast_unsigned());
         }
     }
-    words
+    Element {
+        kind: element,
+        dims,
+        words,
+    }
 }
 
 /// Copies the last element that is listed to all behind it.

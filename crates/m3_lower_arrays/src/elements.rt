@@ -17,6 +17,26 @@ pub struct Index {
     pub number: Option<i64>,
 }
 
+/// The elements of an array that SUBARRAY gives: the place of the array and its type, and the first
+/// of them and how many there are.
+#[derive(Clone, Copy)]
+pub struct Subarray {
+    pub from: Place,
+    pub kind: Option<TypeId>,
+    pub start: Operand,
+    pub count: Operand,
+}
+
+/// Where a row of an array begins: the address of the array and an offset to it, the index of the
+/// row, and the words that each row has.
+#[derive(Clone, Copy)]
+struct RowStart {
+    array: u32,
+    offset: i64,
+    index: Operand,
+    words: Operand,
+}
+
 /// What is known of an index.
 pub fn index_of(e: &CoreExpr) -> Index {
     Index {
@@ -143,8 +163,14 @@ pub fn indexed<'m>(
     let code = if array.dims > 1 {
         let sizes = inner_sizes(b, array);
         let words = element_words(b, kind, array.dims);
-        let (row, counting) = total_words(b, sizes.as_slice(), words);
-        let code = row_address(b, to, at, offset, index, row, rest);
+        let (words, counting) = total_words(b, sizes.as_slice(), words);
+        let start = RowStart {
+            array: at,
+            offset,
+            index,
+            words,
+        };
+        let code = row_address(b, to, start, rest);
         counting.put(code)
     } else {
         let words = element_words(b, kind, 1);
@@ -183,41 +209,36 @@ fn inner_sizes(b: &mut Builder, array: Place) -> Vec<Operand> {
     sizes
 }
 
-/// An address plus an index times the words of a row.
+/// Puts the address of a row into a temporary.
 fn row_address<'m>(
     b: &mut Builder<'m, '_>,
     to: u32,
-    at: u32,
-    offset: i64,
-    index: Operand,
-    row: Operand,
+    start: RowStart,
     rest: Pending<'m>,
 ) -> Pending<'m> {
     let distance = b.temp(Kind::Number);
-    let code = if offset == 0 {
+    let code = if start.offset == 0 {
         rest
     } else {
-        rest.after(added(to, to, offset))
+        rest.after(added(to, to, start.offset))
     };
     let code = code.after(arith(
         to,
         WordOperator::Add,
-        Operand::Temp(at),
+        Operand::Temp(start.array),
         Operand::Temp(distance),
     ));
-    code.after(arith(distance, WordOperator::Multiply, index, row))
+    code.after(arith(distance, WordOperator::Multiply, start.index, start.words))
 }
 
 /// Code that puts the address of the first element of a SUBARRAY into its temporary.
 pub fn subarray_address<'m>(
     b: &mut Builder<'m, '_>,
-    from: Place,
-    kind: Option<TypeId>,
-    start: Operand,
+    subarray: Subarray,
     place: Place,
     rest: Pending<'m>,
 ) -> Pending<'m> {
-    let (Location::Address { temp: to, .. }, Some(kind)) = (place.at, kind) else {
+    let (Location::Address { temp: to, .. }, Some(kind)) = (place.at, subarray.kind) else {
         return rest;
     };
     let mut sizes = Vec::new(b.alloc);
@@ -230,40 +251,45 @@ pub fn subarray_address<'m>(
         }
     }
     let element = element_words(b, kind, place.dims);
-    let (row, counting) = total_words(b, sizes.as_slice(), element);
-    let (at, offset, is_there) = address_of(b, from);
-    let code = match row {
+    let (words, counting) = total_words(b, sizes.as_slice(), element);
+    let (at, offset, is_there) = address_of(b, subarray.from);
+    let code = match words {
         Operand::Number(words) => rest.after(MidOp::Index {
             to,
             array: at,
-            index: start,
+            index: subarray.start,
             words: words.cast_unsigned(),
             offset,
         }),
-        Operand::Temp(_) => row_address(b, to, at, offset, start, row, rest),
+        Operand::Temp(_) => {
+            let start = RowStart {
+                array: at,
+                offset,
+                index: subarray.start,
+                words,
+            };
+            row_address(b, to, start, rest)
+        }
     };
     let code = counting.put(code);
     if is_there {
         code
     } else {
-        take_address(at, from, code)
+        take_address(at, subarray.from, code)
     }
 }
 
 /// The check that an array has so many elements from a place on.
 pub fn check_subarray<'m>(
     b: &mut Builder<'m, '_>,
+    subarray: Subarray,
     pos: Pos,
-    from: Place,
-    kind: Option<TypeId>,
-    start: Operand,
-    count: Operand,
     rest: Pending<'m>,
 ) -> Pending<'m> {
-    let Some(kind) = kind else {
+    let Some(kind) = subarray.kind else {
         return rest;
     };
-    let size = match shape_of(b, from, kind, 1).first() {
+    let size = match shape_of(b, subarray.from, kind, 1).first() {
         Some(size) => *size,
         None => Operand::Number(0),
     };
@@ -271,11 +297,12 @@ pub fn check_subarray<'m>(
     let relation = Relation::LessEqualUnsigned;
     let code = rest.after(check(
         relation,
-        count,
+        subarray.count,
         Operand::Temp(left),
         FaultKind::Subarray,
         pos,
     ));
+    let start = subarray.start;
     let code = code.after(arith(left, WordOperator::Subtract, size, start));
     code.after(check(relation, start, size, FaultKind::Subarray, pos))
 }

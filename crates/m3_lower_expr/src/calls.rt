@@ -1,14 +1,13 @@
-use crate::chains::emit_chain;
+use crate::chains::{PlannedStep, emit_chain};
 use crate::exprs::emit_value;
 use crate::structures::{emit_structure, structure_into, value_into};
-use m3_base::Pos;
 use m3_core::{Actual as CoreActual, Chain};
 use m3_lower_actuals::{
-    Passed, PlannedActual, call_with, callee_of, check_method, kind_of_actual, places_of,
-    plan_actuals, signature_of, signature_of_method,
+    Call, Method, Passed, PlannedActual, call_with, callee_of, check_method, kind_of_actual,
+    places_of, plan_actuals, signature_of, signature_of_method,
 };
 use m3_lower_arrays::{check_shape, copy_into_cell};
-use m3_lower_state::{Around, Builder, Pending, Value, cleared_value, not_nil};
+use m3_lower_state::{Around, Builder, Pending, cleared_value, not_nil};
 use m3_lower_storage::Form;
 use m3_mid::Callee;
 use m3_types::{Formal, TypeId};
@@ -19,32 +18,24 @@ pub fn emit_call<'m>(
     b: &mut Builder<'m, '_>,
     around: Around,
     actuals: &[CoreActual],
-    pos: Pos,
-    kind: Option<TypeId>,
-    kind_of_result: Option<TypeId>,
-    before: Value,
-    after: Value,
+    planned: PlannedStep,
     rest: Pending<'m>,
 ) -> Pending<'m> {
-    let signature = signature_of(b, kind);
-    let (callee, is_known) = callee_of(before);
+    let procedure = planned.before;
+    let signature = signature_of(b, procedure.kind);
+    let (callee, is_known) = callee_of(procedure.value);
     let passed = plan_actuals(b, signature.formals, actuals, None);
-    let can_raise = signature.can_raise;
-    let code = call_with(
-        b,
-        around,
+    let call = Call {
         callee,
-        &passed,
-        can_raise,
-        after,
-        kind_of_result,
-        rest,
-    );
+        can_raise: signature.can_raise,
+        result: planned.after,
+    };
+    let code = call_with(b, around, call, &passed, rest);
     let code = emit_actuals(b, around, actuals, signature.formals, &passed, code);
     if is_known {
         code
     } else {
-        code.after(not_nil(before.word(), pos))
+        code.after(not_nil(procedure.value.word(), planned.pos))
     }
 }
 
@@ -53,33 +44,26 @@ pub fn emit_call<'m>(
 pub fn emit_method<'m>(
     b: &mut Builder<'m, '_>,
     around: Around,
+    method: Method,
     actuals: &[CoreActual],
-    pos: Pos,
-    owner: TypeId,
-    method: u32,
-    kind_of_result: Option<TypeId>,
-    before: Value,
-    after: Value,
+    planned: PlannedStep,
     rest: Pending<'m>,
 ) -> Pending<'m> {
-    let signature = signature_of_method(b, owner, method);
-    let place = b.storage.objects.method(b.storage.types, owner, method);
-    let object = before.word();
+    let signature = signature_of_method(b, method);
+    let place = b
+        .storage
+        .objects
+        .method(b.storage.types, method.owner, method.place);
+    let object = planned.before.value.word();
     let passed = plan_actuals(b, signature.formals, actuals, Some(object));
-    let callee = Callee::Method(place);
-    let can_raise = signature.can_raise;
-    let code = call_with(
-        b,
-        around,
-        callee,
-        &passed,
-        can_raise,
-        after,
-        kind_of_result,
-        rest,
-    );
+    let call = Call {
+        callee: Callee::Method(place),
+        can_raise: signature.can_raise,
+        result: planned.after,
+    };
+    let code = call_with(b, around, call, &passed, rest);
     let code = emit_actuals(b, around, actuals, signature.formals, &passed, code);
-    check_method(b, object, place, pos, code)
+    check_method(b, object, place, planned.pos, code)
 }
 
 /// Code for the actuals in the order of evaluation, and behind them the copies of open arrays in

@@ -2,15 +2,25 @@ use crate::calls::{emit_call, emit_method};
 use crate::exprs::{emit_value, fetch};
 use m3_base::Pos;
 use m3_core::{ArrayLimit, Base, Chain, CoreExpr, Step};
-use m3_lower_actuals::plan_chain;
+use m3_lower_actuals::{Method, plan_chain};
 use m3_lower_arrays::{
-    check_index, check_subarray, index_of, indexed, known_distance, limit_of, subarray_address,
+    Subarray, check_index, check_subarray, index_of, indexed, known_distance, limit_of,
+    subarray_address,
 };
+use m3_lower_operators::TypedValue;
 use m3_lower_places::{
-    emit_alias, emit_keep, emit_local, emit_read, emit_reference, kind_before, source,
+    emit_alias, emit_keep, emit_local, emit_read, emit_reference, kind_before, kind_of_step, source,
 };
 use m3_lower_state::{Around, Builder, Pending, Place, Value, cleared_value};
-use m3_types::TypeId;
+
+/// A step whose values are planned: the place of its chain, what it is applied to, and what it
+/// gives.
+#[derive(Clone, Copy)]
+pub struct PlannedStep {
+    pub pos: Pos,
+    pub before: TypedValue,
+    pub after: TypedValue,
+}
 
 /// Code for a chain that was planned, with what follows it.
 #[cycle(expressions)]
@@ -25,8 +35,18 @@ pub fn emit_chain<'m>(
     for place in (0..chain.steps.len()).rev() {
         let before = b.pop_stage();
         if let Some(step) = chain.steps.get(place) {
-            let kind = kind_before(chain, place);
-            code = emit_step(b, around, step, chain.pos, kind, before, after, code);
+            let planned = PlannedStep {
+                pos: chain.pos,
+                before: TypedValue {
+                    value: before,
+                    kind: kind_before(chain, place),
+                },
+                after: TypedValue {
+                    value: after,
+                    kind: kind_of_step(step),
+                },
+            };
+            code = emit_step(b, around, step, planned, code);
         }
         after = before;
     }
@@ -38,52 +58,30 @@ fn emit_step<'m>(
     b: &mut Builder<'m, '_>,
     around: Around,
     step: &Step,
-    pos: Pos,
-    before_kind: Option<TypeId>,
-    before: Value,
-    after: Value,
+    planned: PlannedStep,
     rest: Pending<'m>,
 ) -> Pending<'m> {
+    let (before, after) = (planned.before.value, planned.after.value);
     match step {
         Step::Read { .. } => emit_read(b, before.place(), after, rest),
         Step::Keep { kind } => emit_keep(b, before, after, *kind, rest),
         Step::Field { .. } => rest,
         Step::Dereference { .. } | Step::ObjectField { .. } => {
-            emit_reference(b, pos, before, after, rest)
+            emit_reference(b, planned.pos, before, after, rest)
         }
-        Step::Element { index, .. } => {
-            emit_element(
-                b,
-                around,
-                before.place(),
-                before_kind,
-                index,
-                after.place(),
-                rest,
-            )
-        }
-        Step::Call { actuals, kind } => {
-            emit_call(
-                b,
-                around,
-                actuals,
-                pos,
-                before_kind,
-                *kind,
-                before,
-                after,
-                rest,
-            )
-        }
+        Step::Element { index, .. } => emit_element(b, around, index, planned, rest),
+        Step::Call { actuals, .. } => emit_call(b, around, actuals, planned, rest),
         Step::MethodCall {
             owner,
             method,
             actuals,
-            kind,
+            ..
         } => {
-            emit_method(
-                b, around, actuals, pos, *owner, *method, *kind, before, after, rest,
-            )
+            let method = Method {
+                owner: *owner,
+                place: *method,
+            };
+            emit_method(b, around, method, actuals, planned, rest)
         }
     }
 }
@@ -119,15 +117,15 @@ fn emit_base<'m>(
 fn emit_element<'m>(
     b: &mut Builder<'m, '_>,
     around: Around,
-    array: Place,
-    kind: Option<TypeId>,
     index: &CoreExpr,
-    element: Place,
+    planned: PlannedStep,
     rest: Pending<'m>,
 ) -> Pending<'m> {
-    let Some(kind) = kind else {
+    let Some(kind) = planned.before.kind else {
         return rest;
     };
+    let array = planned.before.value.place();
+    let element = planned.after.value.place();
     let known = index_of(index);
     let is_known = known_distance(b, array, Some(kind), known).is_some();
     let operand = source(b, index);
@@ -161,8 +159,14 @@ fn emit_subarray<'m>(
     let from = b.top_stage().place();
     let operand = source(b, start);
     let length = b.size_at(place.sizes);
-    let code = subarray_address(b, from, array.kind, operand, place, rest);
-    let code = check_subarray(b, chain.pos, from, array.kind, operand, length, code);
+    let subarray = Subarray {
+        from,
+        kind: array.kind,
+        start: operand,
+        count: length,
+    };
+    let code = subarray_address(b, subarray, place, rest);
+    let code = check_subarray(b, subarray, chain.pos, code);
     let code = fetch(b, around, count, length, code);
     let code = fetch(b, around, start, operand, code);
     emit_chain(b, around, array, code)

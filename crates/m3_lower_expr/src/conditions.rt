@@ -1,5 +1,5 @@
 use crate::exprs::fetch;
-use crate::rows::{emit_before, operations_into};
+use crate::rows::{emit_row, operations_into};
 use m3_core::{Compared, CoreExpr, Operator};
 use m3_lower_actuals::fold_before;
 use m3_lower_operators::{is_short, is_turned, ordered, tested};
@@ -81,12 +81,12 @@ fn row_condition<'m>(
         return b.goto(no);
     };
     if let Operator::Compare(relation, Compared::Ordinals | Compared::References) = last.operator {
-        let (left, lefts) = fold_before(b, first, row, count);
+        let (left, planned) = fold_before(b, first, row, count);
         let right = source(b, last.right);
         let (relation, x, y) = ordered(relation, left, right);
         let code = choice(b, relation, x, y, yes, no);
         let code = fetch(b, around, last.right, right, code);
-        return emit_before(b, around, e, count, &lefts, left, code);
+        return emit_row(b, around, e, count, &planned, code);
     }
     let value = Operand::Temp(b.temp(Kind::Number));
     let code = choice(b, Relation::NotEqual, value, Operand::Number(0), yes, no);

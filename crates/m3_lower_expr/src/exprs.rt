@@ -3,11 +3,12 @@ use crate::conditions::short_condition;
 use crate::new_cells::new_into;
 use crate::rows::{builtin_into, operations_into, prefixed_into, set_into};
 use crate::structures::emit_structure;
-use m3_base::Pos;
-use m3_core::{Chain, Conversion, CoreExpr, Step};
+use m3_core::{Chain, CoreExpr, Step};
 use m3_lower_actuals::plan_chain;
 use m3_lower_arrays::{code_of, constant_words, set_word};
-use m3_lower_operators::{checked, is_short, not_nested, tested, zero_temps};
+use m3_lower_operators::{
+    CheckedConversion, TempRow, checked, is_short, not_nested, tested, zero_temps,
+};
 use m3_lower_places::{environment_of, move_words, ready, source, words_in};
 use m3_lower_state::{Around, Builder, Pending, Value, cleared_value, load_word, set};
 use m3_mid::{MidOp, Operand};
@@ -88,7 +89,11 @@ pub fn into_temp<'m>(
             operations_into(b, around, e, Value::Word(Operand::Temp(to)), rest)
         }
         CoreExpr::SetOf { kind, elements, .. } => {
-            set_into(b, around, *kind, elements, to, 1, rest)
+            let row = TempRow {
+                first: to,
+                count: 1,
+            };
+            set_into(b, around, *kind, elements, row, rest)
         }
         CoreExpr::New { .. } => new_into(b, around, e, to, rest),
         CoreExpr::Convert {
@@ -96,7 +101,14 @@ pub fn into_temp<'m>(
             kind,
             check,
             operand,
-        } => converted_into(b, around, *pos, *kind, *check, operand, to, rest),
+        } => {
+            let conversion = CheckedConversion {
+                pos: *pos,
+                kind: *kind,
+                check: *check,
+            };
+            converted_into(b, around, conversion, operand, to, rest)
+        }
         CoreExpr::TypeTest {
             operand,
             tested,
@@ -137,20 +149,34 @@ pub fn into_temps<'m>(
             operations_into(b, around, e, Value::Words { first, count }, rest)
         }
         CoreExpr::SetOf { kind, elements, .. } => {
-            let count = words_in(b, e);
-            set_into(b, around, *kind, elements, first, count, rest)
+            let row = TempRow {
+                first,
+                count: words_in(b, e),
+            };
+            set_into(b, around, *kind, elements, row, rest)
         }
         CoreExpr::Constant { value, kind, .. } => constant_words(b, *kind, *value, first, rest),
         CoreExpr::Convert {
             pos,
+            kind,
             check,
             operand,
-            ..
         } => {
-            let code = not_nested(*check, *pos, first, rest);
+            let conversion = CheckedConversion {
+                pos: *pos,
+                kind: *kind,
+                check: *check,
+            };
+            let code = not_nested(conversion, first, rest);
             into_temps(b, around, operand, first, code)
         }
-        _ => zero_temps(first, words_in(b, e), rest),
+        _ => {
+            let row = TempRow {
+                first,
+                count: words_in(b, e),
+            };
+            zero_temps(row, rest)
+        }
     }
 }
 
@@ -221,18 +247,16 @@ fn condition_into<'m>(
 fn converted_into<'m>(
     b: &mut Builder<'m, '_>,
     around: Around,
-    pos: Pos,
-    kind: TypeId,
-    check: Conversion,
+    conversion: CheckedConversion,
     operand: &CoreExpr,
     to: u32,
     rest: Pending<'m>,
 ) -> Pending<'m> {
     if let Some(value) = ready(b, operand) {
         let code = set(to, value, rest);
-        return checked(b, pos, kind, check, operand, value, code);
+        return checked(b, conversion, operand, value, code);
     }
-    let code = checked(b, pos, kind, check, operand, Operand::Temp(to), rest);
+    let code = checked(b, conversion, operand, Operand::Temp(to), rest);
     into_temp(b, around, operand, to, code)
 }
 

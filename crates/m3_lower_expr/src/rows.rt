@@ -3,7 +3,7 @@ use m3_core::{BuiltinCall, CoreExpr, Prefix, SetElement};
 use m3_lower_actuals::{Row, plan_operands, plan_row, plan_set_element};
 use m3_lower_arrays::first_member;
 use m3_lower_operators::{
-    PlannedElement, action, add_bits, check_operand, check_text, kinds_at, move_row, operand_at,
+    PlannedElement, TempRow, action, add_bits, check_operand, check_text, move_row, operand_at,
     operate, prefix_into, value_at, zero_temps,
 };
 use m3_lower_places::source;
@@ -35,23 +35,7 @@ pub fn operations_into<'m>(
 /// Code for so many operations of a row, from the first one on; for none it is that of the first
 /// operand.
 #[cycle(expressions)]
-pub fn emit_before<'m>(
-    b: &mut Builder<'m, '_>,
-    around: Around,
-    e: &CoreExpr,
-    count: usize,
-    planned: &Row,
-    left: Operand,
-    rest: Pending<'m>,
-) -> Pending<'m> {
-    match e {
-        CoreExpr::Operations { first, .. } if count == 0 => fetch(b, around, first, left, rest),
-        _ => emit_row(b, around, e, count, planned, rest),
-    }
-}
-
-#[cycle(expressions)]
-fn emit_row<'m>(
+pub fn emit_row<'m>(
     b: &mut Builder<'m, '_>,
     around: Around,
     e: &CoreExpr,
@@ -70,16 +54,10 @@ fn emit_row<'m>(
     let mut code = rest;
     for place in (0..count).rev() {
         if let Some(operation) = row.get(place) {
-            let left = match place.checked_sub(1) {
-                Some(before) => value_at(&planned.results, before),
-                None => planned.left,
-            };
-            let right = value_at(&planned.rights, place);
+            let operands = planned.operands_at(first, row, place);
+            let (left, right) = (operands.left.value, operands.right.value);
             let result = value_at(&planned.results, place);
-            let kinds = kinds_at(first, row, place);
-            let operator = operation.operator;
-            let pos = operation.pos;
-            code = operate(b, around, operator, pos, kinds, left, right, result, code);
+            code = operate(b, around, operation, operands, result, code);
             code = check_text(operation, operation.right, right, code);
             code = emit_value(b, around, operation.right, right, code);
             if place == 0 {
@@ -123,21 +101,23 @@ pub fn set_into<'m>(
     around: Around,
     kind: TypeId,
     elements: &[SetElement],
-    to: u32,
-    count: u32,
+    to: TempRow,
     rest: Pending<'m>,
 ) -> Pending<'m> {
     let start = first_member(b, kind);
-    let sum = b.temps(Kind::Number, count);
-    let mut code = move_row(to, sum, count, rest);
+    let sum = TempRow {
+        first: b.temps(Kind::Number, to.count),
+        count: to.count,
+    };
+    let mut code = move_row(to.first, sum, rest);
     for place in (0..elements.len()).rev() {
         if let Some(element) = elements.get(place) {
             let planned = plan_set_element(b, element);
-            code = add_bits(b, planned, start, sum, count, code);
+            code = add_bits(b, planned, start, sum, code);
             code = emit_set_element(b, around, element, planned, code);
         }
     }
-    zero_temps(sum, count, code)
+    zero_temps(sum, code)
 }
 
 #[cycle(expressions)]

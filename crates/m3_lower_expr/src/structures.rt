@@ -3,7 +3,7 @@ use crate::exprs::{fetch, into_temps};
 use m3_core::{Conversion, CoreExpr, FieldValue};
 use m3_lower_actuals::plan_structure;
 use m3_lower_arrays::{
-    check_equal, check_shape, dims_of, field_type, filled, inner_element, row_words, shape_of,
+    Element, check_equal, check_shape, element_of, field_type, filled, shape_of,
 };
 use m3_lower_places::source;
 use m3_lower_state::{
@@ -45,12 +45,7 @@ pub fn emit_structure<'m>(
             };
             emit_structure(b, around, operand, place, code)
         }
-        CoreExpr::ArrayOf {
-            kind,
-            elements,
-            is_filled,
-            ..
-        } => elements_into(b, around, *kind, elements, *is_filled, place, rest),
+        CoreExpr::ArrayOf { .. } => elements_into(b, around, e, place, rest),
         CoreExpr::RecordOf { kind, fields, .. } => {
             fields_into(b, around, *kind, fields, place, rest)
         }
@@ -69,13 +64,9 @@ pub fn structure_into<'m>(
     rest: Pending<'m>,
 ) -> Pending<'m> {
     match e {
-        CoreExpr::ArrayOf {
-            kind: own,
-            elements,
-            is_filled,
-            ..
-        } if !matches!(b.storage.node(*own), TypeNode::OpenArray(_)) => {
-            elements_into(b, around, *own, elements, *is_filled, to, rest)
+        CoreExpr::ArrayOf { kind: own, .. }
+            if !matches!(b.storage.node(*own), TypeNode::OpenArray(_)) => {
+            elements_into(b, around, e, to, rest)
         }
         CoreExpr::RecordOf { kind, fields, .. } => fields_into(b, around, *kind, fields, to, rest),
         _ => {
@@ -138,35 +129,41 @@ fn fields_into<'m>(
     code
 }
 
+/// Code that puts the elements of an array constructor at a place.
 #[cycle(expressions)]
 fn elements_into<'m>(
     b: &mut Builder<'m, '_>,
     around: Around,
-    kind: TypeId,
-    elements: &[CoreExpr],
-    is_filled: bool,
+    e: &CoreExpr,
     to: Place,
     rest: Pending<'m>,
 ) -> Pending<'m> {
-    let element = inner_element(b, kind, 1);
-    let inner = dims_of(b, element);
-    let words = row_words(b, to, element, inner);
-    let mut code = if is_filled {
-        filled(b, kind, elements.len(), words, to, rest)
+    let CoreExpr::ArrayOf {
+        kind,
+        elements,
+        is_filled,
+        ..
+    } = e
+    else {
+        return rest;
+    };
+    let element = element_of(b, *kind, to);
+    let mut code = if *is_filled {
+        filled(b, *kind, elements.len(), element.words, to, rest)
     } else {
         rest
     };
     for place in (0..elements.len()).rev() {
-        if let Some(e) = elements.get(place) {
+        if let Some(listed) = elements.get(place) {
             let at = Place {
                 sizes: to.sizes.wrapping_add(1),
-                dims: inner,
-                ..to.further(words.wrapping_mul(place as u64))
+                dims: element.dims,
+                ..to.further(element.words.wrapping_mul(place as u64))
             };
-            code = if inner == 0 {
-                value_into(b, around, e, element, at, code)
+            code = if element.dims == 0 {
+                value_into(b, around, listed, element.kind, at, code)
             } else {
-                row_into(b, around, e, element, words, at, code)
+                row_into(b, around, listed, element, at, code)
             };
         }
     }
@@ -179,19 +176,18 @@ fn row_into<'m>(
     b: &mut Builder<'m, '_>,
     around: Around,
     e: &CoreExpr,
-    element: TypeId,
-    words: u64,
+    row: Element,
     to: Place,
     rest: Pending<'m>,
 ) -> Pending<'m> {
     let from = plan_structure(b, e);
     let code = cleared_value(b, from, rest);
-    let code = copy_words(b, to.without_sizes(), from.without_sizes(), words, code);
+    let code = copy_words(b, to.without_sizes(), from.without_sizes(), row.words, code);
     let kind = match kind_of(e) {
         Some(kind) => kind,
-        None => element,
+        None => row.kind,
     };
-    let wanted = shape_of(b, to, element, to.dims);
+    let wanted = shape_of(b, to, row.kind, to.dims);
     let found = shape_of(b, from, kind, to.dims);
     let code = check_equal(e.pos(), wanted.as_slice(), found.as_slice(), code);
     emit_structure(b, around, e, from, code)

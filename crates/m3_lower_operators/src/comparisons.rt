@@ -1,3 +1,4 @@
+use crate::operators::Operands;
 use m3_core::{Compared, Relation as Comparison};
 use m3_lower_arrays::{element_words, shape_of, total_words};
 use m3_lower_state::{
@@ -5,7 +6,6 @@ use m3_lower_state::{
     take_address,
 };
 use m3_mid::{Kind, MidOp, Operand, Relation, WordOperator};
-use m3_types::TypeId;
 
 /// A comparison of numbers as a relation, with its operands in their order.
 pub fn ordered(
@@ -28,9 +28,7 @@ pub fn compare_into<'m>(
     b: &mut Builder<'m, '_>,
     comparison: Comparison,
     compared: Compared,
-    kinds: (Option<TypeId>, Option<TypeId>),
-    left: Value,
-    right: Value,
+    operands: Operands,
     target: Operand,
     rest: Pending<'m>,
 ) -> Pending<'m> {
@@ -40,12 +38,13 @@ pub fn compare_into<'m>(
     };
     match compared {
         Compared::Ordinals | Compared::References => {
-            let (relation, x, y) = ordered(comparison, left.word(), right.word());
+            let (left, right) = (operands.left.value.word(), operands.right.value.word());
+            let (relation, x, y) = ordered(comparison, left, right);
             rest.after(compare(to, relation, x, y))
         }
-        Compared::Sets => compare_sets(b, comparison, left, right, to, rest),
-        Compared::Procedures => compare_procedures(b, comparison, left, right, to, rest),
-        Compared::Structures => compare_places(b, comparison, kinds, left, right, to, rest),
+        Compared::Sets => compare_sets(b, comparison, operands, to, rest),
+        Compared::Procedures => compare_procedures(b, comparison, operands, to, rest),
+        Compared::Structures => compare_places(b, comparison, operands, to, rest),
     }
 }
 
@@ -73,8 +72,7 @@ fn negation(comparison: Comparison) -> bool {
 fn compare_sets<'m>(
     b: &mut Builder<'m, '_>,
     comparison: Comparison,
-    left: Value,
-    right: Value,
+    operands: Operands,
     to: u32,
     rest: Pending<'m>,
 ) -> Pending<'m> {
@@ -82,12 +80,12 @@ fn compare_sets<'m>(
         Comparison::Equal | Comparison::NotEqual => {
             let differing = b.temp(Kind::Number);
             let code = rest.after(zero_test(to, differing, negation(comparison)));
-            gather(b, left, right, false, differing, code)
+            gather(b, operands, false, differing, code)
         }
-        Comparison::LessEqual => within(b, left, right, to, rest),
-        Comparison::GreaterEqual => within(b, right, left, to, rest),
-        Comparison::Less => properly_within(b, left, right, to, rest),
-        Comparison::Greater => properly_within(b, right, left, to, rest),
+        Comparison::LessEqual => within(b, operands, to, rest),
+        Comparison::GreaterEqual => within(b, operands.swapped(), to, rest),
+        Comparison::Less => properly_within(b, operands, to, rest),
+        Comparison::Greater => properly_within(b, operands.swapped(), to, rest),
     }
 }
 
@@ -100,22 +98,21 @@ fn zero_test(to: u32, from: u32, is_negated: bool) -> MidOp<'static> {
     compare(to, relation, Operand::Temp(from), Operand::Number(0))
 }
 
+/// Whether the left set is in the right one.
 fn within<'m>(
     b: &mut Builder<'m, '_>,
-    left: Value,
-    right: Value,
+    operands: Operands,
     to: u32,
     rest: Pending<'m>,
 ) -> Pending<'m> {
     let outside = b.temp(Kind::Number);
     let code = rest.after(zero_test(to, outside, false));
-    gather(b, left, right, true, outside, code)
+    gather(b, operands, true, outside, code)
 }
 
 fn properly_within<'m>(
     b: &mut Builder<'m, '_>,
-    left: Value,
-    right: Value,
+    operands: Operands,
     to: u32,
     rest: Pending<'m>,
 ) -> Pending<'m> {
@@ -129,19 +126,19 @@ fn properly_within<'m>(
         Operand::Temp(differs),
     ));
     let code = code.after(zero_test(differs, differing, true));
-    let code = gather(b, left, right, false, differing, code);
-    within(b, left, right, is_within, code)
+    let code = gather(b, operands, false, differing, code);
+    within(b, operands, is_within, code)
 }
 
 /// The bits in which two sets differ, or that are in the left one alone, of all words together.
 fn gather<'m>(
     b: &mut Builder<'m, '_>,
-    left: Value,
-    right: Value,
+    operands: Operands,
     is_one_sided: bool,
     to: u32,
     rest: Pending<'m>,
 ) -> Pending<'m> {
+    let (left, right) = (operands.left.value, operands.right.value);
     let mut code = rest;
     for word in (0..count_of(left)).rev() {
         let target = if word == 0 { to } else { b.temp(Kind::Number) };
@@ -178,47 +175,37 @@ fn differing<'m>(
 fn compare_procedures<'m>(
     b: &mut Builder<'m, '_>,
     comparison: Comparison,
-    left: Value,
-    right: Value,
+    operands: Operands,
     to: u32,
     rest: Pending<'m>,
 ) -> Pending<'m> {
     let differing = b.temp(Kind::Number);
     let code = rest.after(zero_test(to, differing, negation(comparison)));
-    gather(b, left, right, false, differing, code)
+    gather(b, operands, false, differing, code)
 }
 
 /// Arrays of unequal shape are unequal; else all words are compared.
 fn compare_places<'m>(
     b: &mut Builder<'m, '_>,
     comparison: Comparison,
-    kinds: (Option<TypeId>, Option<TypeId>),
-    left: Value,
-    right: Value,
+    operands: Operands,
     to: u32,
     rest: Pending<'m>,
 ) -> Pending<'m> {
     let is_negated = negation(comparison);
-    let (x, y) = (left.place(), right.place());
+    let (x, y) = (operands.left.value.place(), operands.right.value.place());
     let code = cleared_value(b, x, rest);
     let code = cleared_value(b, y, code);
     let dims = x.dims.max(y.dims);
     if dims == 0 {
-        let words = match kinds.0 {
+        let words = match operands.left.kind {
             Some(kind) => b.storage.words(kind),
             None => 0,
         };
-        return compare_words(
-            b,
-            x,
-            y,
-            Operand::Number(words.cast_signed()),
-            is_negated,
-            to,
-            code,
-        );
+        let words = Operand::Number(words.cast_signed());
+        return compare_words(b, operands, words, is_negated, to, code);
     }
-    let (Some(left_kind), Some(right_kind)) = kinds else {
+    let (Some(left_kind), Some(right_kind)) = (operands.left.kind, operands.right.kind) else {
         return code;
     };
     let join = b.seal(code);
@@ -232,7 +219,7 @@ fn compare_places<'m>(
     let element = element_words(b, left_kind, dims);
     let (words, counting) = total_words(b, lefts.as_slice(), element);
     let code = b.goto(join);
-    let code = compare_words(b, x, y, words, is_negated, to, code);
+    let code = compare_words(b, operands, words, is_negated, to, code);
     let code = counting.put(code);
     compare_shapes(b, lefts.as_slice(), rights.as_slice(), unequal, code)
 }
@@ -257,13 +244,13 @@ fn compare_shapes<'m>(
 
 fn compare_words<'m>(
     b: &mut Builder<'m, '_>,
-    x: Place,
-    y: Place,
+    operands: Operands,
     words: Operand,
     is_negated: bool,
     to: u32,
     rest: Pending<'m>,
 ) -> Pending<'m> {
+    let (x, y) = (operands.left.value.place(), operands.right.value.place());
     let left = temp_for_address(b, x);
     let right = temp_for_address(b, y);
     let equal = if is_negated { b.temp(Kind::Number) } else { to };

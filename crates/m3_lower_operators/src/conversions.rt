@@ -4,16 +4,23 @@ use m3_lower_state::{Builder, Pending, choice, kind_of};
 use m3_mid::{Kind, MidOp, Operand, Relation};
 use m3_types::{TypeId, TypeNode};
 
+/// A conversion to a type, with the check that faults at its place.
+#[derive(Clone, Copy)]
+pub struct CheckedConversion {
+    pub pos: Pos,
+    pub kind: TypeId,
+    pub check: Conversion,
+}
+
 /// The check of a conversion on an operand.
 pub fn checked<'m>(
     b: &mut Builder<'m, '_>,
-    pos: Pos,
-    kind: TypeId,
-    check: Conversion,
+    conversion: CheckedConversion,
     operand: &CoreExpr,
     value: Operand,
     rest: Pending<'m>,
 ) -> Pending<'m> {
+    let CheckedConversion { pos, kind, check } = conversion;
     match check {
         Conversion::Range => in_range(b, pos, kind, kind_of(operand), value, rest),
         Conversion::Narrow => narrowed(b, pos, kind, value, rest),
@@ -22,14 +29,14 @@ pub fn checked<'m>(
 }
 
 /// The check of a conversion that a procedure, in temporaries in a row, is none inside another.
-pub fn not_nested<'m>(check: Conversion, pos: Pos, first: u32, rest: Pending<'m>) -> Pending<'m> {
-    match check {
+pub fn not_nested<'m>(conversion: CheckedConversion, first: u32, rest: Pending<'m>) -> Pending<'m> {
+    match conversion.check {
         Conversion::Nested => rest.after(MidOp::Check {
             relation: Relation::Equal,
             left: Operand::Temp(first.wrapping_add(1)),
             right: Operand::Number(0),
             fault: FaultKind::NestedProc,
-            pos,
+            pos: conversion.pos,
         }),
         Conversion::Range | Conversion::Narrow | Conversion::Shape => rest,
     }

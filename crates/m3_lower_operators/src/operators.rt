@@ -3,47 +3,60 @@ use crate::sets::{combine_words, member_into};
 use m3_base::Pos;
 use m3_core::{CoreExpr, Operation, Operator, Prefix, PrefixOperator};
 use m3_lower_state::{
-    Around, Builder, Pending, Value, choice, kind_of, kind_of_form, not_nil, set_temp, temp_in,
+    Around, Builder, Pending, Value, choice, kind_of_form, not_nil, set_temp, temp_in,
 };
 use m3_lower_storage::Form;
 use m3_mid::{CheckedOperator, Kind, MidOp, Operand, Relation, Service};
 use m3_types::TypeId;
 
-/// Code that puts the result of an operation on two values where it is wanted.
+/// A value with its type, which is none of a call without result.
+#[derive(Clone, Copy)]
+pub struct TypedValue {
+    pub value: Value,
+    pub kind: Option<TypeId>,
+}
+
+/// The operands of an operation, which are evaluated already.
+#[derive(Clone, Copy)]
+pub struct Operands {
+    pub left: TypedValue,
+    pub right: TypedValue,
+}
+
+impl Operands {
+    /// The same ones in the other order.
+    pub fn swapped(self) -> Operands {
+        Operands {
+            left: self.right,
+            right: self.left,
+        }
+    }
+}
+
+/// Code that puts the result of an operation where it is wanted.
 pub fn operate<'m>(
     b: &mut Builder<'m, '_>,
     around: Around,
-    operator: Operator,
-    pos: Pos,
-    kinds: (Option<TypeId>, Option<TypeId>),
-    left: Value,
-    right: Value,
+    operation: &Operation,
+    operands: Operands,
     target: Value,
     rest: Pending<'m>,
 ) -> Pending<'m> {
+    let (operator, pos) = (operation.operator, operation.pos);
     match operator {
-        Operator::Plus => arithmetic(CheckedOperator::Add, left, right, target, pos, rest),
-        Operator::Minus => arithmetic(CheckedOperator::Subtract, left, right, target, pos, rest),
-        Operator::Times => arithmetic(CheckedOperator::Multiply, left, right, target, pos, rest),
-        Operator::Div => arithmetic(CheckedOperator::Div, left, right, target, pos, rest),
-        Operator::Mod => arithmetic(CheckedOperator::Mod, left, right, target, pos, rest),
+        Operator::Plus => arithmetic(CheckedOperator::Add, operands, target, pos, rest),
+        Operator::Minus => arithmetic(CheckedOperator::Subtract, operands, target, pos, rest),
+        Operator::Times => arithmetic(CheckedOperator::Multiply, operands, target, pos, rest),
+        Operator::Div => arithmetic(CheckedOperator::Div, operands, target, pos, rest),
+        Operator::Mod => arithmetic(CheckedOperator::Mod, operands, target, pos, rest),
         Operator::Union
         | Operator::Difference
         | Operator::Intersection
-        | Operator::SymmetricDifference => { combine_words(b, operator, left, right, target, rest) }
-        Operator::Concatenate => rest.after(concatenated(b, around, left, right, target, pos)),
-        Operator::In => member_into(b, kinds.1, left.word(), right, target.word(), rest),
+        | Operator::SymmetricDifference => combine_words(b, operator, operands, target, rest),
+        Operator::Concatenate => rest.after(concatenated(b, around, operands, target, pos)),
+        Operator::In => member_into(b, operands, target.word(), rest),
         Operator::Compare(relation, compared) => {
-            compare_into(
-                b,
-                relation,
-                compared,
-                kinds,
-                left,
-                right,
-                target.word(),
-                rest,
-            )
+            compare_into(b, relation, compared, operands, target.word(), rest)
         }
         Operator::Or | Operator::And => rest,
     }
@@ -51,8 +64,7 @@ pub fn operate<'m>(
 
 fn arithmetic<'m>(
     operator: CheckedOperator,
-    left: Value,
-    right: Value,
+    operands: Operands,
     target: Value,
     pos: Pos,
     rest: Pending<'m>,
@@ -60,8 +72,8 @@ fn arithmetic<'m>(
     rest.after(MidOp::Checked {
         to: temp_in(target.word()),
         operator,
-        left: left.word(),
-        right: right.word(),
+        left: operands.left.value.word(),
+        right: operands.right.value.word(),
         pos,
     })
 }
@@ -69,12 +81,12 @@ fn arithmetic<'m>(
 fn concatenated<'m>(
     b: &mut Builder<'m, '_>,
     around: Around,
-    left: Value,
-    right: Value,
+    operands: Operands,
     target: Value,
     pos: Pos,
 ) -> MidOp<'m> {
-    let operands = b.operand_row(&[left.word(), right.word()]);
+    let operands = [operands.left.value.word(), operands.right.value.word()];
+    let operands = b.operand_row(&operands);
     let shown = b.shown(around);
     MidOp::Service {
         service: Service::Concatenate,
@@ -109,26 +121,6 @@ pub fn is_made_text(e: &CoreExpr) -> bool {
         },
         _ => false,
     }
-}
-
-/// The types of the two operands of an operation of a row.
-pub fn kinds_at(
-    first: &CoreExpr,
-    row: &[Operation],
-    place: usize,
-) -> (Option<TypeId>, Option<TypeId>) {
-    let left = match place.checked_sub(1) {
-        Some(before) => match row.get(before) {
-            Some(operation) => Some(operation.kind),
-            None => None,
-        },
-        None => kind_of(first),
-    };
-    let right = match row.get(place) {
-        Some(operation) => kind_of(operation.right),
-        None => None,
-    };
-    (left, right)
 }
 
 /// The value at a place of a row.

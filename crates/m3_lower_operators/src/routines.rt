@@ -1,6 +1,6 @@
 use crate::conversions::in_range;
 use crate::operators::is_made_text;
-use crate::services::{serve, service_of};
+use crate::services::{ServiceCall, serve, service_of};
 use m3_base::{FaultKind, Pos};
 use m3_core::{BuiltinCall, CoreExpr, Routine};
 use m3_lower_state::{
@@ -100,21 +100,26 @@ pub fn action<'m>(
     rest: Pending<'m>,
 ) -> Pending<'m> {
     if let Some(service) = service_of(call.routine) {
-        return serve(b, around, call.pos, service, operands, to, rest);
+        let service_call = ServiceCall {
+            service,
+            pos: call.pos,
+            operands,
+        };
+        return serve(b, around, service_call, to, rest);
     }
     let x = operand_at(operands, 0);
     let y = operand_at(operands, 1);
     let target = result_temp(b, to, Kind::Number);
     match call.routine {
-        Routine::Min => lesser(b, x, y, target, rest),
-        Routine::Max => lesser_or_greater(b, y, x, x, y, target, rest),
+        Routine::Min => lesser_or_greater(b, false, x, y, target, rest),
+        Routine::Max => lesser_or_greater(b, true, x, y, target, rest),
         Routine::Ord => set(target, x, rest),
         Routine::Val => {
             let code = set(target, x, rest);
             valued(b, call, x, code)
         }
         _ => {
-            let code = computed(b, call.routine, call.pos, x, y, target, rest);
+            let code = computed(b, call, x, y, target, rest);
             let shown = b.shown(around);
             let code = code.after(MidOp::Point { shown });
             check_byte_index(b, call, x, y, code)
@@ -138,22 +143,10 @@ fn valued<'m>(
     }
 }
 
-fn lesser<'m>(
-    b: &mut Builder<'m, '_>,
-    x: Operand,
-    y: Operand,
-    to: u32,
-    rest: Pending<'m>,
-) -> Pending<'m> {
-    lesser_or_greater(b, x, y, x, y, to, rest)
-}
-
-/// Puts one of two numbers into a temporary: the first where another pair doesn't fall, else the
-/// second.
+/// Puts the lesser of two numbers into a temporary, or the greater one.
 fn lesser_or_greater<'m>(
     b: &mut Builder<'m, '_>,
-    less: Operand,
-    more: Operand,
+    is_greater: bool,
     x: Operand,
     y: Operand,
     to: u32,
@@ -164,6 +157,7 @@ fn lesser_or_greater<'m>(
     let first = b.seal(first);
     let second = set(to, y, b.goto(join));
     let second = b.seal(second);
+    let (less, more) = if is_greater { (y, x) } else { (x, y) };
     choice(b, Relation::LessEqual, less, more, first, second)
 }
 
@@ -210,17 +204,17 @@ fn word_operator(routine: Routine) -> Option<WordOperator> {
 /// A routine that computes from its operands alone, behind its point.
 fn computed<'m>(
     b: &mut Builder<'m, '_>,
-    routine: Routine,
-    pos: Pos,
+    call: &BuiltinCall,
     x: Operand,
     y: Operand,
     to: u32,
     rest: Pending<'m>,
 ) -> Pending<'m> {
-    if let Some(operator) = word_operator(routine) {
+    if let Some(operator) = word_operator(call.routine) {
         return rest.after(arith(to, operator, x, y));
     }
-    match routine {
+    let pos = call.pos;
+    match call.routine {
         Routine::WordNot => rest.after(arith(to, WordOperator::Xor, x, Operand::Number(-1))),
         Routine::WordDivide => rest.after(unsigned(CheckedOperator::DivUnsigned, x, y, to, pos)),
         Routine::WordMod => rest.after(unsigned(CheckedOperator::ModUnsigned, x, y, to, pos)),

@@ -45,16 +45,23 @@ fn kind_of_result(service: Service) -> Option<Kind> {
     }
 }
 
+/// The call of a service of the machine: its place and its operands.
+#[derive(Clone, Copy)]
+pub struct ServiceCall<'a> {
+    pub service: Service,
+    pub pos: Pos,
+    pub operands: &'a [Operand],
+}
+
 /// A service, and for one that may be alerted the exception that it raises then.
 pub fn serve<'m>(
     b: &mut Builder<'m, '_>,
     around: Around,
-    pos: Pos,
-    service: Service,
-    operands: &[Operand],
+    call: ServiceCall,
     to: Option<u32>,
     rest: Pending<'m>,
 ) -> Pending<'m> {
+    let service = call.service;
     let is_alerted = matches!(service, Service::AlertWait | Service::AlertJoin);
     let result = match kind_of_result(service) {
         Some(kind) => Some(b.temp(kind)),
@@ -70,14 +77,14 @@ pub fn serve<'m>(
     } else {
         (code, None)
     };
-    let operands = b.operand_row(operands);
+    let operands = b.operand_row(call.operands);
     let shown = b.shown(around);
     code.after(MidOp::Service {
         service,
         operands,
         to: result,
         raised,
-        pos,
+        pos: call.pos,
         shown,
     })
 }

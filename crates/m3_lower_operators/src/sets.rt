@@ -1,9 +1,9 @@
 use crate::comparisons::{count_of, word_at};
+use crate::operators::Operands;
 use m3_core::Operator;
 use m3_lower_arrays::first_member;
 use m3_lower_state::{Builder, Pending, Value, arith};
 use m3_mid::{Kind, MidOp, Operand, Relation, WordOperator};
-use m3_types::TypeId;
 
 /// What the elements of a set constructor will be: one operand each, or two of a range.
 #[derive(Clone, Copy)]
@@ -12,15 +12,52 @@ pub struct PlannedElement {
     pub last: Option<Operand>,
 }
 
+/// Temporaries in a row: the first of them, and how many there are.
+#[derive(Clone, Copy)]
+pub struct TempRow {
+    pub first: u32,
+    pub count: u32,
+}
+
+/// A word of a set, by the member whose bit is its first, and how many words the set has.
+#[derive(Clone, Copy)]
+struct SetWord {
+    base: i64,
+    count: u32,
+}
+
+/// The distance of a member of a set from a number.
+#[derive(Clone, Copy)]
+struct Distance {
+    member: Operand,
+    from: i64,
+}
+
+impl Distance {
+    /// The operation that puts the distance into a temporary.
+    fn into_temp(self, to: u32) -> MidOp<'static> {
+        match self.member {
+            Operand::Number(value) => MidOp::Number {
+                to,
+                value: value.wrapping_sub(self.from),
+            },
+            Operand::Temp(_) => {
+                let from = Operand::Number(self.from);
+                arith(to, WordOperator::Subtract, self.member, from)
+            }
+        }
+    }
+}
+
 /// Sets combined word by word.
 pub fn combine_words<'m>(
     b: &mut Builder<'m, '_>,
     operator: Operator,
-    left: Value,
-    right: Value,
+    operands: Operands,
     target: Value,
     rest: Pending<'m>,
 ) -> Pending<'m> {
+    let (left, right) = (operands.left.value, operands.right.value);
     let mut code = rest;
     for word in (0..count_of(target)).rev() {
         let (x, y) = (word_at(left, word), word_at(right, word));
@@ -52,13 +89,11 @@ fn combine<'m>(
     }
 }
 
-/// Whether a number is a member of a set: the bit of its place, and 0 for a number outside the
-/// base, since a shift by 64 or more gives 0.
+/// Whether the left operand is a member of the right one, a set: the bit of its place, and 0 for a
+/// number outside the base, since a shift by 64 or more gives 0.
 pub fn member_into<'m>(
     b: &mut Builder<'m, '_>,
-    kind: Option<TypeId>,
-    member: Operand,
-    set: Value,
+    operands: Operands,
     target: Operand,
     rest: Pending<'m>,
 ) -> Pending<'m> {
@@ -66,7 +101,8 @@ pub fn member_into<'m>(
         Operand::Temp(to) => to,
         Operand::Number(_) => return rest,
     };
-    let first = match kind {
+    let (member, set) = (operands.left.value.word(), operands.right.value);
+    let first = match operands.right.kind {
         Some(kind) => first_member(b, kind),
         None => 0,
     };
@@ -115,13 +151,13 @@ fn shifted_down<'m>(
     code.after(arith(by, WordOperator::Subtract, Operand::Number(start), member))
 }
 
-/// Moves temporaries in a row.
-pub fn move_row<'m>(to: u32, from: u32, count: u32, rest: Pending<'m>) -> Pending<'m> {
+/// Moves temporaries in a row to others from one on.
+pub fn move_row<'m>(to: u32, from: TempRow, rest: Pending<'m>) -> Pending<'m> {
     let mut code = rest;
-    for word in 0..count {
+    for word in 0..from.count {
         code = code.after(MidOp::Move {
             to: to.wrapping_add(word),
-            from: from.wrapping_add(word),
+            from: from.first.wrapping_add(word),
         });
     }
     code
@@ -132,43 +168,38 @@ pub fn add_bits<'m>(
     b: &mut Builder<'m, '_>,
     planned: PlannedElement,
     start: i64,
-    sum: u32,
-    count: u32,
+    sum: TempRow,
     rest: Pending<'m>,
 ) -> Pending<'m> {
     let mut code = rest;
-    for word in 0..count {
+    for place in 0..sum.count {
         let bits = b.temp(Kind::Number);
-        let to = sum.wrapping_add(word);
+        let to = sum.first.wrapping_add(place);
         code = code.after(arith(to, WordOperator::Or, Operand::Temp(to), Operand::Temp(bits)));
-        let base = start.wrapping_add(i64::from(word).wrapping_mul(64));
+        let word = SetWord {
+            base: start.wrapping_add(i64::from(place).wrapping_mul(64)),
+            count: sum.count,
+        };
         code = match planned.last {
-            None => one_bit(b, planned.first, base, bits, code),
-            Some(last) => range_bits(b, planned.first, last, base, count, bits, code),
+            None => one_bit(b, planned.first, word, bits, code),
+            Some(last) => range_bits(b, planned.first, last, word, bits, code),
         };
     }
     code
 }
 
-fn distance(to: u32, member: Operand, base: i64) -> MidOp<'static> {
-    match member {
-        Operand::Number(value) => MidOp::Number {
-            to,
-            value: value.wrapping_sub(base),
-        },
-        Operand::Temp(_) => arith(to, WordOperator::Subtract, member, Operand::Number(base)),
-    }
-}
-
-/// The bit of a member in the word whose first bit is that of `base`; 0 where it is in another
-/// word.
+/// The bit of a member in a word; 0 where it is in another one.
 fn one_bit<'m>(
     b: &mut Builder<'m, '_>,
     member: Operand,
-    base: i64,
+    word: SetWord,
     to: u32,
     rest: Pending<'m>,
 ) -> Pending<'m> {
+    let distance = Distance {
+        member,
+        from: word.base,
+    };
     let by = b.temp(Kind::Number);
     let code = rest.after(arith(
         to,
@@ -176,17 +207,16 @@ fn one_bit<'m>(
         Operand::Number(1),
         Operand::Temp(by),
     ));
-    code.after(distance(by, member, base))
+    code.after(distance.into_temp(by))
 }
 
-/// The bits from one member to another in the word whose first bit is that of `base`: those that
-/// aren't before the first and aren't behind the last.
+/// The bits from one member to another in a word: those that aren't before the first and aren't
+/// behind the last.
 fn range_bits<'m>(
     b: &mut Builder<'m, '_>,
     first: Operand,
     last: Operand,
-    base: i64,
-    count: u32,
+    word: SetWord,
     to: u32,
     rest: Pending<'m>,
 ) -> Pending<'m> {
@@ -198,24 +228,23 @@ fn range_bits<'m>(
         Operand::Temp(low),
         Operand::Temp(high),
     ));
-    let code = bounded_shift(
-        b,
-        last,
-        base.wrapping_add(63),
-        Relation::Less,
-        count,
-        high,
-        code,
-    );
-    bounded_shift(b, first, base, Relation::LessEqual, count, low, code)
+    let from_last = Distance {
+        member: last,
+        from: word.base.wrapping_add(63),
+    };
+    let code = bounded_shift(b, from_last, Relation::Less, word.count, high, code);
+    let from_first = Distance {
+        member: first,
+        from: word.base,
+    };
+    bounded_shift(b, from_first, Relation::LessEqual, word.count, low, code)
 }
 
-/// All ones, shifted by the distance of a member from a number; not shifted where the distance has
-/// the wrong sign, which a set of one word doesn't have.
+/// All ones, shifted by a distance; not shifted where the distance has the wrong sign, which it
+/// hasn't in a set of one word.
 fn bounded_shift<'m>(
     b: &mut Builder<'m, '_>,
-    member: Operand,
-    base: i64,
+    distance: Distance,
     relation: Relation,
     count: u32,
     to: u32,
@@ -229,7 +258,7 @@ fn bounded_shift<'m>(
         Operand::Temp(by),
     ));
     if count == 1 {
-        return code.after(distance(by, member, base));
+        return code.after(distance.into_temp(by));
     }
     let is_right = b.temp(Kind::Number);
     let code = code.after(arith(
@@ -248,15 +277,15 @@ fn bounded_shift<'m>(
         left,
         right,
     });
-    code.after(distance(by, member, base))
+    code.after(distance.into_temp(by))
 }
 
 /// Sets temporaries in a row to 0.
-pub fn zero_temps<'m>(first: u32, count: u32, rest: Pending<'m>) -> Pending<'m> {
+pub fn zero_temps<'m>(row: TempRow, rest: Pending<'m>) -> Pending<'m> {
     let mut code = rest;
-    for word in 0..count {
+    for word in 0..row.count {
         code = code.after(MidOp::Number {
-            to: first.wrapping_add(word),
+            to: row.first.wrapping_add(word),
             value: 0,
         });
     }

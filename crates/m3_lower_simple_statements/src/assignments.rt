@@ -14,6 +14,21 @@ use m3_lower_storage::Form;
 use m3_mid::{CheckedOperator, Kind, MidOp, Operand};
 use m3_types::TypeId;
 
+/// What is assigned to: its place, its type, and whether the value is checked for its shape.
+#[derive(Clone, Copy)]
+struct Target {
+    to: Place,
+    kind: TypeId,
+    checks_shape: bool,
+}
+
+/// INC or DEC, with its place.
+#[derive(Clone, Copy)]
+pub struct Adjustment {
+    pub pos: Pos,
+    pub is_decrement: bool,
+}
+
 /// An assignment: the target's place, the value with its checks, and the write.
 pub fn assign<'m>(
     b: &mut Builder<'m, '_>,
@@ -25,7 +40,14 @@ pub fn assign<'m>(
 ) -> Pending<'m> {
     let to = plan_chain(b, target).place();
     let code = match target.kind {
-        Some(kind) => assigned(b, exits, to, kind, value, checks_shape, rest),
+        Some(kind) => {
+            let target = Target {
+                to,
+                kind,
+                checks_shape,
+            };
+            assigned(b, exits, target, value, rest)
+        }
         None => rest,
     };
     emit_chain(b, exits.around, target, code)
@@ -34,13 +56,12 @@ pub fn assign<'m>(
 fn assigned<'m>(
     b: &mut Builder<'m, '_>,
     exits: Exits,
-    to: Place,
-    kind: TypeId,
+    target: Target,
     value: &CoreExpr,
-    checks_shape: bool,
     rest: Pending<'m>,
 ) -> Pending<'m> {
-    match (b.storage.form(kind), to.at) {
+    let to = target.to;
+    match (b.storage.form(target.kind), to.at) {
         (Form::Number | Form::Reference, Location::Temps(temp)) => {
             word_into(b, exits, value, temp, rest)
         }
@@ -57,10 +78,8 @@ fn assigned<'m>(
             let code = store_words(b, to, first, count, rest);
             into_temps(b, exits.around, value, first, code)
         }
-        (Form::Structure(words), _) => {
-            structure_to(b, exits, to, kind, value, words, checks_shape, rest)
-        }
-        (Form::Open, _) => open_to(b, exits, to, kind, value, checks_shape, rest),
+        (Form::Structure(words), _) => structure_to(b, exits, target, value, words, rest),
+        (Form::Open, _) => open_to(b, exits, target, value, rest),
     }
 }
 
@@ -82,19 +101,17 @@ pub fn word_into<'m>(
 fn structure_to<'m>(
     b: &mut Builder<'m, '_>,
     exits: Exits,
-    to: Place,
-    kind: TypeId,
+    target: Target,
     value: &CoreExpr,
     words: u64,
-    checks_shape: bool,
     rest: Pending<'m>,
 ) -> Pending<'m> {
     let from = plan_structure(b, value);
     let from_kind = kind_of(value);
     let code = cleared_value(b, from, rest);
-    let code = copy_words(b, to, from.without_sizes(), words, code);
-    let code = if checks_shape {
-        check_shape(b, value.pos(), kind, from_kind, from, code)
+    let code = copy_words(b, target.to, from.without_sizes(), words, code);
+    let code = if target.checks_shape {
+        check_shape(b, value.pos(), target.kind, from_kind, from, code)
     } else {
         code
     };
@@ -105,12 +122,11 @@ fn structure_to<'m>(
 fn open_to<'m>(
     b: &mut Builder<'m, '_>,
     exits: Exits,
-    to: Place,
-    kind: TypeId,
+    target: Target,
     value: &CoreExpr,
-    checks_shape: bool,
     rest: Pending<'m>,
 ) -> Pending<'m> {
+    let Target { to, kind, .. } = target;
     let from = plan_structure(b, value);
     let from_kind = match kind_of(value) {
         Some(kind) => kind,
@@ -123,7 +139,7 @@ fn open_to<'m>(
     let (words, counting) = total_words(b, wanted.as_slice(), element);
     let code = copy_row(b, to, from, words, rest);
     let code = counting.put(code);
-    let code = if checks_shape {
+    let code = if target.checks_shape {
         check_equal(value.pos(), wanted.as_slice(), found.as_slice(), code)
     } else {
         code
@@ -135,8 +151,7 @@ fn open_to<'m>(
 pub fn change<'m>(
     b: &mut Builder<'m, '_>,
     exits: Exits,
-    pos: Pos,
-    is_decrement: bool,
+    adjustment: Adjustment,
     target: &Chain,
     amount: Option<&CoreExpr>,
     rest: Pending<'m>,
@@ -146,7 +161,7 @@ pub fn change<'m>(
         Some(amount) => source(b, amount),
         None => Operand::Number(1),
     };
-    let code = changed(b, pos, is_decrement, target.kind, place, by, rest);
+    let code = changed(b, adjustment, target.kind, place, by, rest);
     let code = match amount {
         Some(amount) => fetch(b, exits.around, amount, by, code),
         None => code,
@@ -156,13 +171,13 @@ pub fn change<'m>(
 
 fn changed<'m>(
     b: &mut Builder<'m, '_>,
-    pos: Pos,
-    is_decrement: bool,
+    adjustment: Adjustment,
     kind: Option<TypeId>,
     place: Place,
     by: Operand,
     rest: Pending<'m>,
 ) -> Pending<'m> {
+    let Adjustment { pos, is_decrement } = adjustment;
     let operator = if is_decrement {
         CheckedOperator::Subtract
     } else {

@@ -3,6 +3,7 @@ use m3_lower_actuals::{plan_chain, plan_value, store_value};
 use m3_lower_arrays::store_default;
 use m3_lower_exits::{Exits, global_place};
 use m3_lower_expr::{emit_chain, emit_value};
+use m3_lower_operators::TypedValue;
 use m3_lower_state::{Around, Builder, Location, Pending, Place, kind_of};
 use m3_lower_storage::number_of;
 
@@ -40,7 +41,11 @@ fn stored<'m>(
     rest: Pending<'m>,
 ) -> Pending<'m> {
     let planned = plan_value(b, e);
-    let code = store_value(b, planned, kind_of(e), to, rest);
+    let stored = TypedValue {
+        value: planned,
+        kind: kind_of(e),
+    };
+    let code = store_value(b, stored, to, rest);
     emit_value(b, around, e, planned, code)
 }
 

@@ -22,25 +22,32 @@ pub struct Course {
     pub exit: u32,
 }
 
+/// What the variable of a FOR goes through: from the first value to the last, by a step where one
+/// is written.
+#[derive(Clone, Copy)]
+pub struct Progression<'a> {
+    pub first: &'a CoreExpr<'a>,
+    pub last: &'a CoreExpr<'a>,
+    pub step: Option<&'a CoreExpr<'a>>,
+}
+
 /// Code for first, last and step in order.
 pub fn begin<'m>(
     b: &mut Builder<'m, '_>,
     exits: Exits,
     course: Course,
-    first: &CoreExpr,
-    last: &CoreExpr,
-    step: Option<&CoreExpr>,
+    progression: Progression,
     rest: Pending<'m>,
 ) -> Pending<'m> {
-    let code = match (step, course.pace) {
+    let code = match (progression.step, course.pace) {
         (Some(step), Pace::Temp(to)) => evaluated(b, exits, step, to, rest),
         _ => rest,
     };
     let code = match course.last {
-        Operand::Temp(to) => evaluated(b, exits, last, to, code),
+        Operand::Temp(to) => evaluated(b, exits, progression.last, to, code),
         Operand::Number(_) => code,
     };
-    evaluated(b, exits, first, course.index, code)
+    evaluated(b, exits, progression.first, course.index, code)
 }
 
 fn evaluated<'m>(

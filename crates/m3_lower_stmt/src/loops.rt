@@ -1,8 +1,8 @@
 use crate::statements::statements;
-use m3_core::{CoreExpr, CoreStmt};
+use m3_core::CoreStmt;
 use m3_lower_exits::{Exits, clear_inside, place_of, showing};
 use m3_lower_expr::condition;
-use m3_lower_simple_statements::{Course, begin, first_test, limit, pace_of, turned};
+use m3_lower_simple_statements::{Course, Progression, begin, first_test, limit, pace_of, turned};
 use m3_lower_state::{Builder, Location, Pending, store_word};
 use m3_mid::{Kind, MidOp, Operand};
 
@@ -28,7 +28,12 @@ pub fn for_loop<'m>(
     };
     let after = clear_inside(b, body, rest);
     let exit = b.seal(after);
-    let course = course_of(b, *variable, last, *step, exit);
+    let progression = Progression {
+        first: *first,
+        last: *last,
+        step: *step,
+    };
+    let course = course_of(b, *variable, progression, exit);
     let inside = Exits {
         exit: Some(exit),
         ..showing(b, exits, &[*variable])
@@ -38,17 +43,11 @@ pub fn for_loop<'m>(
     let code = store_index(b, *variable, course.index, code);
     b.set(course.head, code);
     let code = first_test(b, course);
-    begin(b, exits, course, first, last, *step, code)
+    begin(b, exits, course, progression, code)
 }
 
 /// What the turns of a FOR go by.
-fn course_of(
-    b: &mut Builder,
-    variable: u32,
-    last: &CoreExpr,
-    step: Option<&CoreExpr>,
-    exit: u32,
-) -> Course {
+fn course_of(b: &mut Builder, variable: u32, progression: Progression, exit: u32) -> Course {
     let head = b.reserve();
     let index = match place_of(b, variable).at {
         Location::Temps(temp) => temp,
@@ -56,8 +55,8 @@ fn course_of(
     };
     Course {
         index,
-        last: limit(b, last),
-        pace: pace_of(b, step),
+        last: limit(b, progression.last),
+        pace: pace_of(b, progression.step),
         head,
         exit,
     }

@@ -5,7 +5,9 @@ use crate::loops::{for_loop, leave_loop, plain_loop, repeat_loop, while_loop};
 use m3_core::CoreStmt;
 use m3_lower_exits::Exits;
 use m3_lower_expr::builtin_into;
-use m3_lower_simple_statements::{assign, called, change, evaluate, raise, return_value};
+use m3_lower_simple_statements::{
+    Adjustment, assign, called, change, evaluate, raise, return_value,
+};
 use m3_lower_state::{Builder, Pending};
 
 /// Code for a row of statements.
@@ -47,7 +49,13 @@ fn statement<'m>(
             is_decrement,
             target,
             amount,
-        } => change(b, exits, *pos, *is_decrement, target, *amount, rest),
+        } => {
+            let adjustment = Adjustment {
+                pos: *pos,
+                is_decrement: *is_decrement,
+            };
+            change(b, exits, adjustment, target, *amount, rest)
+        }
         CoreStmt::Block { .. } => block(b, exits, s, rest),
         CoreStmt::Case { .. } => case_of(b, exits, s, rest),
         CoreStmt::Exit { .. } => leave_loop(b, exits, rest),
