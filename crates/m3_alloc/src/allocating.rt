@@ -1,4 +1,5 @@
 use crate::choosing::{choose_registers, give, wishes_of};
+use crate::extents::Extents;
 use crate::homes::homes_of;
 use crate::needs::{Idle, Needs, needs_of};
 use crate::sharing::share_words;
@@ -97,22 +98,25 @@ fn live_at_start(alloc: Global, d: &Derived, live: &LiveSets) -> Result<Vec<u32>
 pub fn allocate<'a>(alloc: Global, d: &Derived<'a>) -> Result<Placed<'a>, NoMemory> {
     let order = block_order(alloc, &d.proc)?;
     let live = live_with(alloc, &d.proc, &order, d.uses)?;
-    let all = places_of(d)?;
     let mut needs = needs_of(alloc, d, &order, &live)?;
+    let extents = Extents {
+        live,
+        lost: needs.lost_by_temp(alloc)?,
+        places: places_of(d)?,
+    };
     let wishes = wishes_of(alloc, d, &order)?;
     let mut given = vec![in alloc; None; d.proc.temps.len()]?;
-    let lost = needs.lost_by_temp(alloc)?;
-    choose_registers(alloc, &wishes, &live, &lost, &mut needs, all, &mut given)?;
+    choose_registers(alloc, &wishes, &extents, &mut needs, &mut given)?;
     let homes = homes_of(alloc, d)?;
     give_homes(&homes, &needs, &mut given)?;
     let first = place_number(d.proc.slots.len())?.saturating_add(3);
-    let next = share_words(alloc, &live, &lost, &needs, all, first, &mut given)?;
-    let body = give_slots(alloc, &live, &needs, all, next, &mut given)?;
+    let next = share_words(alloc, &extents, &needs, first, &mut given)?;
+    let body = give_slots(alloc, &extents, &needs, next, &mut given)?;
     let mut places = Vec::new(alloc);
     for place in &given {
         places.push(place.unwrap_or(Location::Register(0)))?;
     }
-    let at_start = live_at_start(alloc, d, &live)?;
+    let at_start = live_at_start(alloc, d, &extents.live)?;
     Ok(Placed {
         derived: *d,
         places,

@@ -1,8 +1,9 @@
 use crate::cover::Cover;
+use crate::extents::Extents;
 use crate::needs::Needs;
 use m3_base::{NoMemory, place_number};
 use m3_derive::Derived;
-use m3_flow::{Groups, LiveSets, Order, Pair, end_of, ops_of, settings_of, uses_of};
+use m3_flow::{Groups, Order, Pair, end_of, ops_of, settings_of, uses_of};
 use m3_mid::{End, MidOp, Operand};
 use m3_tables::Location;
 use std::alloc::Global;
@@ -192,20 +193,20 @@ impl Wishes {
 fn queue_of(
     alloc: Global,
     wishes: &Wishes,
-    live: &LiveSets,
+    extents: &Extents,
     needs: &Needs,
 ) -> Result<Vec<u32>, NoMemory> {
     let deepest = wishes.depths.iter().copied().max().unwrap_or(0);
     let mut begins = Vec::new(alloc);
     for (at, in_slot) in needs.in_slot.iter().enumerate() {
         let temp = place_number(at)?;
-        if !*in_slot && let Some(range) = live.ranges_of(temp).first() {
+        if !*in_slot && let Some(range) = extents.ranges_of(temp).first() {
             begins.push((range.from, temp))?;
         }
     }
     for (temp, place) in &needs.lost {
         let in_slot = needs.in_slot.get(*temp as usize).copied().unwrap_or(true);
-        if !in_slot && live.ranges_of(*temp).is_empty() {
+        if !in_slot && extents.ranges_of(*temp).is_empty() {
             begins.push((*place, *temp))?;
         }
     }
@@ -230,19 +231,17 @@ fn queue_of(
 pub(crate) fn choose_registers(
     alloc: Global,
     wishes: &Wishes,
-    live: &LiveSets,
-    lost: &Groups,
+    extents: &Extents,
     needs: &mut Needs,
-    all: u32,
     places: &mut Vec<Option<Location>>,
 ) -> Result<(), NoMemory> {
-    let mut cover = Cover::new(alloc, all as usize)?;
-    for temp in &queue_of(alloc, wishes, live, needs)? {
-        let free = cover.free_for(live, lost, *temp);
+    let mut cover = Cover::new(alloc, extents.places as usize)?;
+    for temp in &queue_of(alloc, wishes, extents, needs)? {
+        let free = cover.free_for(extents, *temp);
         match wishes.choose(*temp, free, places) {
             Some(register) => {
                 give(places, *temp, Location::Register(register));
-                cover.take_for(live, lost, *temp, bit_of(register));
+                cover.take_for(extents, *temp, bit_of(register));
             }
             None => {
                 if let Some(in_slot) = needs.in_slot.get_mut(*temp as usize) {

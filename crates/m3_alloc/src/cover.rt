@@ -1,5 +1,5 @@
+use crate::extents::Extents;
 use m3_base::NoMemory;
-use m3_flow::{Groups, LiveSets};
 use std::alloc::Global;
 
 /// Which of 64 words or registers are taken at which places: a binary tree over the places, in
@@ -110,12 +110,12 @@ impl Cover {
 
 impl Cover {
     /// What is free wherever a temporary is live or set.
-    pub(crate) fn free_for(&self, live: &LiveSets, lost: &Groups, temp: u32) -> u64 {
+    pub(crate) fn free_for(&self, extents: &Extents, temp: u32) -> u64 {
         let mut taken = 0;
-        for range in live.ranges_of(temp) {
+        for range in extents.ranges_of(temp) {
             taken |= self.taken(range.from as usize, range.to as usize);
         }
-        for place in lost.row(temp) {
+        for place in extents.lost_at(temp) {
             let from = *place as usize;
             taken |= self.taken(from, from.saturating_add(1));
         }
@@ -123,11 +123,11 @@ impl Cover {
     }
 
     /// Takes words or registers wherever a temporary is live or set.
-    pub(crate) fn take_for(&mut self, live: &LiveSets, lost: &Groups, temp: u32, mask: u64) {
-        for range in live.ranges_of(temp) {
+    pub(crate) fn take_for(&mut self, extents: &Extents, temp: u32, mask: u64) {
+        for range in extents.ranges_of(temp) {
             self.take(range.from as usize, range.to as usize, mask);
         }
-        for place in lost.row(temp) {
+        for place in extents.lost_at(temp) {
             let from = *place as usize;
             self.take(from, from.saturating_add(1), mask);
         }

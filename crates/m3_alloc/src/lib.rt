@@ -4,6 +4,7 @@
 mod allocating;
 mod choosing;
 mod cover;
+mod extents;
 mod homes;
 mod needs;
 mod sharing;

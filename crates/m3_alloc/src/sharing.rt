@@ -1,8 +1,8 @@
 use crate::choosing::give;
 use crate::cover::Cover;
+use crate::extents::Extents;
 use crate::needs::Needs;
 use m3_base::{NoMemory, place_number};
-use m3_flow::{Groups, LiveSets};
 use m3_tables::Location;
 use std::alloc::Global;
 
@@ -12,8 +12,7 @@ const MOST_COVERS: usize = 8;
 /// The temporaries that want a slot and have none yet, in the order in which they begin to live.
 fn queue_of(
     alloc: Global,
-    live: &LiveSets,
-    lost: &Groups,
+    extents: &Extents,
     needs: &Needs,
     places: &[Option<Location>],
 ) -> Result<Vec<u32>, NoMemory> {
@@ -21,9 +20,9 @@ fn queue_of(
     for (at, in_slot) in needs.in_slot.iter().enumerate() {
         let temp = place_number(at)?;
         if *in_slot && places.get(at).copied() == Some(None) {
-            let first = match live.ranges_of(temp).first() {
+            let first = match extents.ranges_of(temp).first() {
                 Some(range) => Some(range.from),
-                None => lost.row(temp).first().copied(),
+                None => extents.lost_at(temp).first().copied(),
             };
             if let Some(place) = first {
                 begins.push((place, temp))?;
@@ -53,19 +52,18 @@ impl Words {
     fn take(
         &mut self,
         alloc: Global,
-        live: &LiveSets,
-        lost: &Groups,
-        all: u32,
+        extents: &Extents,
         temp: u32,
     ) -> Result<Option<u32>, NoMemory> {
         for at in 0..MOST_COVERS {
             if self.covers.len() <= at {
-                self.covers.push(Cover::new(alloc, all as usize)?)?;
+                self.covers
+                    .push(Cover::new(alloc, extents.places as usize)?)?;
             }
             if let Some(cover) = self.covers.get_mut(at) {
-                let bit = cover.free_for(live, lost, temp).trailing_zeros();
+                let bit = cover.free_for(extents, temp).trailing_zeros();
                 if bit < 64 {
-                    cover.take_for(live, lost, temp, 1u64 << bit);
+                    cover.take_for(extents, temp, 1u64 << bit);
                     let word = place_number(at)?.saturating_mul(64).saturating_add(bit);
                     self.count = self.count.max(word.saturating_add(1));
                     return Ok(Some(self.first.saturating_add(word)));
@@ -81,10 +79,8 @@ impl Words {
 /// live together.
 pub(crate) fn share_words(
     alloc: Global,
-    live: &LiveSets,
-    lost: &Groups,
+    extents: &Extents,
     needs: &Needs,
-    all: u32,
     first: u32,
     places: &mut Vec<Option<Location>>,
 ) -> Result<u32, NoMemory> {
@@ -93,8 +89,8 @@ pub(crate) fn share_words(
         first,
         count: 0,
     };
-    for temp in &queue_of(alloc, live, lost, needs, places)? {
-        if let Some(word) = words.take(alloc, live, lost, all, *temp)? {
+    for temp in &queue_of(alloc, extents, needs, places)? {
+        if let Some(word) = words.take(alloc, extents, *temp)? {
             give(places, *temp, Location::Slot(word));
         }
     }

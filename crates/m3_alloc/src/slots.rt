@@ -1,7 +1,8 @@
 use crate::choosing::give;
+use crate::extents::Extents;
 use crate::needs::Needs;
 use m3_base::{NoMemory, place_number};
-use m3_flow::{Groups, LiveSets, Pair};
+use m3_flow::{Groups, Pair};
 use m3_tables::Location;
 use std::alloc::Global;
 
@@ -48,7 +49,7 @@ impl Hulls {
     }
 }
 
-fn hulls_of(alloc: Global, live: &LiveSets, needs: &Needs) -> Result<Hulls, NoMemory> {
+fn hulls_of(alloc: Global, extents: &Extents, needs: &Needs) -> Result<Hulls, NoMemory> {
     let temps = needs.in_slot.len();
     let mut hulls = Hulls {
         froms: vec![in alloc; u32::MAX; temps]?,
@@ -56,7 +57,7 @@ fn hulls_of(alloc: Global, live: &LiveSets, needs: &Needs) -> Result<Hulls, NoMe
     };
     for at in 0..temps {
         let temp = place_number(at)?;
-        let ranges = live.ranges_of(temp);
+        let ranges = extents.ranges_of(temp);
         if let Some(range) = ranges.first() {
             hulls.widen(temp, range.from, range.to);
         }
@@ -75,13 +76,12 @@ fn hulls_of(alloc: Global, live: &LiveSets, needs: &Needs) -> Result<Hulls, NoMe
 /// the other.
 pub(crate) fn give_slots(
     alloc: Global,
-    live: &LiveSets,
+    extents: &Extents,
     needs: &Needs,
-    all: u32,
     first: u32,
     places: &mut Vec<Option<Location>>,
 ) -> Result<u32, NoMemory> {
-    let hulls = hulls_of(alloc, live, needs)?;
+    let hulls = hulls_of(alloc, extents, needs)?;
     let mut begins = Vec::new(alloc);
     let mut ends = Vec::new(alloc);
     for (at, from) in hulls.froms.iter().enumerate() {
@@ -94,14 +94,14 @@ pub(crate) fn give_slots(
             ends.push(Pair { group: to, item })?;
         }
     }
-    let rows = all as usize;
+    let rows = extents.places as usize;
     let begins = Groups::of(alloc, rows, &begins)?;
     let ends = Groups::of(alloc, rows, &ends)?;
     let mut words = Words {
         free: Vec::new(alloc),
         next: first,
     };
-    for place in 0..all {
+    for place in 0..extents.places {
         for temp in ends.row(place) {
             if let Some(Some(Location::Slot(word))) = places.get(*temp as usize) {
                 words.free.push(*word)?;

@@ -1,14 +1,13 @@
+use crate::analysis::Analysis;
 use crate::keeping::{Keep, Keeper, KeptWay, keep_all};
 use crate::plans::{Base, Based, Derivation, WayPlan};
-use crate::relevance::{has_flag, relevant_temps};
 use crate::rewriting::rewrite;
 use crate::shapes::{Shape, Shapes, shapes_of};
-use crate::sources::{Term, all_settings};
+use crate::sources::Term;
 use crate::stability::kept_temps;
 use bumpalo::Bump;
 use bumpalo::collections::into_bump_slice;
 use m3_base::{NoMemory, place_number};
-use m3_flow::{block_order, live_with};
 use m3_mid::{Kind, Proc};
 use std::alloc::Global;
 
@@ -81,12 +80,12 @@ fn all_derivations<'a>(
     arena: &'a Bump,
     shapes: &Shapes<'a>,
     keeper: &Keeper<'a>,
-    relevant: &[bool],
+    analysis: &Analysis,
 ) -> Result<&'a [Derivation<'a>], NoMemory> {
     let mut derivations = Vec::new(arena);
     for at in 0..keeper.kinds.len() {
         let temp = place_number(at)?;
-        let derivation = if has_flag(relevant, temp) {
+        let derivation = if analysis.is_relevant(temp) {
             derivation_of(arena, shapes, keeper, temp)?
         } else {
             UNDERIVED
@@ -128,18 +127,15 @@ pub fn find_bases<'a>(alloc: Global, arena: &'a Bump, p: &Proc<'a>) -> Result<Ba
     if !has_addresses(p) {
         return without_bases(arena, plain);
     }
-    let order = block_order(alloc, p)?;
-    let live = live_with(alloc, p, &order, &[])?;
-    let settings = all_settings(alloc, p, &order)?;
-    let relevant = relevant_temps(alloc, p, &order, &live, &settings)?;
-    if !relevant.contains(&true) {
+    let analysis = Analysis::of(alloc, p)?;
+    if !analysis.relevant.contains(&true) {
         return without_bases(arena, plain);
     }
-    let mut shapes = shapes_of(alloc, arena, p, &live, &settings, &relevant)?;
-    let kept = kept_temps(alloc, p, &order, &live, &settings, &relevant, &shapes)?;
-    let keeper = keep_all(alloc, arena, p, &mut shapes, &settings, &kept)?;
-    let blocks = rewrite(alloc, arena, p, &mut shapes, &keeper, &settings)?;
-    let derivations = all_derivations(arena, &shapes, &keeper, &relevant)?;
+    let mut shapes = shapes_of(alloc, arena, &analysis)?;
+    let kept = kept_temps(alloc, &analysis, &shapes)?;
+    let keeper = keep_all(alloc, arena, &analysis, &mut shapes, &kept)?;
+    let blocks = rewrite(alloc, arena, &analysis, &mut shapes, &keeper)?;
+    let derivations = all_derivations(arena, &shapes, &keeper, &analysis)?;
     let temps = arena.try_alloc_slice_copy(&keeper.kinds)?;
     Ok(Based {
         proc: Proc {

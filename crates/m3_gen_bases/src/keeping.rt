@@ -1,3 +1,4 @@
+use crate::analysis::Analysis;
 use crate::plans::{Base, kind_of};
 use crate::relevance::{from_temps, has_flag};
 use crate::shapes::{Said, Shape, Shapes, moves_on, set_item};
@@ -176,15 +177,14 @@ impl<'a> Keeper<'a> {
     /// One pass over the settings of the temporaries that keep their bases.
     fn count_pass(
         &mut self,
-        p: &Proc,
+        analysis: &Analysis,
         shapes: &Shapes<'a>,
-        settings: &[Setting],
         kept: &[bool],
     ) -> Result<bool, NoMemory> {
         let mut has_changed = false;
-        for setting in settings {
+        for setting in &analysis.settings {
             if has_flag(kept, setting.temp) && !moves_on(*setting) {
-                let most = self.count_setting(p, shapes, kept, *setting);
+                let most = self.count_setting(&analysis.proc, shapes, kept, *setting);
                 if most.0 > 255 || most.1 > 255 {
                     return Err(gap());
                 }
@@ -267,9 +267,8 @@ fn count_of(terms: &[Term]) -> (u32, u32) {
 /// each of their settings is direct.
 fn by_ways(
     alloc: Global,
-    p: &Proc,
+    analysis: &Analysis,
     shapes: &Shapes,
-    settings: &[Setting],
     kept: &[bool],
 ) -> Result<Vec<bool>, NoMemory> {
     let mut flags = vec![in alloc; false; kept.len()]?;
@@ -279,8 +278,8 @@ fn by_ways(
             set_item(&mut flags, temp, true);
         }
     }
-    for setting in settings {
-        if !is_direct(p, *setting, kept) {
+    for setting in &analysis.settings {
+        if !is_direct(&analysis.proc, *setting, kept) {
             set_item(&mut flags, setting.temp, false);
         }
     }
@@ -291,11 +290,11 @@ fn by_ways(
 pub(crate) fn keep_all<'a>(
     alloc: Global,
     arena: &'a Bump,
-    p: &Proc,
+    analysis: &Analysis,
     shapes: &mut Shapes<'a>,
-    settings: &[Setting],
     kept: &[bool],
 ) -> Result<Keeper<'a>, NoMemory> {
+    let p = &analysis.proc;
     let mut kinds = Vec::new(arena);
     kinds.extend_from_slice(p.temps)?;
     let mut keeper = Keeper {
@@ -304,28 +303,27 @@ pub(crate) fn keep_all<'a>(
         counts: vec![in alloc; (0u32, 0u32); p.temps.len()]?,
         arena,
     };
-    let ways = by_ways(alloc, p, shapes, settings, kept)?;
-    for setting in settings {
+    let ways = by_ways(alloc, analysis, shapes, kept)?;
+    for setting in &analysis.settings {
         if has_flag(&ways, setting.temp) && shapes.say(p, *setting)? == Said::Listed {
             keeper.add_way(setting.temp, &shapes.buffer)?;
         }
     }
-    keep_shared(p, shapes, settings, kept, &ways, &mut keeper)?;
+    keep_shared(analysis, shapes, kept, &ways, &mut keeper)?;
     Ok(keeper)
 }
 
 /// The temporaries that share their copies over all their settings.
 fn keep_shared<'a>(
-    p: &Proc,
+    analysis: &Analysis,
     shapes: &Shapes<'a>,
-    settings: &[Setting],
     kept: &[bool],
     ways: &[bool],
     keeper: &mut Keeper<'a>,
 ) -> Result<(), NoMemory> {
     count_ways(kept, keeper)?;
     for _pass in 0..u64::MAX {
-        if !keeper.count_pass(p, shapes, settings, kept)? {
+        if !keeper.count_pass(analysis, shapes, kept)? {
             for (at, is_kept) in kept.iter().enumerate() {
                 let temp = place_number(at)?;
                 if *is_kept && !has_flag(ways, temp) {

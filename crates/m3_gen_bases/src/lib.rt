@@ -2,6 +2,7 @@
 //! Hudson, PLDI 1992).
 #![tactic(auto)]
 
+mod analysis;
 mod basing;
 mod keeping;
 mod plans;

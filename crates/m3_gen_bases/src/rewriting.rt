@@ -1,4 +1,5 @@
-use crate::keeping::{Keep, Keeper, way_of};
+use crate::analysis::Analysis;
+use crate::keeping::{Keep, Keeper, KeptWay, way_of};
 use crate::plans::{Base, kind_of};
 use crate::shapes::{Said, Shape, Shapes, moves_on};
 use crate::sources::{Setting, Source, Term};
@@ -11,13 +12,15 @@ use std::alloc::Global;
 
 /// The operations of a block with those that keep bases put in.
 #[derive(Drop)]
-struct Rewriter<'a> {
+struct Rewriter<'r, 'a> {
+    proc: &'r Proc<'a>,
+    keeper: &'r Keeper<'a>,
     ops: Vec<MidOp<'a>, &'a Bump>,
     /// The bases of the setting at hand.
     bases: Vec<Term>,
 }
 
-impl<'a> Rewriter<'a> {
+impl<'a> Rewriter<'_, 'a> {
     /// Keeps a base, or 0.
     fn keep(&mut self, copy: Term, base: Option<Term>) -> Result<(), NoMemory> {
         let Base::Temp(to) = copy.base else {
@@ -69,19 +72,13 @@ impl<'a> Rewriter<'a> {
     }
 
     /// Adds the bases that a term has where it is used.
-    fn list_term(
-        &mut self,
-        p: &Proc,
-        shapes: &Shapes<'a>,
-        keeper: &Keeper<'a>,
-        term: Term,
-    ) -> Result<(), NoMemory> {
+    fn list_term(&mut self, shapes: &Shapes<'a>, term: Term) -> Result<(), NoMemory> {
         let first = self.bases.len();
         match term.base {
-            Base::Temp(temp) if kind_of(p, temp) == Kind::Address => {
-                match (keeper.keep(temp), shapes.shape(temp)) {
+            Base::Temp(temp) if kind_of(self.proc, temp) == Kind::Address => {
+                match (self.keeper.keep(temp), shapes.shape(temp)) {
                     (Keep::No, Shape::Bases(terms)) => self.bases.extend_from_slice(terms)?,
-                    _ => keeper.add_copies(temp, &mut self.bases)?,
+                    _ => self.keeper.add_copies(temp, &mut self.bases)?,
                 }
             }
             _ => self.bases.push(Term {
@@ -97,18 +94,12 @@ impl<'a> Rewriter<'a> {
         Ok(())
     }
 
-    fn list_setting(
-        &mut self,
-        p: &Proc,
-        shapes: &Shapes<'a>,
-        keeper: &Keeper<'a>,
-        setting: Setting,
-    ) -> Result<(), NoMemory> {
+    fn list_setting(&mut self, shapes: &Shapes<'a>, setting: Setting) -> Result<(), NoMemory> {
         self.bases.clear();
         if let Source::Terms(terms) = setting.source {
             for item in terms {
                 if let Some(term) = item {
-                    self.list_term(p, shapes, keeper, term)?;
+                    self.list_term(shapes, term)?;
                 }
             }
         }
@@ -118,13 +109,12 @@ impl<'a> Rewriter<'a> {
     /// What keeps the bases of a temporary with ways at a setting.
     fn keep_way(
         &mut self,
-        p: &Proc,
         shapes: &mut Shapes<'a>,
         path: u32,
-        ways: &'a [crate::keeping::KeptWay<'a>],
+        ways: &'a [KeptWay<'a>],
         setting: Setting,
     ) -> Result<(), NoMemory> {
-        if shapes.say(p, setting)? != Said::Listed {
+        if shapes.say(self.proc, setting)? != Said::Listed {
             return Ok(());
         }
         let Some(number) = way_of(ways, &shapes.buffer) else {
@@ -145,13 +135,11 @@ impl<'a> Rewriter<'a> {
     /// An operation that sets a derived temporary, with what keeps its bases.
     fn add_setting(
         &mut self,
-        p: &Proc,
         shapes: &mut Shapes<'a>,
-        keeper: &Keeper<'a>,
         setting: Setting,
         op: MidOp<'a>,
     ) -> Result<(), NoMemory> {
-        match keeper.keep(setting.temp) {
+        match self.keeper.keep(setting.temp) {
             Keep::Shared(copies) if !moves_on(setting) => match setting.source {
                 Source::Own => {
                     self.ops.push(op)?;
@@ -163,14 +151,14 @@ impl<'a> Rewriter<'a> {
                     self.keep_listed(copies)
                 }
                 Source::Terms(_) => {
-                    self.list_setting(p, shapes, keeper, setting)?;
+                    self.list_setting(shapes, setting)?;
                     self.keep_listed(copies)?;
                     self.ops.push(op)?;
                     Ok(())
                 }
             },
             Keep::Ways { path, ways } if !moves_on(setting) => {
-                self.keep_way(p, shapes, path, ways, setting)?;
+                self.keep_way(shapes, path, ways, setting)?;
                 self.ops.push(op)?;
                 Ok(())
             }
@@ -179,6 +167,32 @@ impl<'a> Rewriter<'a> {
                 Ok(())
             }
         }
+    }
+
+    /// The operations of a block, with what keeps the bases that its settings, in their order, have
+    /// to keep.
+    fn rewrite(
+        mut self,
+        shapes: &mut Shapes<'a>,
+        settings: &[Setting],
+        ops: &'a [MidOp<'a>],
+    ) -> Result<&'a [MidOp<'a>], NoMemory> {
+        if settings.is_empty() {
+            return Ok(ops);
+        }
+        let mut next = 0usize;
+        let mut number = 0u32;
+        for op in ops {
+            match settings.get(next) {
+                Some(setting) if setting.op == number => {
+                    self.add_setting(shapes, *setting, *op)?;
+                    next = next.saturating_add(1);
+                }
+                _ => self.ops.push(*op)?,
+            }
+            number = number.saturating_add(1);
+        }
+        Ok(into_bump_slice(self.ops))
     }
 }
 
@@ -204,65 +218,36 @@ fn kept_settings(
     Ok(())
 }
 
-/// The operations of a block, with what keeps the bases that its settings, in their order, have to
-/// keep.
-fn rewrite_ops<'a>(
-    arena: &'a Bump,
-    p: &Proc,
-    shapes: &mut Shapes<'a>,
-    keeper: &Keeper<'a>,
-    list: &[Setting],
-    ops: &'a [MidOp<'a>],
-    alloc: Global,
-) -> Result<&'a [MidOp<'a>], NoMemory> {
-    if list.is_empty() {
-        return Ok(ops);
-    }
-    let mut rewriter = Rewriter {
-        ops: Vec::new(arena),
-        bases: Vec::new(alloc),
-    };
-    let mut next = 0usize;
-    let mut number = 0u32;
-    for op in ops {
-        match list.get(next) {
-            Some(setting) if setting.op == number => {
-                rewriter.add_setting(p, shapes, keeper, *setting, *op)?;
-                next = next.saturating_add(1);
-            }
-            _ => rewriter.ops.push(*op)?,
-        }
-        number = number.saturating_add(1);
-    }
-    let Rewriter { ops, bases: _ } = rewriter;
-    Ok(into_bump_slice(ops))
-}
-
 /// The blocks of a procedure, in which the bases that have to be kept are kept.
 pub(crate) fn rewrite<'a>(
     alloc: Global,
     arena: &'a Bump,
-    p: &Proc<'a>,
+    analysis: &Analysis<'a>,
     shapes: &mut Shapes<'a>,
     keeper: &Keeper<'a>,
-    settings: &[Setting],
 ) -> Result<&'a [Block<'a>], NoMemory> {
+    let proc = &analysis.proc;
     let mut pairs = Vec::new(alloc);
-    for (at, setting) in settings.iter().enumerate() {
+    for (at, setting) in analysis.settings.iter().enumerate() {
         pairs.push(Pair {
             group: setting.block,
             item: place_number(at)?,
         })?;
     }
-    let rows = Groups::of(alloc, p.blocks.len(), &pairs)?;
+    let rows = Groups::of(alloc, proc.blocks.len(), &pairs)?;
     let mut blocks = Vec::new(arena);
     let mut list = Vec::new(alloc);
-    for (at, block) in p.blocks.iter().enumerate() {
+    for (at, block) in proc.blocks.iter().enumerate() {
         let row = rows.row(place_number(at)?);
-        kept_settings(settings, row, keeper, &mut list)?;
-        let ops = rewrite_ops(arena, p, shapes, keeper, &list, block.ops, alloc)?;
+        kept_settings(&analysis.settings, row, keeper, &mut list)?;
+        let rewriter = Rewriter {
+            proc,
+            keeper,
+            ops: Vec::new(arena),
+            bases: Vec::new(alloc),
+        };
         blocks.push(Block {
-            ops,
+            ops: rewriter.rewrite(shapes, &list, block.ops)?,
             end: block.end,
         })?;
     }

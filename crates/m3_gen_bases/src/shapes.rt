@@ -1,9 +1,8 @@
+use crate::analysis::Analysis;
 use crate::plans::{Base, kind_of};
-use crate::relevance::has_flag;
 use crate::sources::{Setting, Source, Term};
 use bumpalo::Bump;
 use m3_base::{NoMemory, gap};
-use m3_flow::LiveSets;
 use m3_mid::{Kind, Proc};
 use std::alloc::Global;
 
@@ -169,16 +168,12 @@ impl<'a> Shapes<'a> {
         Ok(true)
     }
 
-    fn pass(
-        &mut self,
-        p: &Proc,
-        settings: &[Setting],
-        relevant: &[bool],
-    ) -> Result<bool, NoMemory> {
+    /// Joins what the settings say; whether something was new.
+    fn pass(&mut self, analysis: &Analysis) -> Result<bool, NoMemory> {
         let mut has_changed = false;
-        for setting in settings {
-            if has_flag(relevant, setting.temp) {
-                let said = self.say(p, *setting)?;
+        for setting in &analysis.settings {
+            if analysis.is_relevant(setting.temp) {
+                let said = self.say(&analysis.proc, *setting)?;
                 if self.join(setting.temp, said)? {
                     has_changed = true;
                 }
@@ -188,16 +183,12 @@ impl<'a> Shapes<'a> {
     }
 
     /// What is live at the start is 0 there, which has no bases.
-    fn join_start(
-        &mut self,
-        relevant: &[bool],
-        live: &LiveSets,
-        start: u32,
-    ) -> Result<(), NoMemory> {
+    fn join_start(&mut self, analysis: &Analysis) -> Result<(), NoMemory> {
+        let start = analysis.live.place(analysis.proc.start, 0);
         self.buffer.clear();
-        for (at, is_relevant) in relevant.iter().enumerate() {
+        for (at, is_relevant) in analysis.relevant.iter().enumerate() {
             let temp = m3_base::place_number(at)?;
-            if *is_relevant && live.is_live(start, temp) {
+            if *is_relevant && analysis.live.is_live(start, temp) {
                 let _is_new = self.join(temp, Said::Listed)?;
             }
         }
@@ -238,19 +229,16 @@ pub(crate) fn moves_on(setting: Setting) -> bool {
 pub(crate) fn shapes_of<'a>(
     alloc: Global,
     arena: &'a Bump,
-    p: &Proc,
-    live: &LiveSets,
-    settings: &[Setting],
-    relevant: &[bool],
+    analysis: &Analysis,
 ) -> Result<Shapes<'a>, NoMemory> {
     let mut shapes = Shapes {
-        shapes: vec![in alloc; Shape::Unknown; p.temps.len()]?,
+        shapes: vec![in alloc; Shape::Unknown; analysis.proc.temps.len()]?,
         buffer: Vec::new(alloc),
         arena,
     };
-    shapes.join_start(relevant, live, live.place(p.start, 0))?;
+    shapes.join_start(analysis)?;
     for _pass in 0..u64::MAX {
-        if !shapes.pass(p, settings, relevant)? {
+        if !shapes.pass(analysis)? {
             return Ok(shapes);
         }
     }

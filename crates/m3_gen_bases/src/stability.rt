@@ -1,9 +1,10 @@
+use crate::analysis::Analysis;
 use crate::plans::{Base, kind_of};
 use crate::relevance::{from_temps, has_flag, set_flag};
 use crate::shapes::{Shape, Shapes};
-use crate::sources::{Setting, Term};
+use crate::sources::Term;
 use m3_base::{NoMemory, gap, place_number};
-use m3_flow::{Groups, LiveRange, LiveSets, Order, Pair, ops_of, settings_of};
+use m3_flow::{Groups, LiveRange, LiveSets, Pair, ops_of, settings_of};
 use m3_mid::{Kind, MidOp, Proc};
 use std::alloc::Global;
 
@@ -26,15 +27,13 @@ fn add_places(p: &Proc, ops: &[MidOp], front: u32, pairs: &mut Vec<Pair>) -> Res
 }
 
 /// For each tidy temporary the places right behind its settings, rising.
-fn places_of_settings(
-    alloc: Global,
-    p: &Proc,
-    order: &Order,
-    live: &LiveSets,
-) -> Result<Groups, NoMemory> {
+fn places_of_settings(alloc: Global, analysis: &Analysis) -> Result<Groups, NoMemory> {
+    let p = &analysis.proc;
+    let order = &analysis.order;
     let mut pairs = Vec::new(alloc);
     for block in order.blocks.iter().take(order.reached) {
-        add_places(p, ops_of(p, *block), live.place(*block, 0), &mut pairs)?;
+        let front = analysis.live.place(*block, 0);
+        add_places(p, ops_of(p, *block), front, &mut pairs)?;
     }
     Groups::of(alloc, p.temps.len(), &pairs)
 }
@@ -80,11 +79,11 @@ fn any_may_change(terms: &[Term], temp: u32, live: &LiveSets, places: &Groups) -
 }
 
 /// Marks what comes from a marked temporary; whether something was new.
-fn mark_derived(p: &Proc, settings: &[Setting], relevant: &[bool], kept: &mut Vec<bool>) -> bool {
+fn mark_derived(analysis: &Analysis, kept: &mut Vec<bool>) -> bool {
     let mut has_changed = false;
-    for setting in settings {
-        if has_flag(relevant, setting.temp) {
-            for from in from_temps(p, *setting) {
+    for setting in &analysis.settings {
+        if analysis.is_relevant(setting.temp) {
+            for from in from_temps(&analysis.proc, *setting) {
                 if let Some(temp) = from
                     && has_flag(kept, temp)
                     && set_flag(kept, setting.temp)
@@ -101,22 +100,18 @@ fn mark_derived(p: &Proc, settings: &[Setting], relevant: &[bool], kept: &mut Ve
 /// several lists of bases, those a base of which may change, and what comes from them.
 pub(crate) fn kept_temps(
     alloc: Global,
-    p: &Proc,
-    order: &Order,
-    live: &LiveSets,
-    settings: &[Setting],
-    relevant: &[bool],
+    analysis: &Analysis,
     shapes: &Shapes,
 ) -> Result<Vec<bool>, NoMemory> {
-    let places = places_of_settings(alloc, p, order, live)?;
-    let mut kept = vec![in alloc; false; p.temps.len()]?;
-    for (at, is_relevant) in relevant.iter().enumerate() {
+    let places = places_of_settings(alloc, analysis)?;
+    let mut kept = vec![in alloc; false; analysis.proc.temps.len()]?;
+    for (at, is_relevant) in analysis.relevant.iter().enumerate() {
         if *is_relevant {
             let temp = place_number(at)?;
             let is_kept = match shapes.shape(temp) {
                 Shape::Unknown => false,
                 Shape::Many => true,
-                Shape::Bases(terms) => any_may_change(terms, temp, live, &places),
+                Shape::Bases(terms) => any_may_change(terms, temp, &analysis.live, &places),
             };
             if is_kept {
                 let _is_new = set_flag(&mut kept, temp);
@@ -124,7 +119,7 @@ pub(crate) fn kept_temps(
         }
     }
     for _pass in 0..u64::MAX {
-        if !mark_derived(p, settings, relevant, &mut kept) {
+        if !mark_derived(analysis, &mut kept) {
             return Ok(kept);
         }
     }
