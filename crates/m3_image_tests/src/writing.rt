@@ -4,7 +4,8 @@ ghost use Rattle.m3_image_writer.specs.Image.{image_bytes};
 ghost use Rattle.m3_image_writer.specs.Views.{cell_type, variable_of};
 ghost use Rattle.m3_image_writer.specs.Parts.{AreNumbered, AreParts};
 
-use crate::reading::{SMALLEST, check_rich, expect, with_no_variables};
+use crate::images::{SMALLEST, with_no_variables};
+use crate::reading::{check_rich, expect};
 use m3_base::{Bytes, NoMemory};
 use m3_image::{ImageView, ProcPart};
 use m3_image_writer::{GlobalPart, ImageParts, PlacePart, TypePart, VarPart, write_image};

@@ -1,10 +1,23 @@
-use m3_image::ImageView;
-use m3_image_decoded::Decoded;
-use m3_run_frames::{Frame, frame_at, older_frame};
-use std::test::Fail;
+/// The smallest image: POINT, ENDP, POINT, ENDP in two procedures.
+pub(crate) const SMALLEST: [u8; 234] = [
+    77, 51, 73, 77, 1, 0, 0, 0, // magic and version
+    32, 0, 0, 0, // code
+    47, 0, 0, 0, 0, 0, 0, 0, 50, 0, 0, 0, 0, 0, 0, 0, 47, 0, 0, 0, 0, 0, 0, 0, 50, 0, 0, 0, 0, 0,
+    0, 0, 32, 0, 0, 0, // procs
+    0, 0, 0, 0, 2, 0, 0, 0, 3, 0, 0, 0, 3, 0, 0, 0, 2, 0, 0, 0, 2, 0, 0, 0, 3, 0, 0, 0, 7, 0, 0, 0,
+    52, 0, 0, 0, // types
+    2, 0, 0, 0, 255, 255, 255, 255, 0, 0, 0, 0, 0, 0, 0, 0, 0, 0, 0, 0, 0, 0, 0, 0, 0, 0, 0, 0,
+    255, 255, 255, 255, 4, 0, 0, 0, 0, 0, 0, 0, 0, 0, 0, 0, 1, 0, 0, 0, 3, 0, 0, 0, 8, 0, 0, 0, // globals
+    4, 0, 0, 0, 0, 0, 0, 0, 4, 0, 0, 0, // constants
+    0, 0, 0, 0, 8, 0, 0, 0, // places
+    0, 0, 0, 0, 0, 0, 0, 0, 4, 0, 0, 0, // exceptions
+    0, 0, 0, 0, 54, 0, 0, 0, // tables
+    2, 0, 0, 0, 0, 0, 0, 0, 0, 0, 0, 0, 2, 0, 0, 0, 17, 0, 0, 0, 0, 0, 0, 0, 0, 0, 0, 0, 0, 0, 0,
+    0, 0, 0, 0, 0, 0, 0, 0, 0, 0, 0, 0, 0, 0, 0, 0, 0, 0, 0, 0, 0, 0, 0,
+];
 
 /// An image with something in each section.
-const RICH: [u8; 585] = [
+pub(crate) const RICH: [u8; 585] = [
     77, 51, 73, 77, 2, 0, 0, 0, // magic and version
     96, 0, 0, 0, // code
     47, 0, 0, 0, 0, 0, 0, 0, 39, 0, 0, 0, 2, 0, 0, 0, 33, 0, 0, 0, 0, 0, 0, 0, 50, 0, 0, 0, 0, 0,
@@ -32,75 +45,19 @@ const RICH: [u8; 585] = [
     255, 255, 255, 255, 5, 0, 0, 0, 3, 0, 0, 0, 65, 46, 103, 1, 0, 0, 0, 0,
 ];
 
-/// A stack of 20 words from address 1000 on, in which procedure 0 called procedure 2 at instruction
-/// 1: its frame begins at word 4, behind the body of procedure 0, and has instruction 2 to go back
-/// to.
-const STACK: [u64; 20] = [
-    18446744073709551615,
-    0,
-    4294967296,
-    0,
-    2,
-    1000,
-    0,
-    0,
-    0,
-    0,
-    0,
-    0,
-    0,
-    0,
-    0,
-    0,
-    0,
-    0,
-    0,
-    0,
-];
+/// A ninth section without variables.
+const NO_VARIABLES: [u8; 8] = [4, 0, 0, 0, 0, 0, 0, 0];
 
-#[test]
-fn finds_frames(rt: HostRuntime) -> Result<(), Fail> {
-    let Ok(view) = ImageView::read(&RICH) else {
-        panic!(rt; "an image");
-    };
-    let image = Decoded::of(rt.alloc(), view)?;
-    let newest = Frame {
-        first: 4,
-        words: 9,
-        row: 3,
-    };
-    let oldest = Frame {
-        first: 0,
-        words: 6,
-        row: 1,
-    };
-    assert_eq!(rt; frame_at(&image, &STACK, 4, 6), Some(newest));
-    assert_eq!(rt; frame_at(&image, &STACK, 11, 6).is_some(), true);
-    assert_eq!(rt; frame_at(&image, &STACK, 12, 6), None, "past the stack");
-    assert_eq!(rt; frame_at(&image, &STACK, 4, 7), None, "no point");
-    assert_eq!(rt; frame_at(&image, &STACK, 4, 12), None, "past the code");
-    assert_eq!(rt; older_frame(&image, 1000, &STACK, &newest), Some(oldest));
-    assert_eq!(rt;
-        older_frame(&image, 1000, &STACK, &oldest),
-        None,
-        "the first"
-    );
-    assert_eq!(rt;
-        older_frame(&image, 996, &STACK, &newest),
-        None,
-        "not below"
-    );
-    assert_eq!(rt;
-        older_frame(&image, 1001, &STACK, &newest),
-        None,
-        "before the stack"
-    );
-    let mut no_call = STACK;
-    no_call[4] = 1;
-    assert_eq!(rt;
-        older_frame(&image, 1000, &no_call, &newest),
-        None,
-        "POINT calls nothing"
-    );
-    Ok(())
+/// The smallest image with another version, and with a ninth section that has no variables.
+pub(crate) fn with_no_variables(version: u8) -> [u8; 242] {
+    let mut image = [0; 242];
+    for at in 0..242 {
+        image[at] = if at < 234 {
+            SMALLEST[at]
+        } else {
+            NO_VARIABLES[at - 234]
+        };
+    }
+    image[4] = version;
+    image
 }

@@ -1,5 +1,0 @@
-//! The tests of the text of an image.
-#![tactic(auto)]
-
-#[cfg(test)]
-mod tests;

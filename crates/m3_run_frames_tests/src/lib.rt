@@ -1,5 +1,0 @@
-//! The tests of frames.
-#![tactic(auto)]
-
-#[cfg(test)]
-mod tests;
