@@ -17,9 +17,8 @@ mod sources;
 mod tables;
 mod tally;
 
-pub use case_files::{CaseFile, files_of};
-pub use cases::try_cases;
+pub use case_files::CaseFile;
 pub use pieces::try_pieces;
 pub use sources::{copies, place_text, refused_text};
-pub use tables::{try_all, try_file};
+pub use tables::try_file;
 pub use tally::{Tally, Trial};

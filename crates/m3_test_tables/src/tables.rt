@@ -1,18 +1,7 @@
 use crate::cases::try_cases;
 use crate::tally::Trial;
-use std::rt::{Env, Files};
-use std::{env, fs, io};
-
-/// Tries the tables of cases that the words of the command line name.
-pub fn try_all<T: Trial>(
-    rt: &(impl Print + Env + Files + AllocGlobal),
-    trial: &T,
-) -> io::Result<()> {
-    for word in env::args(rt)?.skip(1) {
-        try_file(rt, trial, word.as_str())?;
-    }
-    Ok(())
-}
+use std::rt::Files;
+use std::{fs, io};
 
 /// Tries a table of cases, and shows how many it has.
 pub fn try_file<T: Trial>(

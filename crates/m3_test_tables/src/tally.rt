@@ -29,7 +29,7 @@ impl Tally {
         }
     }
 
-    /// Counts a case, and shows it where it came out otherwise.
+    /// Counts a case, and shows what it gave where that isn't what is wanted.
     pub fn tell(
         &mut self,
         rt: &impl Print,
@@ -37,12 +37,28 @@ impl Tally {
         got: &str,
         wanted: &str,
     ) -> io::Result<()> {
-        self.cases = self.cases.saturating_add(1);
-        if got == wanted {
+        let is_right = got == wanted;
+        self.add(is_right);
+        if is_right {
             return Ok(());
         }
-        self.differing = self.differing.saturating_add(1);
         println!(rt; "{title}: got {got}, wanted {wanted}")
+    }
+
+    /// Counts a case, and shows that it came out otherwise where it did.
+    pub fn count(&mut self, rt: &impl Print, title: &str, is_right: bool) -> io::Result<()> {
+        self.add(is_right);
+        if is_right {
+            return Ok(());
+        }
+        println!(rt; "{title}: otherwise")
+    }
+
+    fn add(&mut self, is_right: bool) {
+        self.cases = self.cases.saturating_add(1);
+        if !is_right {
+            self.differing = self.differing.saturating_add(1);
+        }
     }
 
     /// Shows how many cases a table has, and how many of them came out otherwise.

@@ -1,33 +1,39 @@
-//! Tries whole commands: the example programs on files of the system, tables of programs with what
-//! each command answers, and texts of odd forms.
+//! Tries the compiler, and the commands of `m3c`, on the tables that the arguments name, and on
+//! texts and images that no table holds. The folder of a table says what is tried, and the module
+//! of that name how a case is written. Cases that come out otherwise are shown.
 #![tactic(auto)]
 
-mod answers;
-mod conversions;
-mod dumps;
-mod examples;
-mod heaps;
-mod shapes;
-mod steps;
-mod tables;
+mod checking;
+mod commands;
+mod declaring;
+mod linking;
+mod lowering;
 
-use conversions::try_conversions;
-use dumps::try_dumps;
-use examples::try_examples;
-use shapes::try_shapes;
-use std::io;
-use std::rt::Files;
-use tables::try_table;
+use checking::try_checking;
+use commands::{try_commands, try_dumps, try_shapes};
+use declaring::Declaring;
+use linking::Linking;
+use lowering::try_lowering;
+use m3_test_tables::try_file;
+use std::rt::{Env, Files};
+use std::{env, io};
 
-fn run(rt: &(impl Print + Files + AllocGlobal)) -> io::Result<()> {
-    try_examples(rt)?;
-    try_table(rt, "programs.txt")?;
-    try_table(rt, "threads.txt")?;
-    try_table(rt, "heap.txt")?;
-    try_table(rt, "refusals.txt")?;
-    try_table(rt, "commands.txt")?;
-    try_table(rt, "REFUSALS.md")?;
-    try_conversions(rt)?;
+/// Tries a table, and shows how many cases it has.
+fn try_table(rt: &(impl Print + Files + AllocGlobal), name: &str) -> io::Result<()> {
+    let (folder, _) = name.split_once("/").unwrap_or(("", name));
+    match folder {
+        "linking" => try_file(rt, &Linking, name),
+        "declaring" => try_file(rt, &Declaring, name),
+        "checking" => try_checking(rt, name),
+        "lowering" => try_lowering(rt, name),
+        _ => try_commands(rt, name),
+    }
+}
+
+fn run(rt: &(impl Print + Env + Files + AllocGlobal)) -> io::Result<()> {
+    for name in env::args(rt)?.skip(1) {
+        try_table(rt, name.as_str())?;
+    }
     try_dumps(rt)?;
     try_shapes(rt)
 }

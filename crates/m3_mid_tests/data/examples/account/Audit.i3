@@ -1,4 +1,0 @@
-INTERFACE Audit;
-IMPORT Account;
-PROCEDURE Moves(account: Account.T): CARDINAL;
-END Audit.

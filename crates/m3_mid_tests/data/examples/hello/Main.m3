@@ -1,5 +1,0 @@
-MODULE Main;
-IMPORT IO;
-BEGIN
-  IO.Put("Hello, World!\n")
-END Main.

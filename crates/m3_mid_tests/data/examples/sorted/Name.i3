@@ -1,4 +1,0 @@
-INTERFACE Name;
-TYPE T = TEXT;
-PROCEDURE Before(a, b: T): BOOLEAN;
-END Name.

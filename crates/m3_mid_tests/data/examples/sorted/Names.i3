@@ -1,1 +1,0 @@
-INTERFACE Names = SortedList(Name) END Names.

@@ -1,1 +1,0 @@
-MODULE Names = SortedList(Name) END Names.

@@ -1,4 +1,0 @@
-INTERFACE Number;
-TYPE T = INTEGER;
-PROCEDURE Before(a, b: T): BOOLEAN;
-END Number.

@@ -1,4 +1,0 @@
-MODULE Number;
-PROCEDURE Before(a, b: T): BOOLEAN = BEGIN RETURN a < b END Before;
-BEGIN
-END Number.

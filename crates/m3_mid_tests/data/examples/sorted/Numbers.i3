@@ -1,1 +1,0 @@
-INTERFACE Numbers = SortedList(Number) END Numbers.

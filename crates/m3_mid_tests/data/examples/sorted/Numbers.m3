@@ -1,1 +1,0 @@
-MODULE Numbers = SortedList(Number) END Numbers.

@@ -1,1 +1,0 @@
-INTERFACE Ages = Table(TextKey, Number) END Ages.

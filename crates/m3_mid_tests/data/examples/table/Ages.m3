@@ -1,1 +1,0 @@
-MODULE Ages = Table(TextKey, Number) END Ages.

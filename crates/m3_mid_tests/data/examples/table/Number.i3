@@ -1,3 +1,0 @@
-INTERFACE Number;
-TYPE T = INTEGER;
-END Number.

@@ -1,5 +1,0 @@
-INTERFACE TextKey;
-TYPE T = TEXT;
-PROCEDURE Hash(key: T): CARDINAL;
-PROCEDURE Equal(a, b: T): BOOLEAN;
-END TextKey.
