@@ -1,5 +1,6 @@
 -- Derived words taken apart and put together again, one after the other, and what each of them reads.
-use Rattle.std.specs.Prelude.{ℕ, List, [], ◌∷◌, Option, None, Some, slice_set}
+use Rattle.std.specs.Prelude.{ℕ, ◌≡◌, Bool, List, [], ◌∷◌, Option, None, Some, slice_set}
+use Rattle.std.specs.Bool.{MatchBool}
 use Rattle.std.specs.Option.{option_and_then}
 use Rattle.m3_base.specs.Words.{add_words, sub_words}
 use Rattle.m3_tables.specs.Rows.{Bases}
@@ -30,3 +31,7 @@ together_at d words = together_by words d (way_at words d)
 abbrev pub together : List Derived → List ℕ → Option (List ℕ)
 together [] words = Some words
 together (d ∷ ds) words = option_and_then (together_at d) (together ds words)
+
+-- the words are what this gives, or the answer is false exactly where it gives none
+abbrev pub Leaves : Bool → Option (List ℕ) → List ℕ → Type 0
+Leaves result given words = MatchBool result (given ≡ Some words) (given ≡ None)

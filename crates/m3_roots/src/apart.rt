@@ -1,9 +1,8 @@
 //! The derived words of all frames of a thread, taken apart and put together again.
-ghost use Rattle.std.specs.Prelude.{◌≡◌, ◌++◌, Some, None};
-ghost use Rattle.std.specs.Bool.{MatchBool};
+ghost use Rattle.std.specs.Prelude.{◌++◌};
 ghost use Rattle.m3_image_decoded.specs.Ready.{image_of};
 ghost use Rattle.m3_roots.specs.RowMeaning.{HaveRows, derived_words};
-ghost use Rattle.m3_roots.specs.TakingApart.{apart, together};
+ghost use Rattle.m3_roots.specs.TakingApart.{apart, together, Leaves};
 
 use crate::bases::{put_row_together, take_row_apart};
 use crate::walk::row_of;
@@ -22,9 +21,8 @@ pub fn take_apart<L: Ledger>(
     steps: &mut Steps<L>,
 ) -> bool
     ensures { HaveRows (image_of image.now).program frames.now
-        → (let ds = derived_words (image_of image.now).program frames.now in
-        MatchBool result (apart ds (r.old ++ stack.old) ≡ Some (r.new ++ stack.new))
-        (apart ds (r.old ++ stack.old) ≡ None)) }
+        → Leaves result (apart (derived_words (image_of image.now).program frames.now)
+        (r.old ++ stack.old)) (r.new ++ stack.new) }
 {
     for frame in frames {
         let Some(row) = row_of(image, frame) else {
@@ -46,9 +44,8 @@ pub fn put_together<L: Ledger>(
     steps: &mut Steps<L>,
 ) -> bool
     ensures { HaveRows (image_of image.now).program frames.now
-        → (let ds = derived_words (image_of image.now).program frames.now in
-        MatchBool result (together ds (r.old ++ stack.old) ≡ Some (r.new ++ stack.new))
-        (together ds (r.old ++ stack.old) ≡ None)) }
+        → Leaves result (together (derived_words (image_of image.now).program frames.now)
+        (r.old ++ stack.old)) (r.new ++ stack.new) }
 {
     let mut k = frames.len();
     while k > 0 {

@@ -1,12 +1,11 @@
 //! Derived words of one frame, taken apart and put together again.
-ghost use Rattle.std.specs.Prelude.{◌≡◌, ◌++◌, length, take, drop, Some, None};
-ghost use Rattle.std.specs.Bool.{MatchBool};
+ghost use Rattle.std.specs.Prelude.{◌≡◌, ◌++◌, length, take, drop};
 ghost use Rattle.std.specs.Option.{option_map};
 ghost use Rattle.m3_tables.specs.Views.{numbers_of, bases_of, entry_of, entries_of};
 ghost use Rattle.m3_tables.specs.Tables.{derived_in};
 ghost use Rattle.m3_roots.specs.ThreadWords.{places_from, derived_at, derived_from, way_at, sum_at};
 ghost use Rattle.m3_roots.specs.ThreadWords.{bases_by_way};
-ghost use Rattle.m3_roots.specs.TakingApart.{apart_at, apart, together_at, together};
+ghost use Rattle.m3_roots.specs.TakingApart.{apart_at, apart, together_at, together, Leaves};
 
 use crate::places::{set_word, word_at};
 use m3_heap::Steps;
@@ -83,9 +82,9 @@ fn subtract<L: Ledger>(
     stack: &mut [u64],
     steps: &mut Steps<L>,
 ) -> bool
-    ensures { let d = derived_at first (entry_of entry.now) in
-        MatchBool result (apart_at d (r.old ++ stack.old) ≡ Some (r.new ++ stack.new))
-        (apart_at d (r.old ++ stack.old) ≡ None) }
+    ensures { Leaves result
+        (apart_at (derived_at first (entry_of entry.now)) (r.old ++ stack.old))
+        (r.new ++ stack.new) }
 {
     let Some(bases) = bases_of(r, stack, first, entry, steps) else {
         return false;
@@ -104,9 +103,9 @@ fn add<L: Ledger>(
     stack: &mut [u64],
     steps: &mut Steps<L>,
 ) -> bool
-    ensures { let d = derived_at first (entry_of entry.now) in
-        MatchBool result (together_at d (r.old ++ stack.old) ≡ Some (r.new ++ stack.new))
-        (together_at d (r.old ++ stack.old) ≡ None) }
+    ensures { Leaves result
+        (together_at (derived_at first (entry_of entry.now)) (r.old ++ stack.old))
+        (r.new ++ stack.new) }
 {
     let Some(bases) = bases_of(r, stack, first, entry, steps) else {
         return false;
@@ -125,9 +124,9 @@ pub fn take_row_apart<L: Ledger>(
     stack: &mut [u64],
     steps: &mut Steps<L>,
 ) -> bool
-    ensures { let ds = derived_from first (derived_in row.now) in
-        MatchBool result (apart ds (r.old ++ stack.old) ≡ Some (r.new ++ stack.new))
-        (apart ds (r.old ++ stack.old) ≡ None) }
+    ensures { Leaves result
+        (apart (derived_from first (derived_in row.now)) (r.old ++ stack.old))
+        (r.new ++ stack.new) }
 {
     for entry in row.derivations() {
         if !subtract(first, &entry, r, stack, steps) {
@@ -166,9 +165,9 @@ fn put_one_together<L: Ledger>(
     stack: &mut [u64],
     steps: &mut Steps<L>,
 ) -> bool
-    ensures { let ds = derived_from first (take 1 (entries_of entries.entry)) in
-        MatchBool result (together ds (r.old ++ stack.old) ≡ Some (r.new ++ stack.new))
-        (together ds (r.old ++ stack.old) ≡ None) }
+    ensures { Leaves result
+        (together (derived_from first (take 1 (entries_of entries.entry))) (r.old ++ stack.old))
+        (r.new ++ stack.new) }
 {
     let mut entries = entries;
     match entries.next() {
@@ -187,9 +186,9 @@ fn put_many_together<L: Ledger>(
     stack: &mut [u64],
     steps: &mut Steps<L>,
 ) -> bool
-    ensures { let ds = derived_from first (take count (entries_of entries.entry)) in
-        MatchBool result (together ds (r.old ++ stack.old) ≡ Some (r.new ++ stack.new))
-        (together ds (r.old ++ stack.old) ≡ None) }
+    ensures { Leaves result
+        (together (derived_from first (take count (entries_of entries.entry))) (r.old ++ stack.old))
+        (r.new ++ stack.new) }
 {
     if count == 0 {
         return true;
@@ -213,9 +212,9 @@ pub fn put_row_together<L: Ledger>(
     stack: &mut [u64],
     steps: &mut Steps<L>,
 ) -> bool
-    ensures { let ds = derived_from first (derived_in row.now) in
-        MatchBool result (together ds (r.old ++ stack.old) ≡ Some (r.new ++ stack.new))
-        (together ds (r.old ++ stack.old) ≡ None) }
+    ensures { Leaves result
+        (together (derived_from first (derived_in row.now)) (r.old ++ stack.old))
+        (r.new ++ stack.new) }
 {
     put_many_together(row.derivations(), count_of(row), first, r, stack, steps)
 }

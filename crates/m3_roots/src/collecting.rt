@@ -93,15 +93,7 @@ fn visit_thread<S: Store, L: Ledger>(
         return false;
     };
     let stack = threads.stack_mut(thread);
-    let fits = gather(
-        image,
-        &room.frames,
-        &mut room.marks,
-        &mut regs.r,
-        stack,
-        store,
-        steps,
-    );
+    let fits = gather(image, room, &mut regs.r, stack, store, steps);
     set_regs(threads, thread, regs);
     fits
 }

@@ -5,6 +5,7 @@ ghost use Rattle.m3_heap.specs.Cells.{Cell};
 ghost use Rattle.m3_heap.specs.Moves.{Move};
 ghost use Rattle.m3_heap.specs.Shapes.{Shape};
 ghost use Rattle.m3_image_decoded.specs.Ready.{image_of};
+ghost use Rattle.m3_roots.specs.RoomSizes.{IsRoomFor};
 ghost use Rattle.m3_roots.specs.RowMeaning.{AreFramesAt};
 ghost use Rattle.m3_roots.specs.Visiting.{KeepsHeap};
 ghost use Rattle.m3_roots.specs.Moving.{MovesWords};
@@ -12,20 +13,19 @@ ghost use Rattle.m3_roots.specs.Gathering.{Gathers, StopsGathering, GoesOn};
 
 use crate::apart::{put_together, take_apart};
 use crate::lists::lists_fit;
-use crate::marks::Mark;
+use crate::room::Room;
 use crate::tidy::visit_frames;
 use m3_heap::{Steps, Store};
 use m3_image_decoded::Decoded;
 use m3_run_frames::Frame;
 use std::sync::ledger::Ledger;
 
-/// Takes the derived words of a thread with these frames apart and visits its tidy words. False
-/// comes exactly where what the rows list together isn't as it may be, a path is past its ways, or
-/// a tidy word lies where heaps lie and is no cell's start.
+/// Takes the derived words of a thread apart and visits its tidy words; the room has its frames.
+/// False comes exactly where what the rows list together isn't as it may be, a path is past its
+/// ways, or a tidy word lies where heaps lie and is no cell's start.
 pub(crate) fn gather<S: Store, L: Ledger>(
     image: &Decoded<'_>,
-    frames: &[Frame],
-    marks: &mut [Mark],
+    room: &mut Room,
     r: &mut [u64; 16],
     stack: &mut [u64],
     store: &mut S,
@@ -33,21 +33,23 @@ pub(crate) fn gather<S: Store, L: Ledger>(
 ) -> bool
     requires open { (S.heap store.old).is_open ≡ true }
     ensures gathered { (base fp pc : ℕ) → AreFramesAt (image_of image.now).program base stack.old fp
-        pc frames.now → length stack.old + 16 ≤ length marks.old
-        → OnTrue result (Gathers (image_of image.now).program (S.heap store.old).cells frames.now
-        (r.old ++ stack.old) (S.heap store.old).moves (r.new ++ stack.new)
+        pc room.old.frames.items → length stack.old + 16 ≤ length room.old.marks.items
+        → OnTrue result (Gathers (image_of image.now).program (S.heap store.old).cells
+        room.old.frames.items (r.old ++ stack.old) (S.heap store.old).moves (r.new ++ stack.new)
         (S.heap store.new).moves) }
     ensures stopped { (base fp pc : ℕ) → AreFramesAt (image_of image.now).program base stack.old fp
-        pc frames.now → length stack.old + 16 ≤ length marks.old
+        pc room.old.frames.items → length stack.old + 16 ≤ length room.old.marks.items
         → OnFalse result (StopsGathering (image_of image.now).program (S.heap store.old).cells
-        frames.now (r.old ++ stack.old) (S.heap store.old).moves) }
+        room.old.frames.items (r.old ++ stack.old) (S.heap store.old).moves) }
     ensures long { (length r.old ≡ 16) × (length r.new ≡ 16) }
     ensures heap { KeepsHeap (S.heap store.old) (S.heap store.new) }
     ensures fitting { (shapes : List Shape) → S.fits store.old shapes → S.fits store.new shapes }
+    ensures room { (stack : ℕ) → IsRoomFor stack room.old → IsRoomFor stack room.new }
 {
     image.image().keeps_its_form();
     image.image().keeps_together();
-    if !lists_fit(image, frames, marks) {
+    let frames: &[Frame] = &room.frames;
+    if !lists_fit(image, frames, &mut room.marks) {
         return false;
     }
     if !take_apart(image, frames, r, stack, steps) {

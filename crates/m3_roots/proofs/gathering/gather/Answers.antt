@@ -1,34 +1,86 @@
-use Rattle.std.proofs.Common.{◌++◌, refl}
+use Rattle.std.proofs.Common.{◌≡◌, ℕ, ◌+◌, ◌≤◌, ◌++◌, List, length, drop, refl, sym, ap, subst, arith}
+use Rattle.std.specs.Bool.{OnTrue, OnFalse}
+use Rattle.std.specs.Vec.{with_items}
+use Rattle.std.proofs.lemmas.List.{take_at}
 use Rattle.m3_image_decoded.specs.Ready.{image_of}
-use Rattle.m3_roots.specs.Gathering.{lists, path}
+use Rattle.m3_run_frames.specs.declared.frame.Frame.{Frame}
+use Rattle.m3_roots.specs.declared.marks.Mark.{Mark}
+use Rattle.m3_roots.specs.declared.room.Room.{Room}
+use Rattle.m3_roots.specs.RoomSizes.{IsRoomFor}
+use Rattle.m3_roots.specs.RowMeaning.{AreFramesAt}
+use Rattle.m3_roots.specs.Gathering.{Gathers, StopsGathering, lists, path}
 use Rattle.m3_roots.proofs.GoodLemmas.{IsGood, good_of}
 use Rattle.m3_roots.proofs.GatherLemmas.{rows_of, gathers_if, stops_if}
+use Rattle.m3_roots.proofs.gathering.gather.Given as given
 use Rattle.m3_roots.proofs.gathering.gather.Goals as goal
 
+-- marks that are as many as they were leave the room that there was
+still : (stack : ℕ) (room : Room) (first now : List Mark) → first ≡ room.marks.items → length first ≡ room.marks.len → length now ≡ length first → IsRoomFor stack room → IsRoomFor stack (record room { marks = with_items room.marks now })
+still stack room first now value len kept r =
+    let same : length first ≡ length room.marks.items = ap (length {A = Mark}) value in
+    let all : stack + 16 ≤ length now = omega (arith, r.marks, same, kept) in
+    let count : length now ≡ room.marks.len = omega (arith, kept, len) in
+    let items : (with_items room.marks now).items ≡ now = take_at now (drop (length now) room.marks.items) room.marks.len count in
+    record { frames = r.frames; marks = subst (λ (xs : List Mark). stack + 16 ≤ length xs) (sym items) all }
+
 pub returns-then-not-lists_fit-clause-stopped : goal.returns-then-not-lists_fit-clause-stopped
-returns-then-not-lists_fit-clause-stopped g c = λ base fp pc framed marks. lists (c.if-not-lists_fit.ensures.unfit base fp pc c.args.stack.now framed marks refl)
+returns-then-not-lists_fit-clause-stopped g c = λ base fp pc framed marks.
+    (let p = (image_of c.args.image.now).program in
+    let h = g.S.Store.heap c.args.store.now in
+    let mine = subst (λ (fs : List Frame). AreFramesAt p base c.args.stack.now fp pc fs) (sym c.deref-frames.ensures.value) framed in
+    let many = subst (λ (ms : List Mark). length c.args.stack.now + 16 ≤ length ms) (sym c.deref_mut.ensures.value) marks in
+    subst (λ (fs : List Frame). StopsGathering p h.cells fs (c.args.r.now ++ c.args.stack.now) h.moves) c.deref-frames.ensures.value
+    (lists (c.if-not-lists_fit.ensures.unfit base fp pc c.args.stack.now mine many refl)))
 
 pub returns-then-not-take_apart-clause-stopped : goal.returns-then-not-take_apart-clause-stopped
 returns-then-not-take_apart-clause-stopped g c = λ base fp pc framed marks.
     (let p = (image_of c.args.image.now).program in
+    let h = g.S.Store.heap c.args.store.now in
     let good : IsGood p = good_of _ _ (image_of c.args.image.now) c.image.ensures c.image-2.ensures c.keeps_its_form.ensures c.keeps_together.ensures in
-    let rows = rows_of p good.sound good.procs base c.args.stack.now fp pc c.args.frames.now framed in
-    path (c.if-not-lists_fit.ensures.fit base fp pc c.args.stack.now framed marks refl) (c.if-not-take_apart.ensures rows))
+    let frames = c.deref-frames.result.now in
+    let mine = subst (λ (fs : List Frame). AreFramesAt p base c.args.stack.now fp pc fs) (sym c.deref-frames.ensures.value) framed in
+    let many = subst (λ (ms : List Mark). length c.args.stack.now + 16 ≤ length ms) (sym c.deref_mut.ensures.value) marks in
+    let rows = rows_of p good.sound good.procs base c.args.stack.now fp pc frames mine in
+    subst (λ (fs : List Frame). StopsGathering p h.cells fs (c.args.r.now ++ c.args.stack.now) h.moves) c.deref-frames.ensures.value
+    (path (c.if-not-lists_fit.ensures.fit base fp pc c.args.stack.now mine many refl) (c.if-not-take_apart.ensures rows)))
 
 pub returns-clause-gathered : goal.returns-clause-gathered
 returns-clause-gathered g c = λ base fp pc framed marks.
     (let p = (image_of c.args.image.now).program in
-    let good : IsGood p = good_of _ _ (image_of c.args.image.now) c.image.ensures c.image-2.ensures c.keeps_its_form.ensures c.keeps_together.ensures in
-    let rows = rows_of p good.sound good.procs base c.args.stack.now fp pc c.args.frames.now framed in
     let h = g.S.Store.heap c.args.store.now in
-    gathers_if c.visit_frames.result p h.cells c.args.frames.now (c.args.r.now ++ c.args.stack.now) (c.take_apart.new.r ++ c.take_apart.new.stack) h.moves (c.visit_frames.new.r ++ c.visit_frames.new.stack) (g.S.Store.heap c.visit_frames.new.store).moves
-    (c.if-not-lists_fit.ensures.fit base fp pc c.args.stack.now framed marks refl) (c.if-not-take_apart.ensures rows) (c.visit_frames.ensures.visited rows))
+    let good : IsGood p = good_of _ _ (image_of c.args.image.now) c.image.ensures c.image-2.ensures c.keeps_its_form.ensures c.keeps_together.ensures in
+    let frames = c.deref-frames.result.now in
+    let mine = subst (λ (fs : List Frame). AreFramesAt p base c.args.stack.now fp pc fs) (sym c.deref-frames.ensures.value) framed in
+    let many = subst (λ (ms : List Mark). length c.args.stack.now + 16 ≤ length ms) (sym c.deref_mut.ensures.value) marks in
+    let rows = rows_of p good.sound good.procs base c.args.stack.now fp pc frames mine in
+    let words = c.args.r.now ++ c.args.stack.now in
+    let last = c.visit_frames.new.r ++ c.visit_frames.new.stack in
+    let moves = (g.S.Store.heap c.visit_frames.new.store).moves in
+    subst (λ (fs : List Frame). OnTrue c.visit_frames.result (Gathers p h.cells fs words h.moves last moves)) c.deref-frames.ensures.value
+    (gathers_if c.visit_frames.result p h.cells frames words (c.take_apart.new.r ++ c.take_apart.new.stack) h.moves last moves
+    (c.if-not-lists_fit.ensures.fit base fp pc c.args.stack.now mine many refl) (c.if-not-take_apart.ensures rows) (c.visit_frames.ensures.visited rows)))
 
 pub returns-clause-stopped : goal.returns-clause-stopped
 returns-clause-stopped g c = λ base fp pc framed marks.
     (let p = (image_of c.args.image.now).program in
-    let good : IsGood p = good_of _ _ (image_of c.args.image.now) c.image.ensures c.image-2.ensures c.keeps_its_form.ensures c.keeps_together.ensures in
-    let rows = rows_of p good.sound good.procs base c.args.stack.now fp pc c.args.frames.now framed in
     let h = g.S.Store.heap c.args.store.now in
-    stops_if c.visit_frames.result p h.cells c.args.frames.now (c.args.r.now ++ c.args.stack.now) (c.take_apart.new.r ++ c.take_apart.new.stack) h.moves (c.visit_frames.new.r ++ c.visit_frames.new.stack) (g.S.Store.heap c.visit_frames.new.store).moves
-    (c.if-not-lists_fit.ensures.fit base fp pc c.args.stack.now framed marks refl) (c.if-not-take_apart.ensures rows) (c.visit_frames.ensures.visited rows))
+    let good : IsGood p = good_of _ _ (image_of c.args.image.now) c.image.ensures c.image-2.ensures c.keeps_its_form.ensures c.keeps_together.ensures in
+    let frames = c.deref-frames.result.now in
+    let mine = subst (λ (fs : List Frame). AreFramesAt p base c.args.stack.now fp pc fs) (sym c.deref-frames.ensures.value) framed in
+    let many = subst (λ (ms : List Mark). length c.args.stack.now + 16 ≤ length ms) (sym c.deref_mut.ensures.value) marks in
+    let rows = rows_of p good.sound good.procs base c.args.stack.now fp pc frames mine in
+    let words = c.args.r.now ++ c.args.stack.now in
+    let last = c.visit_frames.new.r ++ c.visit_frames.new.stack in
+    let moves = (g.S.Store.heap c.visit_frames.new.store).moves in
+    subst (λ (fs : List Frame). OnFalse c.visit_frames.result (StopsGathering p h.cells fs words h.moves)) c.deref-frames.ensures.value
+    (stops_if c.visit_frames.result p h.cells frames words (c.take_apart.new.r ++ c.take_apart.new.stack) h.moves last moves
+    (c.if-not-lists_fit.ensures.fit base fp pc c.args.stack.now mine many refl) (c.if-not-take_apart.ensures rows) (c.visit_frames.ensures.visited rows)))
+
+pub returns-then-not-lists_fit-clause-room : goal.returns-then-not-lists_fit-clause-room
+returns-then-not-lists_fit-clause-room g c = λ stack room. still stack c.args.room.now c.deref_mut.result.now c.lists_fit.new.marks c.deref_mut.ensures.value c.deref_mut.ensures.len c.lists_fit.auto.marks room
+
+pub returns-then-not-take_apart-clause-room : goal.returns-then-not-take_apart-clause-room
+returns-then-not-take_apart-clause-room g c = λ stack room. still stack c.args.room.now c.deref_mut.result.now c.lists_fit.new.marks c.deref_mut.ensures.value c.deref_mut.ensures.len c.lists_fit.auto.marks room
+
+pub returns-clause-room : goal.returns-clause-room
+returns-clause-room g c = λ stack room. still stack c.args.room.now c.deref_mut.result.now c.lists_fit.new.marks c.deref_mut.ensures.value c.deref_mut.ensures.len c.lists_fit.auto.marks room
