@@ -1,5 +1,5 @@
 -- What a run leads to, seen from the middle of a turn.
-use Rattle.std.specs.Prelude.{ℕ, ◌≡◌, ◌≤◌, ◌<◌, ◌+◌, ◌-◌, ◌*◌, ◌^◌, List, [], ◌++◌, length, Option, None, Some}
+use Rattle.std.specs.Prelude.{ℕ, ◌≡◌, ◌≤◌, ◌<◌, ◌+◌, ◌-◌, ◌*◌, ◌^◌, List, [], ◌++◌, length, Option, None, Some, slice_get}
 use Rattle.m3_base.specs.declared.outcomes.Entry.{Entry}
 use Rattle.m3_base.specs.declared.outcomes.Outcome.TheVariants.{Trap}
 use Rattle.m3_isa.specs.Effects.{at_hand}
@@ -12,12 +12,14 @@ use Rattle.m3_threads.specs.declared.status.Thread.{Thread}
 use Rattle.m3_threads.specs.declared.status.Status.TheVariants.{Ready}
 use Rattle.m3_threads.specs.All.{Everyone, thread_named}
 use Rattle.m3_image_sections.specs.Parts.{Program}
+use Rattle.m3_image_decoded.specs.Ready.{image_of}
 use Rattle.m3_run_memory.specs.Kept.{KeepsStacks}
 use Rattle.m3_run_memory.specs.declared.memory.Memory.{Memory}
 use Rattle.m3_run_meaning.specs.declared.near.Stack.{Stack}
 use Rattle.m3_run_meaning.specs.declared.near.Place.{Place as At}
 use Rattle.m3_run_loop.specs.declared.halts.Halt.{Halt}
 use Rattle.m3_run_loop.specs.declared.strides.Fuel.{Fuel}
+use Rattle.m3_run_loop.specs.declared.turns.Turn.{Turn}
 use Rattle.m3_run_loop.specs.declared.halts.Halt.TheVariants.{Used, Trapped}
 use Rattle.m3_run_meaning.specs.State.{State, regs_set, executed}
 use Rattle.m3_run_meaning.specs.Progress.{Goes}
@@ -121,3 +123,24 @@ pub record Counts (old new : Fuel) : Type 0 where
   pub left : new.left + 1 ≡ old.left
   pub points : new.points ≤ old.points
   pub floor : new.points ≡ old.points → new.floor ≡ old.floor
+
+-- ---- a turn from one place to another
+
+abbrev pub program_of : Turn → Program
+program_of turn = (image_of turn.image.now).program
+
+-- its instruction leads on so
+abbrev pub Goes_by : {S : Type 0} {g : Ghosts S} → Turn → Instr → List ℕ → At → Memory S g → List ℕ → At → Memory S g → Type 0
+Goes_by turn i r at m new_r to n = Goes_in (program_of turn) turn.stack i r at m new_r to n
+
+-- where the turn stood with its fuel, it stands after so many points and instructions, or the run is over
+abbrev pub Strides : {S : Type 0} {g : Ghosts S} → Turn → Track → Fuel → List ℕ → At → Memory S g → Fuel → List ℕ → At → Memory S g → Halt → Type 0
+Strides turn k fuel r at m new_fuel new_r to n halt =
+    Stands_in (program_of turn) k turn.stack fuel.limit (fuel.left - fuel.floor) fuel.points r at m
+    → Halts_in (program_of turn) (further k (fuel.points - new_fuel.points) (fuel.left - new_fuel.left)) turn.stack
+    new_fuel.limit (new_fuel.left - new_fuel.floor) new_fuel.points new_r to n halt
+
+-- the same over the instruction that stands there, in every run
+abbrev pub StridesOver : {S : Type 0} {g : Ghosts S} → Turn → Instr → Fuel → List ℕ → At → Memory S g → Fuel → List ℕ → At → Memory S g → Halt → Type 0
+StridesOver turn i fuel r at m new_fuel new_r to n halt =
+    (k : Track) → slice_get (program_of turn).code at.pc ≡ Some i → Strides turn k fuel r at m new_fuel new_r to n halt

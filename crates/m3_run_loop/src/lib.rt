@@ -5,6 +5,7 @@
 mod halts;
 mod steps;
 mod strides;
+mod turns;
 
 pub use halts::Halt;
 pub use strides::{Pace, stride};

@@ -7,12 +7,13 @@ ghost use Rattle.m3_isa.specs.declared.instructions.Instr.{Instr as Instruction}
 ghost use Rattle.m3_threads.specs.declared.status.Status.TheVariants.{Ready};
 ghost use Rattle.m3_threads.specs.Going.{status_at};
 ghost use Rattle.m3_image_decoded.specs.Ready.{image_of};
-ghost use Rattle.m3_run_loop.specs.Leading.{Track, Goes_in, Stands_in, Halts_in, KeepsWhole};
+ghost use Rattle.m3_run_loop.specs.Leading.{Track, Goes_by, Stands_in, Halts_in, KeepsWhole};
+ghost use Rattle.m3_run_loop.specs.Leading.{program_of, Strides, StridesOver};
 ghost use Rattle.m3_run_loop.specs.Leading.{further, halted, Counts};
 ghost use Rattle.m3_run_loop.specs.declared.halts.Halt.TheVariants.{Used, Left, Other};
 
 use crate::halts::Halt;
-use crate::steps::{call_near, make_near, point_near, return_near, tell_near, test_near};
+use crate::turns::Turn;
 use m3_heap::Store;
 use m3_image_decoded::Decoded;
 use m3_isa::{Instr, Op, Step, carry_out};
@@ -82,290 +83,256 @@ impl Fuel {
     }
 }
 
-/// An instruction that is no point, if nothing has to be done before it. None says that nothing was
-/// done.
-#[inline(always)]
-fn stay_near<S: Store>(
-    image: &Decoded<'_>,
-    i: Instr,
-    r: &mut [u64; 16],
-    at: Place,
-    memory: &Memory<S>,
-    stack: Stack,
-) -> Option<Place>
-    requires { IsInstruction i }
-    ensures refused { IfNone result (r.new ≡ r.old) }
-    ensures goes { IfSome result (λ to. Goes_in (image_of image.now).program stack i r.old
-        at memory.now r.new to memory.now) }
-{
-    match i.op {
-        Op::Ret => return_near(image, i, r, at, memory, stack),
-        Op::Meth => tell_near(image, i, r, at, memory, stack),
-        Op::Subt => test_near(image, i, r, at, memory, stack),
-        _ => None,
+impl Turn<'_> {
+    /// An instruction that is no point, if nothing has to be done before it. None says that nothing
+    /// was done.
+    #[inline(always)]
+    fn stay_near<S: Store>(
+        self,
+        i: Instr,
+        r: &mut [u64; 16],
+        at: Place,
+        memory: &Memory<S>,
+    ) -> Option<Place>
+        requires { IsInstruction i }
+        ensures refused { IfNone result (r.new ≡ r.old) }
+        ensures goes { IfSome result (λ to. Goes_by self.entry i r.old
+            at memory.now r.new to memory.now) }
+    {
+        match i.op {
+            Op::Ret => self.return_near(i, r, at, memory),
+            Op::Meth => self.tell_near(i, r, at, memory),
+            Op::Subt => self.test_near(i, r, at, memory),
+            _ => None,
+        }
     }
-}
 
-/// A point instruction, if nothing has to be done between the point and it. None says that nothing
-/// was done.
-#[inline(always)]
-fn point_step<S: Store>(
-    image: &Decoded<'_>,
-    i: Instr,
-    r: &mut [u64; 16],
-    at: Place,
-    memory: &mut Memory<S>,
-    stack: Stack,
-) -> Option<Place>
-    requires instruction { IsInstruction i }
-    requires inside { at.pc < length (image_of image.now).program.code }
-    ensures refused { IfNone result ((r.new ≡ r.old) × (memory.new ≡ memory.old)) }
-    ensures free { IfSome result (λ _. status_at i ≡ Ready) }
-    ensures keeps { KeepsWhole memory.old memory.new }
-    ensures goes { IfSome result (λ to. Goes_in (image_of image.now).program stack i r.old
-        at memory.old r.new to memory.new) }
-{
-    match i.op {
-        Op::Point => Some(point_near(image, i, r, at, memory, stack)),
-        Op::New => make_near(image, i, r, at, memory, stack),
-        Op::Call => call_near(image, i, Ok(i.imm.cast_unsigned()), r, at, memory, stack),
-        Op::Callr => {
-            let callee = before(3, register(r, i.a));
-            call_near(image, i, callee, r, at, memory, stack)
+    /// A point instruction, if nothing has to be done between the point and it. None says that
+    /// nothing was done.
+    #[inline(always)]
+    fn point_step<S: Store>(
+        self,
+        i: Instr,
+        r: &mut [u64; 16],
+        at: Place,
+        memory: &mut Memory<S>,
+    ) -> Option<Place>
+        requires instruction { IsInstruction i }
+        requires inside { at.pc < length (program_of self).code }
+        ensures refused { IfNone result ((r.new ≡ r.old) × (memory.new ≡ memory.old)) }
+        ensures free { IfSome result (λ _. status_at i ≡ Ready) }
+        ensures keeps { KeepsWhole memory.old memory.new }
+        ensures goes { IfSome result (λ to. Goes_by self.entry i r.old
+            at memory.old r.new to memory.new) }
+    {
+        match i.op {
+            Op::Point => Some(self.point_near(i, r, at, memory)),
+            Op::New => self.make_near(i, r, at, memory),
+            Op::Call => self.call_near(i, Ok(i.imm.cast_unsigned()), r, at, memory),
+            Op::Callr => {
+                let callee = before(3, register(r, i.a));
+                self.call_near(i, callee, r, at, memory)
+            }
+            Op::Callm => {
+                let callee = called_method(self.image, i.imm.cast_unsigned(), at, memory);
+                self.call_near(i, callee, r, at, memory)
+            }
+            _ => None,
         }
-        Op::Callm => {
-            let callee = called_method(image, i.imm.cast_unsigned(), at, memory);
-            call_near(image, i, callee, r, at, memory, stack)
-        }
-        _ => None,
     }
-}
 
-/// A point and the instruction behind it, if no choice comes before it. None says that nothing was
-/// done.
-#[inline(always)]
-fn pass_near<S: Store>(
-    image: &Decoded<'_>,
-    i: Instr,
-    r: &mut [u64; 16],
-    at: Place,
-    memory: &mut Memory<S>,
-    stack: Stack,
-    fuel: &mut Fuel,
-) -> Option<Place>
-    requires instruction { IsInstruction i }
-    requires inside { at.pc < length (image_of image.now).program.code }
-    ensures refused { IfNone result ((r.new ≡ r.old) × (memory.new ≡ memory.old)
-        × (fuel.new ≡ fuel.old)) }
-    ensures passed { IfSome result (λ _. (status_at i ≡ Ready) × (1 ≤ fuel.old.points)
-        × (fuel.old.limit ≤ fuel.old.left)
-        × (fuel.new ≡ record fuel.old {
-          points = fuel.old.points - 1;
-          floor = fuel.old.left - fuel.old.limit;
-        })) }
-    ensures keeps { KeepsWhole memory.old memory.new }
-    ensures goes { IfSome result (λ to. Goes_in (image_of image.now).program stack i r.old
-        at memory.old r.new to memory.new) }
-{
-    if !fuel.may_pass() {
-        return None;
-    }
-    match point_step(image, i, r, at, memory, stack) {
-        Some(to) => {
-            fuel.pass();
-            Some(to)
+    /// A point and the instruction behind it, if no choice comes before it. None says that nothing
+    /// was done.
+    #[inline(always)]
+    fn pass_near<S: Store>(
+        self,
+        i: Instr,
+        r: &mut [u64; 16],
+        at: Place,
+        memory: &mut Memory<S>,
+        fuel: &mut Fuel,
+    ) -> Option<Place>
+        requires instruction { IsInstruction i }
+        requires inside { at.pc < length (program_of self).code }
+        ensures refused { IfNone result ((r.new ≡ r.old) × (memory.new ≡ memory.old)
+            × (fuel.new ≡ fuel.old)) }
+        ensures passed { IfSome result (λ _. (status_at i ≡ Ready) × (1 ≤ fuel.old.points)
+            × (fuel.old.limit ≤ fuel.old.left)
+            × (fuel.new ≡ record fuel.old {
+              points = fuel.old.points - 1;
+              floor = fuel.old.left - fuel.old.limit;
+            })) }
+        ensures keeps { KeepsWhole memory.old memory.new }
+        ensures goes { IfSome result (λ to. Goes_by self.entry i r.old
+            at memory.old r.new to memory.new) }
+    {
+        if !fuel.may_pass() {
+            return None;
         }
-        None => None,
+        match self.point_step(i, r, at, memory) {
+            Some(to) => {
+                fuel.pass();
+                Some(to)
+            }
+            None => None,
+        }
     }
-}
 
-/// A return or a test of a type, where it is found.
-#[inline(always)]
-fn go_by<S: Store>(
-    image: &Decoded<'_>,
-    i: &Instr,
-    r: &mut [u64; 16],
-    at: &mut Place,
-    memory: &mut Memory<S>,
-    stack: Stack,
-    fuel: &mut Fuel,
-) -> Option<Halt>
-    requires instruction { IsInstruction i.now }
-    requires operation { is_point i.now.op ≡ false }
-    requires some { fuel.old.floor < fuel.old.left }
-    ensures counts { IfNone result (Counts fuel.old fuel.new) }
-    ensures halts { IfSome result (λ halt. (fuel.new ≡ fuel.old) × (at.new ≡ at.old)
-        × (halt ≡ Other)) }
-    ensures keeps { KeepsWhole memory.old memory.new }
-    ensures strides { (k : Track) → slice_get (image_of image.now).program.code at.old.pc
-        ≡ Some i.now
-        → Stands_in (image_of image.now).program k stack fuel.old.limit
-        (fuel.old.left - fuel.old.floor) fuel.old.points r.old at.old memory.old
-        → Halts_in (image_of image.now).program
-        (further k (fuel.old.points - fuel.new.points) (fuel.old.left - fuel.new.left)) stack
-        fuel.new.limit (fuel.new.left - fuel.new.floor) fuel.new.points r.new at.new memory.new
-        (halted result) }
-{
-    match stay_near(image, *i, r, *at, memory, stack) {
-        Some(to) => {
-            *at = to;
-            fuel.left -= 1;
-            None
+    /// A return or a test of a type, where it is found.
+    #[inline(always)]
+    fn go_by<S: Store>(
+        self,
+        i: &Instr,
+        r: &mut [u64; 16],
+        at: &mut Place,
+        memory: &mut Memory<S>,
+        fuel: &mut Fuel,
+    ) -> Option<Halt>
+        requires instruction { IsInstruction i.now }
+        requires operation { is_point i.now.op ≡ false }
+        requires some { fuel.old.floor < fuel.old.left }
+        ensures counts { IfNone result (Counts fuel.old fuel.new) }
+        ensures halts { IfSome result (λ halt. (fuel.new ≡ fuel.old) × (at.new ≡ at.old)
+            × (halt ≡ Other)) }
+        ensures keeps { KeepsWhole memory.old memory.new }
+        ensures strides { StridesOver self.entry i.now fuel.old r.old at.old memory.old
+            fuel.new r.new at.new memory.new (halted result) }
+    {
+        match self.stay_near(*i, r, *at, memory) {
+            Some(to) => {
+                *at = to;
+                fuel.left -= 1;
+                None
+            }
+            None => Some(Halt::Other),
         }
-        None => Some(Halt::Other),
     }
-}
 
-/// A point and a call, a new cell that fits or nothing, if no choice comes before it.
-#[inline(always)]
-fn go_past<S: Store>(
-    image: &Decoded<'_>,
-    i: &Instr,
-    r: &mut [u64; 16],
-    at: &mut Place,
-    memory: &mut Memory<S>,
-    stack: Stack,
-    fuel: &mut Fuel,
-) -> Option<Halt>
-    requires instruction { IsInstruction i.now }
-    requires inside { at.old.pc < length (image_of image.now).program.code }
-    requires operation { is_point i.now.op ≡ true }
-    requires some { fuel.old.floor < fuel.old.left }
-    ensures counts { IfNone result (Counts fuel.old fuel.new) }
-    ensures halts { IfSome result (λ halt. (fuel.new ≡ fuel.old) × (at.new ≡ at.old)
-        × (halt ≡ Other)) }
-    ensures keeps { KeepsWhole memory.old memory.new }
-    ensures strides { (k : Track) → slice_get (image_of image.now).program.code at.old.pc
-        ≡ Some i.now
-        → Stands_in (image_of image.now).program k stack fuel.old.limit
-        (fuel.old.left - fuel.old.floor) fuel.old.points r.old at.old memory.old
-        → Halts_in (image_of image.now).program
-        (further k (fuel.old.points - fuel.new.points) (fuel.old.left - fuel.new.left)) stack
-        fuel.new.limit (fuel.new.left - fuel.new.floor) fuel.new.points r.new at.new memory.new
-        (halted result) }
-{
-    match pass_near(image, *i, r, *at, memory, stack, fuel) {
-        Some(to) => {
-            *at = to;
-            fuel.left -= 1;
-            None
+    /// A point and a call, a new cell that fits or nothing, if no choice comes before it.
+    #[inline(always)]
+    fn go_past<S: Store>(
+        self,
+        i: &Instr,
+        r: &mut [u64; 16],
+        at: &mut Place,
+        memory: &mut Memory<S>,
+        fuel: &mut Fuel,
+    ) -> Option<Halt>
+        requires instruction { IsInstruction i.now }
+        requires inside { at.old.pc < length (program_of self).code }
+        requires operation { is_point i.now.op ≡ true }
+        requires some { fuel.old.floor < fuel.old.left }
+        ensures counts { IfNone result (Counts fuel.old fuel.new) }
+        ensures halts { IfSome result (λ halt. (fuel.new ≡ fuel.old) × (at.new ≡ at.old)
+            × (halt ≡ Other)) }
+        ensures keeps { KeepsWhole memory.old memory.new }
+        ensures strides { StridesOver self.entry i.now fuel.old r.old at.old memory.old
+            fuel.new r.new at.new memory.new (halted result) }
+    {
+        match self.pass_near(*i, r, *at, memory, fuel) {
+            Some(to) => {
+                *at = to;
+                fuel.left -= 1;
+                None
+            }
+            None => Some(Halt::Other),
         }
-        None => Some(Halt::Other),
     }
-}
 
-/// An instruction that isn't plain, where nothing has to be chosen or done before or after it.
-#[inline(always)]
-fn go_otherwise<S: Store>(
-    image: &Decoded<'_>,
-    i: &Instr,
-    r: &mut [u64; 16],
-    at: &mut Place,
-    memory: &mut Memory<S>,
-    stack: Stack,
-    fuel: &mut Fuel,
-) -> Option<Halt>
-    requires instruction { IsInstruction i.now }
-    requires inside { at.old.pc < length (image_of image.now).program.code }
-    requires some { fuel.old.floor < fuel.old.left }
-    ensures counts { IfNone result (Counts fuel.old fuel.new) }
-    ensures halts { IfSome result (λ halt. (fuel.new ≡ fuel.old) × (at.new ≡ at.old)
-        × (halt ≡ Other)) }
-    ensures keeps { KeepsWhole memory.old memory.new }
-    ensures strides { (k : Track) → slice_get (image_of image.now).program.code at.old.pc
-        ≡ Some i.now
-        → Stands_in (image_of image.now).program k stack fuel.old.limit
-        (fuel.old.left - fuel.old.floor) fuel.old.points r.old at.old memory.old
-        → Halts_in (image_of image.now).program
-        (further k (fuel.old.points - fuel.new.points) (fuel.old.left - fuel.new.left)) stack
-        fuel.new.limit (fuel.new.left - fuel.new.floor) fuel.new.points r.new at.new memory.new
-        (halted result) }
-{
-    if i.op.is_point() {
-        go_past(image, i, r, at, memory, stack, fuel)
-    } else {
-        go_by(image, i, r, at, memory, stack, fuel)
+    /// An instruction that isn't plain, where nothing has to be chosen or done before or after it.
+    #[inline(always)]
+    fn go_otherwise<S: Store>(
+        self,
+        i: &Instr,
+        r: &mut [u64; 16],
+        at: &mut Place,
+        memory: &mut Memory<S>,
+        fuel: &mut Fuel,
+    ) -> Option<Halt>
+        requires instruction { IsInstruction i.now }
+        requires inside { at.old.pc < length (program_of self).code }
+        requires some { fuel.old.floor < fuel.old.left }
+        ensures counts { IfNone result (Counts fuel.old fuel.new) }
+        ensures halts { IfSome result (λ halt. (fuel.new ≡ fuel.old) × (at.new ≡ at.old)
+            × (halt ≡ Other)) }
+        ensures keeps { KeepsWhole memory.old memory.new }
+        ensures strides { StridesOver self.entry i.now fuel.old r.old at.old memory.old
+            fuel.new r.new at.new memory.new (halted result) }
+    {
+        if i.op.is_point() {
+            self.go_past(i, r, at, memory, fuel)
+        } else {
+            self.go_by(i, r, at, memory, fuel)
+        }
     }
-}
 
-/// Carries out one instruction. Or it says why it didn't, or that it trapped.
-#[inline(always)]
-fn go_on<S: Store>(
-    image: &Decoded<'_>,
-    i: &Instr,
-    r: &mut [u64; 16],
-    at: &mut Place,
-    memory: &mut Memory<S>,
-    stack: Stack,
-    fuel: &mut Fuel,
-) -> Option<Halt>
-    requires instruction { IsInstruction i.now }
-    requires inside { at.old.pc < length (image_of image.now).program.code }
-    requires some { fuel.old.floor < fuel.old.left }
-    ensures counts { IfNone result (Counts fuel.old fuel.new) }
-    ensures halts { IfSome result (λ halt. (fuel.new.left ≤ fuel.old.left)
-        × (fuel.new.points ≤ fuel.old.points)
-        × (fuel.new.points ≡ fuel.old.points → fuel.new.floor ≡ fuel.old.floor)
-        × (halt ≡ Other → (plain i.now.op ≡ false) × (at.new ≡ at.old)) × (halt ≡ Left → ⊥)
-        × (halt ≡ Used → ⊥)) }
-    ensures keeps { KeepsWhole memory.old memory.new }
-    ensures strides { (k : Track) → slice_get (image_of image.now).program.code at.old.pc
-        ≡ Some i.now
-        → Stands_in (image_of image.now).program k stack fuel.old.limit
-        (fuel.old.left - fuel.old.floor) fuel.old.points r.old at.old memory.old
-        → Halts_in (image_of image.now).program
-        (further k (fuel.old.points - fuel.new.points) (fuel.old.left - fuel.new.left)) stack
-        fuel.new.limit (fuel.new.left - fuel.new.floor) fuel.new.points r.new at.new memory.new
-        (halted result) }
-{
-    match carry_out(i, r, &mut at.pc, at.fp, memory) {
-        Step::Went => {
-            fuel.left -= 1;
-            None
+    /// Carries out one instruction. Or it says why it didn't, or that it trapped.
+    #[inline(always)]
+    fn go_on<S: Store>(
+        self,
+        i: &Instr,
+        r: &mut [u64; 16],
+        at: &mut Place,
+        memory: &mut Memory<S>,
+        fuel: &mut Fuel,
+    ) -> Option<Halt>
+        requires instruction { IsInstruction i.now }
+        requires inside { at.old.pc < length (program_of self).code }
+        requires some { fuel.old.floor < fuel.old.left }
+        ensures counts { IfNone result (Counts fuel.old fuel.new) }
+        ensures halts { IfSome result (λ halt. (fuel.new.left ≤ fuel.old.left)
+            × (fuel.new.points ≤ fuel.old.points)
+            × (fuel.new.points ≡ fuel.old.points → fuel.new.floor ≡ fuel.old.floor)
+            × (halt ≡ Other → (plain i.now.op ≡ false) × (at.new ≡ at.old)) × (halt ≡ Left → ⊥)
+            × (halt ≡ Used → ⊥)) }
+        ensures keeps { KeepsWhole memory.old memory.new }
+        ensures strides { StridesOver self.entry i.now fuel.old r.old at.old memory.old
+            fuel.new r.new at.new memory.new (halted result) }
+    {
+        match carry_out(i, r, &mut at.pc, at.fp, memory) {
+            Step::Went => {
+                fuel.left -= 1;
+                None
+            }
+            Step::Trapped(n) => {
+                fuel.left -= 1;
+                Some(Halt::Trapped(n))
+            }
+            Step::Other => self.go_otherwise(i, r, at, memory, fuel),
         }
-        Step::Trapped(n) => {
-            fuel.left -= 1;
-            Some(Halt::Trapped(n))
-        }
-        Step::Other => go_otherwise(image, i, r, at, memory, stack, fuel),
     }
-}
 
-/// Goes on as long as instructions are plain, or nothing has to be chosen or done before or after
-/// them.
-#[inline(always)]
-fn go<S: Store>(
-    image: &Decoded<'_>,
-    r: &mut [u64; 16],
-    at: &mut Place,
-    memory: &mut Memory<S>,
-    stack: Stack,
-    fuel: &mut Fuel,
-) -> Halt
-    ensures counts { (fuel.new.left ≤ fuel.old.left) × (fuel.new.points ≤ fuel.old.points)
-        × (fuel.new.points ≡ fuel.old.points → fuel.new.floor ≡ fuel.old.floor) }
-    ensures keeps { KeepsWhole memory.old memory.new }
-    ensures ends { result ≡ Used → ⊥ }
-    ensures past { result ≡ Left → length (image_of image.now).program.code ≤ at.new.pc }
-    ensures other { result ≡ Other → fuel.new.floor < fuel.new.left → (i : Instruction)
-        → slice_get (image_of image.now).program.code at.new.pc ≡ Some i → plain i.op ≡ false }
-    ensures strides { (k : Track) → Stands_in (image_of image.now).program k stack fuel.old.limit
-        (fuel.old.left - fuel.old.floor) fuel.old.points r.old at.old memory.old
-        → Halts_in (image_of image.now).program
-        (further k (fuel.old.points - fuel.new.points) (fuel.old.left - fuel.new.left)) stack
-        fuel.new.limit (fuel.new.left - fuel.new.floor) fuel.new.points r.new at.new memory.new
-        result }
-{
-    let code = image.code();
-    'steps: while fuel.left > fuel.floor {
-        if at.pc as usize >= code.len() {
-            return Halt::Left;
+    /// Goes on as long as instructions are plain, or nothing has to be chosen or done before or
+    /// after them.
+    #[inline(always)]
+    fn go<S: Store>(
+        self,
+        r: &mut [u64; 16],
+        at: &mut Place,
+        memory: &mut Memory<S>,
+        fuel: &mut Fuel,
+    ) -> Halt
+        ensures counts { (fuel.new.left ≤ fuel.old.left) × (fuel.new.points ≤ fuel.old.points)
+            × (fuel.new.points ≡ fuel.old.points → fuel.new.floor ≡ fuel.old.floor) }
+        ensures keeps { KeepsWhole memory.old memory.new }
+        ensures ends { result ≡ Used → ⊥ }
+        ensures past { result ≡ Left → length (program_of self.entry).code ≤ at.new.pc }
+        ensures other { result ≡ Other → fuel.new.floor < fuel.new.left → (i : Instruction)
+            → slice_get (program_of self.entry).code at.new.pc ≡ Some i → plain i.op ≡ false }
+        ensures strides { (k : Track) → Strides self.entry k fuel.old r.old at.old memory.old
+            fuel.new r.new at.new memory.new result }
+    {
+        let code = self.image.code();
+        'steps: while fuel.left > fuel.floor {
+            if at.pc as usize >= code.len() {
+                return Halt::Left;
+            }
+            if let Some(halt) = self.go_on(&code[at.pc as usize], r, at, memory, fuel) {
+                return halt;
+            }
         }
-        if let Some(halt) = go_on(image, &code[at.pc as usize], r, at, memory, stack, fuel) {
-            return halt;
-        }
+        Halt::Other
     }
-    Halt::Other
 }
 
 /// Carries out the running thread's instructions, as long as nothing has to be chosen or done
@@ -397,7 +364,8 @@ pub fn stride<S: Store>(
 {
     let mut now = *at;
     let mut fuel = Fuel::of(pace);
-    let halt = go(image, r, &mut now, memory, stack, &mut fuel);
+    let turn = Turn { image, stack };
+    let halt = turn.go(r, &mut now, memory, &mut fuel);
     *at = now;
     pace.left = fuel.left.saturating_sub(fuel.floor);
     pace.points = fuel.points;

@@ -4,18 +4,18 @@ use Rattle.m3_isa.specs.Effects.{at_hand}
 use Rattle.m3_image_decoded.specs.Ready.{image_of}
 use Rattle.m3_run_loop.specs.Leading.{program_in}
 use Rattle.m3_run_loop.proofs.Leading.{stood_on, renumber}
-use Rattle.m3_run_loop.proofs.strides.go_by.Goals as goal
+use Rattle.m3_run_loop.proofs.turns.Turn.go_by.Goals as goal
 
 pub returns-in-Some-clause-strides : goal.returns-in-Some-clause-strides
 returns-in-Some-clause-strides g c = λ k next st.
     let m = c.args.memory.now in
-    let p = program_in (image_of c.args.image.now).program m in
+    let p = program_in (image_of c.args.self.image.now).program m in
     let f = c.args.fuel.now in
     let heap = g.S.Store.heap m.outside.heap.store in
     let old = at_hand c.args.r.now c.args.at.now.pc c.args.at.now.fp in
     let to = c.in-Some.to in
     let new = at_hand c.stay_near.new.r to.pc to.fp in
-    let over = stood_on p k c.args.stack f.limit (f.left - f.floor) f.points c.args.i.now old new m.threads m.threads m.outside.globals.items m.outside.globals.items heap heap st next
+    let over = stood_on p k c.args.self.stack f.limit (f.left - f.floor) f.points c.args.i.now old new m.threads m.threads m.outside.globals.items m.outside.globals.items heap heap st next
     c.requires.operation (omega (arith, c.requires.some)) c.in-Some.ensures.goes in
-    renumber p m.outside.constants.items k c.args.stack f.limit 0 1 (f.left - f.floor - 1) f.points (f.points - f.points) (f.left - (f.left - 1)) (f.left - 1 - f.floor) f.points new m.threads m.outside.globals.items heap
+    renumber p m.outside.constants.items k c.args.self.stack f.limit 0 1 (f.left - f.floor - 1) f.points (f.points - f.points) (f.left - (f.left - 1)) (f.left - 1 - f.floor) f.points new m.threads m.outside.globals.items heap
     refl (omega arith) (omega (arith, c.requires.some)) (omega arith) refl over

@@ -16,13 +16,13 @@ use Rattle.m3_base.specs.declared.outcomes.Outcome.TheVariants.{Trap}
 use Rattle.m3_run_loop.proofs.PlainSteps.{not-plain, was_plain}
 use Rattle.m3_run_loop.proofs.Leading.{stood_on, stood_end, renumber, reover}
 use Rattle.m3_run_loop.proofs.Deeds.{goes_plainly, ends_plainly, plain_is_no_point, not_plain_by}
-use Rattle.m3_run_loop.proofs.strides.go_on.Goals as goal
+use Rattle.m3_run_loop.proofs.turns.Turn.go_on.Goals as goal
 
 pub returns-in-Went-clause-strides : goal.returns-in-Went-clause-strides
 returns-in-Went-clause-strides g c = λ k next st.
     let m = c.args.memory.now in
     let n = c.carry_out.new.mem in
-    let p = program_in (image_of c.args.image.now).program m in
+    let p = program_in (image_of c.args.self.image.now).program m in
     let i = c.args.i.now in
     let f = c.args.fuel.now in
     let heap = g.S.Store.heap m.outside.heap.store in
@@ -34,17 +34,17 @@ returns-in-Went-clause-strides g c = λ k next st.
     let memory' = held n.threads (outside_of n.outside.globals.items n.outside.constants.items heap'.cells) in
     let plain = was_plain i old new memory memory' can _ (λ is. cc) c.in-Went.ensures.effect in
     let keeps = c.in-Went.ensures.keeps.0 in
-    let goes = goes_plainly p c.args.stack i old new m.threads n.threads m.outside.globals.items n.outside.globals.items n.outside.constants.items heap heap' plain keeps c.in-Went.ensures.effect in
-    let over = stood_on p k c.args.stack f.limit (f.left - f.floor) f.points i old new m.threads n.threads m.outside.globals.items n.outside.globals.items heap heap' st next
+    let goes = goes_plainly p c.args.self.stack i old new m.threads n.threads m.outside.globals.items n.outside.globals.items n.outside.constants.items heap heap' plain keeps c.in-Went.ensures.effect in
+    let over = stood_on p k c.args.self.stack f.limit (f.left - f.floor) f.points i old new m.threads n.threads m.outside.globals.items n.outside.globals.items heap heap' st next
     (plain_is_no_point i.op plain) (omega (arith, c.requires.some)) goes in
-    renumber p n.outside.constants.items k c.args.stack f.limit 0 1 (f.left - f.floor - 1) f.points (f.points - f.points) (f.left - (f.left - 1)) (f.left - 1 - f.floor) f.points new n.threads n.outside.globals.items heap'
+    renumber p n.outside.constants.items k c.args.self.stack f.limit 0 1 (f.left - f.floor - 1) f.points (f.points - f.points) (f.left - (f.left - 1)) (f.left - 1 - f.floor) f.points new n.threads n.outside.globals.items heap'
     keeps.outside.same_constants (omega arith) (omega (arith, c.requires.some)) (omega arith) refl over
 
 pub returns-in-Trapped-clause-strides : goal.returns-in-Trapped-clause-strides
 returns-in-Trapped-clause-strides g c = λ k next st.
     let m = c.args.memory.now in
     let n = c.carry_out.new.mem in
-    let p = program_in (image_of c.args.image.now).program m in
+    let p = program_in (image_of c.args.self.image.now).program m in
     let i = c.args.i.now in
     let f = c.args.fuel.now in
     let heap = g.S.Store.heap m.outside.heap.store in
@@ -58,7 +58,7 @@ returns-in-Trapped-clause-strides g c = λ k next st.
     let keeps = c.in-Trapped.ensures.keeps.0 in
     let does = ends_plainly p k.input k.base k.thread i old new m.threads n.threads m.outside.globals.items n.outside.globals.items n.outside.constants.items heap heap' c.in-Trapped.n
     plain keeps c.in-Trapped.ensures.effect c.in-Trapped.ensures.trap in
-    let over = stood_end p k c.args.stack f.limit (f.left - f.floor) f.points i old m.threads m.outside.globals.items heap (seen (executed k.base) new n.threads n.outside.globals.items heap') (Trap c.in-Trapped.n) st next
+    let over = stood_end p k c.args.self.stack f.limit (f.left - f.floor) f.points i old m.threads m.outside.globals.items heap (seen (executed k.base) new n.threads n.outside.globals.items heap') (Trap c.in-Trapped.n) st next
     (plain_is_no_point i.op plain) (omega (arith, c.requires.some)) does in
     reover p n.outside.constants.items k (f.points - f.points) (f.left - (f.left - 1)) new n.threads n.outside.globals.items heap' (Trap c.in-Trapped.n)
     keeps.outside.same_constants (omega arith) (omega (arith, c.requires.some)) over
@@ -104,7 +104,7 @@ returns-in-Other-clause-strides g c = λ k next st.
     let n = c.carry_out.new.mem in
     let i = c.args.i.now in
     let f = c.args.fuel.now in
-    let p = (image_of c.args.image.now).program in
+    let p = (image_of c.args.self.image.now).program in
     let heap = g.S.Store.heap m.outside.heap.store in
     let heap' = g.S.Store.heap n.outside.heap.store in
     let old = at_hand c.args.r.now c.args.at.now.pc c.args.at.now.fp in
@@ -119,9 +119,9 @@ returns-in-Other-clause-strides g c = λ k next st.
     let to : Place = record { pc = c.carry_out.new.pc; fp = c.args.at.now.fp } in
     let there : to ≡ c.args.at.now = ap (λ (pc : ℕ). record { pc = pc; fp = c.args.at.now.fp }) same-pc in
     let left = f.left - f.floor in
-    let st-r = subst (λ (r : List ℕ). Stands_in p k c.args.stack f.limit left f.points r c.args.at.now m) (sym same-r) st in
-    let st-at = subst (λ (at : Place). Stands_in p k c.args.stack f.limit left f.points c.carry_out.new.r at m) (sym there) st-r in
-    let st-m = subst (λ x. Stands_in p k c.args.stack f.limit left f.points c.carry_out.new.r to x) (sym same-m) st-at in
+    let st-r = subst (λ (r : List ℕ). Stands_in p k c.args.self.stack f.limit left f.points r c.args.at.now m) (sym same-r) st in
+    let st-at = subst (λ (at : Place). Stands_in p k c.args.self.stack f.limit left f.points c.carry_out.new.r at m) (sym there) st-r in
+    let st-m = subst (λ x. Stands_in p k c.args.self.stack f.limit left f.points c.carry_out.new.r to x) (sym same-m) st-at in
     c.go_otherwise.ensures.strides k (ap (λ (pc : ℕ). slice_get p.code pc) same-pc ∙ next) st-m
 
 pub returns-in-Other-clause-keeps : goal.returns-in-Other-clause-keeps

@@ -3,11 +3,11 @@ use Rattle.m3_image_decoded.specs.Ready.{image_of}
 use Rattle.m3_isa.specs.Effects.{at_hand}
 use Rattle.m3_run_loop.specs.Leading.{program_in}
 use Rattle.m3_run_loop.proofs.Deeds.{goes_told}
-use Rattle.m3_run_loop.proofs.steps.tell_near.Goals as goal
+use Rattle.m3_run_loop.proofs.turns.Turn.tell_near.Goals as goal
 
 pub returns-in-Ok-clause-goes : goal.returns-in-Ok-clause-goes
 returns-in-Ok-clause-goes g c =
     let m = c.args.memory.now in
     let to = c.give.result in
-    goes_told (program_in (image_of c.args.image.now).program m) c.args.stack c.args.i (at_hand c.args.r.now c.args.at.pc c.args.at.fp) (at_hand c.give.new.r to.pc to.fp)
+    goes_told (program_in (image_of c.args.self.image.now).program m) c.args.self.stack c.args.i (at_hand c.args.r.now c.args.at.pc c.args.at.fp) (at_hand c.give.new.r to.pc to.fp)
     m.threads m.outside.globals.items (g.S.Store.heap m.outside.heap.store) c.in-Ok.method c.requires.operation (search rules) (search rules)
