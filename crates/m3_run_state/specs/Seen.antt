@@ -2,9 +2,11 @@
 use Rattle.std.specs.Prelude.{ℕ, ◌≡◌, ◌++◌, Bool, true, false, List, Option, Some, IfSome}
 use Rattle.m3_heap.specs.declared.store.Store.{Ghosts}
 use Rattle.m3_threads.specs.declared.status.Thread.{Thread}
-use Rattle.m3_threads.specs.All.{thread_named}
+use Rattle.m3_threads.specs.All.{Everyone, thread_named}
 use Rattle.m3_image_sections.specs.Parts.{Program}
 use Rattle.m3_image_decoded.specs.Ready.{image_of}
+use Rattle.m3_roots.specs.Collected.{Parts as Roots}
+use Rattle.m3_run_memory.specs.declared.outside.Outside.{Outside}
 use Rattle.m3_run_state.specs.declared.parts.Parts.{Parts}
 use Rattle.m3_run_meaning.specs.declared.progress.Progress.{Progress as Answer}
 use Rattle.m3_run_meaning.specs.declared.progress.Progress.TheVariants.{Ends}
@@ -25,6 +27,10 @@ state_of {g = g} m = record {
 -- the program of its image, with the constants that stand in its memory
 abbrev pub program_of : {S : Type 0} {g : Ghosts S} → Parts S g → Program
 program_of m = record (image_of m.image).program { constants = m.memory.outside.constants.items }
+
+-- what a collection sees of threads and of the memory outside their stacks
+abbrev pub parts_in : {S : Type 0} {g : Ghosts S} → Everyone → Outside S g → Roots
+parts_in {g = g} all outside = record { all = all; globals = outside.globals.items; heap = g.heap outside.heap.store }
 
 -- its program and its input, the words of a stack, how many forks, waits and ends it carried out at most, and
 -- whether a collection ended in trap 9

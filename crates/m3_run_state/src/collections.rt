@@ -5,10 +5,10 @@ ghost use Rattle.m3_image_decoded.specs.Ready.{image_of};
 ghost use Rattle.m3_roots.specs.RoomSizes.{IsRoomFor};
 ghost use Rattle.m3_roots.specs.Collected.{Collected, StopsCollection};
 ghost use Rattle.m3_run_meaning.specs.Collecting.{Collects, Spoils};
-ghost use Rattle.m3_run_state.specs.Seen.{state_of, program_of, rest_of, IsGoing};
+ghost use Rattle.m3_run_state.specs.Seen.{state_of, program_of, parts_in, rest_of, IsGoing};
 
 use crate::parts::Parts;
-use m3_heap::{Closed, Steps, Store};
+use m3_heap::{Steps, Store};
 use m3_image_decoded::Decoded;
 use m3_roots::{Room, collect};
 use m3_run_memory::Outside;
@@ -16,98 +16,8 @@ use m3_threads::Threads;
 use std::marker::Brand;
 use std::sync::ledger::{Blank, Ledger};
 
-/// A collection over globals and a heap that stand beside the threads.
-fn collect_in<S: Store, L: Ledger>(
-    globals: &mut [u64],
-    heap: &mut Closed<S>,
-    threads: &mut Threads,
-    image: &Decoded<'_>,
-    room: &mut Room,
-    steps: &mut Steps<L>,
-) -> bool
-    requires fitting { S.fits heap.old.store (map shape_of (image_of image.now).program.types) }
-    requires words { length globals.old ≡ (image_of image.now).program.globals.words }
-    ensures fitting { result ≡ true → S.fits heap.new.store
-        (map shape_of (image_of image.now).program.types) }
-    ensures collected { IsRoomFor threads.old.stack room.old
-        → OnTrue result (Collected (image_of image.now).program
-        (record { all = threads.old; globals = globals.old; heap = S.heap heap.old.store })
-        (record { all = threads.new; globals = globals.new; heap = S.heap heap.new.store })) }
-    ensures whole { IsRoomFor threads.old.stack room.old
-        → OnTrue result (StopsCollection (image_of image.now).program
-        (record { all = threads.old; globals = globals.old; heap = S.heap heap.old.store })
-        → ⊥) }
-    ensures stopped { IsRoomFor threads.old.stack room.old
-        → OnFalse result (StopsCollection (image_of image.now).program
-        (record { all = threads.old; globals = globals.old; heap = S.heap heap.old.store })) }
-    ensures room { (stack : ℕ) → IsRoomFor stack room.old → IsRoomFor stack room.new }
-    ensures words { length globals.new ≡ length globals.old }
-    ensures forks { threads.new.forks ≡ threads.old.forks }
-    ensures waits { threads.new.waits ≡ threads.old.waits }
-{
-    collect(threads, globals, &mut heap.store, image, room, steps)
-}
-
-/// A collection over the threads and the memory outside their stacks. False comes exactly where it
-/// ends in trap 9.
-fn collect_outside<S: Store, L: Ledger>(
-    outside: &mut Outside<S>,
-    threads: &mut Threads,
-    image: &Decoded<'_>,
-    room: &mut Room,
-    steps: &mut Steps<L>,
-) -> bool
-    requires fitting { S.fits outside.old.heap.store
-        (map shape_of (image_of image.now).program.types) }
-    requires words { length outside.old.globals.items ≡ (image_of image.now).program.globals.words }
-    ensures fitting { result ≡ true → S.fits outside.new.heap.store
-        (map shape_of (image_of image.now).program.types) }
-    ensures collected { IsRoomFor threads.old.stack room.old
-        → OnTrue result (Collected (image_of image.now).program
-        (record {
-          all = threads.old;
-          globals = outside.old.globals.items;
-          heap = S.heap
-              outside.old.heap.store;
-        }) (record {
-          all = threads.new;
-          globals = outside.new.globals.items;
-          heap = S.heap
-              outside.new.heap.store;
-        })) }
-    ensures whole { IsRoomFor threads.old.stack room.old
-        → OnTrue result (StopsCollection (image_of image.now).program
-        (record {
-          all = threads.old;
-          globals = outside.old.globals.items;
-          heap = S.heap
-              outside.old.heap.store;
-        }) → ⊥) }
-    ensures stopped { IsRoomFor threads.old.stack room.old
-        → OnFalse result (StopsCollection (image_of image.now).program
-        (record {
-          all = threads.old;
-          globals = outside.old.globals.items;
-          heap = S.heap
-              outside.old.heap.store;
-        })) }
-    ensures room { (stack : ℕ) → IsRoomFor stack room.old → IsRoomFor stack room.new }
-    ensures words { length outside.new.globals.items ≡ length outside.old.globals.items }
-    ensures constants { outside.new.constants.items ≡ outside.old.constants.items }
-    ensures forks { threads.new.forks ≡ threads.old.forks }
-    ensures waits { threads.new.waits ≡ threads.old.waits }
-{
-    collect_in(
-        &mut outside.globals,
-        &mut outside.heap,
-        threads,
-        image,
-        room,
-        steps,
-    )
-}
-
-/// A collection whose steps are counted by a ledger of its own.
+/// A collection over the threads and the memory outside their stacks, whose steps are counted by a
+/// ledger of its own. False comes exactly where it ends in trap 9.
 fn collect_by<S: Store, L: Ledger>(
     outside: &mut Outside<S>,
     threads: &mut Threads,
@@ -125,33 +35,13 @@ fn collect_by<S: Store, L: Ledger>(
         (map shape_of (image_of image.now).program.types) ∥₁ }
     ensures collected { IsRoomFor threads.old.stack room.old
         → OnTrue result (Collected (image_of image.now).program
-        (record {
-          all = threads.old;
-          globals = outside.old.globals.items;
-          heap = S.heap
-              outside.old.heap.store;
-        }) (record {
-          all = threads.new;
-          globals = outside.new.globals.items;
-          heap = S.heap
-              outside.new.heap.store;
-        })) }
+        (parts_in threads.old outside.old) (parts_in threads.new outside.new)) }
     ensures whole { IsRoomFor threads.old.stack room.old
         → OnTrue result (StopsCollection (image_of image.now).program
-        (record {
-          all = threads.old;
-          globals = outside.old.globals.items;
-          heap = S.heap
-              outside.old.heap.store;
-        }) → ⊥) }
+        (parts_in threads.old outside.old) → ⊥) }
     ensures stopped { IsRoomFor threads.old.stack room.old
         → OnFalse result (StopsCollection (image_of image.now).program
-        (record {
-          all = threads.old;
-          globals = outside.old.globals.items;
-          heap = S.heap
-              outside.old.heap.store;
-        })) }
+        (parts_in threads.old outside.old)) }
     ensures room { (stack : ℕ) → IsRoomFor stack room.old → IsRoomFor stack room.new }
     ensures words { length outside.new.globals.items ≡ length outside.old.globals.items }
     ensures constants { outside.new.constants.items ≡ outside.old.constants.items }
@@ -159,56 +49,14 @@ fn collect_by<S: Store, L: Ledger>(
     ensures waits { threads.new.waits ≡ threads.old.waits }
 {
     let mut steps = Steps::<L>::new(blank);
-    collect_outside(outside, threads, image, room, &mut steps)
-}
-
-fn collect_now<S: Store>(
-    outside: &mut Outside<S>,
-    threads: &mut Threads,
-    image: &Decoded<'_>,
-    room: &mut Room,
-) -> bool
-    requires fitting { ∥ S.fits outside.old.heap.store
-        (map shape_of (image_of image.now).program.types) ∥₁ }
-    requires words { length outside.old.globals.items ≡ (image_of image.now).program.globals.words }
-    ensures fitting { result ≡ true → ∥ S.fits outside.new.heap.store
-        (map shape_of (image_of image.now).program.types) ∥₁ }
-    ensures collected { IsRoomFor threads.old.stack room.old
-        → OnTrue result (Collected (image_of image.now).program
-        (record {
-          all = threads.old;
-          globals = outside.old.globals.items;
-          heap = S.heap
-              outside.old.heap.store;
-        }) (record {
-          all = threads.new;
-          globals = outside.new.globals.items;
-          heap = S.heap
-              outside.new.heap.store;
-        })) }
-    ensures whole { IsRoomFor threads.old.stack room.old
-        → OnTrue result (StopsCollection (image_of image.now).program
-        (record {
-          all = threads.old;
-          globals = outside.old.globals.items;
-          heap = S.heap
-              outside.old.heap.store;
-        }) → ⊥) }
-    ensures stopped { IsRoomFor threads.old.stack room.old
-        → OnFalse result (StopsCollection (image_of image.now).program
-        (record {
-          all = threads.old;
-          globals = outside.old.globals.items;
-          heap = S.heap
-              outside.old.heap.store;
-        })) }
-    ensures room { (stack : ℕ) → IsRoomFor stack room.old → IsRoomFor stack room.new }
-    ensures words { length outside.new.globals.items ≡ length outside.old.globals.items }
-    ensures constants { outside.new.constants.items ≡ outside.old.constants.items }
-    ensures forks { threads.new.forks ≡ threads.old.forks }
-    ensures waits { threads.new.waits ≡ threads.old.waits }
-{
-    collect_by::<S, Brand>(outside, threads, image, room, Blank::new(1))
+    collect(
+        threads,
+        &mut outside.globals,
+        &mut outside.heap.store,
+        image,
+        room,
+        &mut steps,
+    )
 }
 
 impl<'a, S: Store> Parts<'a, S> {
@@ -226,11 +74,12 @@ impl<'a, S: Store> Parts<'a, S> {
         if self.stuck {
             return false;
         }
-        let done = collect_now(
+        let done = collect_by::<S, Brand>(
             &mut self.memory.outside,
             &mut self.memory.threads,
             &self.image,
             &mut self.room,
+            Blank::new(1),
         );
         self.stuck = !done;
         if done {
