@@ -1,7 +1,7 @@
 use crate::analysis::Analysis;
 use crate::plans::{Base, kind_of};
 use crate::relevance::{from_temps, has_flag};
-use crate::shapes::{Said, Shape, Shapes, moves_on, set_item};
+use crate::shapes::{Said, Shape, Shapes, moves_on, same_terms, set_item};
 use crate::sources::{Setting, Source, Term};
 use bumpalo::Bump;
 use bumpalo::collections::into_bump_slice;
@@ -228,22 +228,10 @@ impl<'a> Keeper<'a> {
     }
 }
 
-pub(crate) fn same_list(left: &[Term], right: &[Term]) -> bool {
-    if left.len() != right.len() {
-        return false;
-    }
-    for (at, term) in left.iter().enumerate() {
-        if right.get(at) != Some(term) {
-            return false;
-        }
-    }
-    true
-}
-
 /// The number of the way with these bases.
 pub(crate) fn way_of(ways: &[KeptWay], bases: &[Term]) -> Option<usize> {
     for (at, way) in ways.iter().enumerate() {
-        if same_list(way.bases, bases) {
+        if same_terms(way.bases, bases) {
             return Some(at);
         }
     }

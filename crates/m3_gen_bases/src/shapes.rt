@@ -59,7 +59,8 @@ pub(crate) fn add_term(list: &mut Vec<Term>, term: Term) -> Result<(), NoMemory>
     Ok(())
 }
 
-fn same_terms(left: &[Term], right: &[Term]) -> bool {
+/// Whether two lists have the same terms in the same order.
+pub(crate) fn same_terms(left: &[Term], right: &[Term]) -> bool {
     if left.len() != right.len() {
         return false;
     }
