@@ -1,0 +1,11 @@
+pub mod Values
+pub mod Integers
+pub mod Sets
+pub mod Programs
+pub mod Sameness
+pub mod Types
+pub mod Arrays
+pub mod Constants
+pub mod Methods
+pub mod Places
+pub mod Store
