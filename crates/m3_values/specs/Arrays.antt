@@ -1,5 +1,5 @@
 -- ARRAYS: their shapes, and how they are made.
-use Rattle.std.specs.Prelude.{ℕ, ◌+◌, ◌==◌, nat_le, Bool, if◌then◌else◌, List, [], ◌∷◌, ◌++◌, length, take, drop, replicate, Option, Some, None}
+use Rattle.std.specs.Prelude.{ℕ, ◌+◌, ◌==◌, ◌&&◌, nat_le, Bool, true, false, if◌then◌else◌, List, [], ◌∷◌, ◌++◌, length, take, drop, replicate, Option, Some, None}
 use Rattle.m3_values.specs.Values.{Value, Array, items, row_of, same_list}
 
 -- the sizes of all dimensions, the outermost first; none of what is no array
@@ -42,3 +42,10 @@ part_of start n _ = None
 -- Whether one shape has the sizes of the other in so many dimensions from the outermost on.
 abbrev pub same_shape : List ℕ → List ℕ → Bool
 same_shape sizes others = same_list ◌==◌ sizes others
+
+-- whether an array has the sizes that a type says
+abbrev pub fits : List (Option ℕ) → List ℕ → Bool
+fits [] sizes = true
+fits (None ∷ wanted) (n ∷ sizes) = fits wanted sizes
+fits (Some size ∷ wanted) (n ∷ sizes) = (size == n) && fits wanted sizes
+fits (w ∷ wanted) [] = false

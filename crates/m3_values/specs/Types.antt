@@ -1,5 +1,5 @@
 -- What the meaning asks of types: members, shapes, ancestors, and what stands behind an opaque one.
-use Rattle.std.specs.Prelude.{ℕ, ℤ, zero, suc, pos, negsuc, ◌-ℤ◌, ◌+◌, Bool, true, false, List, [], ◌∷◌, ◌++◌, length, Option, Some, None}
+use Rattle.std.specs.Prelude.{ℕ, ℤ, zero, suc, pos, negsuc, ◌-ℤ◌, ◌+◌, Bool, true, false, is_none, count_by, List, [], ◌∷◌, ◌++◌, length, Option, Some, None}
 use Rattle.std.specs.Option.{option_map_or, option_and_then, unwrap_or}
 use Rattle.std.specs.List.{list_any}
 use Rattle.m3_types.specs.declared.nodes.Field.{Field}
@@ -9,7 +9,7 @@ use Rattle.m3_types.specs.declared.nodes.Secret.TheVariants as secret
 use Rattle.m3_types.specs.declared.nodes.TypeNode.{TypeNode}
 use Rattle.m3_types.specs.declared.nodes.TypeNode.TheVariants as node
 use Rattle.m3_types.specs.Definitions.{head_at, node_at}
-use Rattle.m3_types.specs.Kinds.{size_of}
+use Rattle.m3_types.specs.Kinds.{size_of, is_reference}
 use Rattle.m3_types.specs.Reveals.{full_reveal}
 use Rattle.m3_values.specs.Programs.{Program}
 use Rattle.m3_values.specs.Sameness.{is_same_type}
@@ -123,6 +123,21 @@ module _ (p : Program) where
   abbrev pub below_type : Option ℕ → List ℕ
   below_type e = option_map_or type_shape e []
 
+  -- the sizes that it says of its dimensions: none of an open one
+  abbrev pub size_said : ℕ → Option ℕ
+  size_said t = elim (is_open t) [ true ↦ None | false ↦ Some (elements t) ]
+
+  abbrev pub sizes_to : (limit : ℕ) → ℕ → List (Option ℕ)
+  sizes_to zero t = []
+  sizes_to (suc limit) t = option_map_or (λ e. size_said t ∷ sizes_to limit e) (element t) []
+
+  abbrev pub type_sizes : ℕ → List (Option ℕ)
+  type_sizes t = sizes_to depth t
+
+  -- how many open dimensions it has
+  abbrev pub open_dimensions : ℕ → ℕ
+  open_dimensions t = count_by is_none (type_sizes t)
+
   -- ---- opaque types and objects
 
   -- An opaque type stands for the type that fully reveals it, whatever a unit sees.
@@ -160,6 +175,25 @@ module _ (p : Program) where
   abbrev pub object_field : (owner field : ℕ) → ℕ
   object_field owner field =
       option_map_or (λ above. length (object_fields above)) (parent owner) 0 + field
+
+  -- ---- references in values
+
+  abbrev pub any_field : (ℕ → Bool) → List Field → Bool
+  any_field test fields = list_any (λ (f : Field). test f.kind.0) fields
+
+  abbrev pub holds_reference_in : Option TypeNode → (ℕ → Bool) → (self : Bool) → Bool
+  holds_reference_in (Some (node.Fields fields)) test self = any_field test fields.now
+  holds_reference_in (Some (node.FixedArray index element)) test self = test element.0
+  holds_reference_in _ test self = self
+
+  abbrev pub holds_reference_to : (limit : ℕ) → ℕ → Bool
+  holds_reference_to zero t = false
+  holds_reference_to (suc limit) t =
+      holds_reference_in (node_of t) (holds_reference_to limit) (is_reference (head_at p.nodes t))
+
+  -- whether a value of the type has a reference in it
+  abbrev pub holds_reference : ℕ → Bool
+  holds_reference t = holds_reference_to depth t
 
   -- ---- the types of cells
 

@@ -1,0 +1,14 @@
+pub mod Meanings
+pub mod Phrases
+pub mod Designators
+pub mod Operators
+pub mod Constructors
+pub mod Travelling
+pub mod Calls
+pub mod Routines
+pub mod Expressions
+pub mod Assignment
+pub mod Blocks
+pub mod Branches
+pub mod Loops
+pub mod Exceptions
