@@ -12,3 +12,5 @@ pub mod Blocks
 pub mod Branches
 pub mod Loops
 pub mod Exceptions
+pub mod Statements
+pub mod Sharing

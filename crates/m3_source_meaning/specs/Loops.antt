@@ -92,7 +92,7 @@ module _ (p : Program) (here : Here) where
   abbrev pub counted : (variable : ℕ) → (first last step : Value) → Acts → Acts
   counted x (Ordinal first) (Ordinal last) (Ordinal step) body around now =
       counting (suc (length now.answers)) x step last first body around now
-  counted x _ _ _ body = undefined
+  counted x _ _ _ body around now = undefined around now
 
   -- first, last and step are evaluated once
   abbrev pub for : (variable : ℕ) → (first last : Expression) → Option Expression → Acts → Acts
