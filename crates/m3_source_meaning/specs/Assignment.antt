@@ -1,6 +1,6 @@
 -- ASSIGNMENT (report, 2.3.1), INC and DEC (2.3.19), and variables that are made.
 use Rattle.std.specs.Prelude.{ℕ, ℤ, pos, ◌+ℤ◌, ◌-ℤ◌, ◌++◌, Bool, true, false, not, List, [], ◌∷◌, Option, Some, None, slice_get}
-use Rattle.std.specs.Option.{option_map, option_map_or, option_and_then}
+use Rattle.std.specs.Option.{option_map, option_and_then}
 use Rattle.m3_base.specs.declared.outcomes.FaultKind.TheVariants as fault_kind
 use Rattle.m3_base.specs.declared.places.Pos.{Pos}
 use Rattle.m3_core.specs.declared.program.ProcDef.{ProcDef}
@@ -8,14 +8,14 @@ use Rattle.m3_core.specs.declared.program.VarDef.{VarDef}
 use Rattle.m3_core.specs.declared.program.VarKind.{VarKind}
 use Rattle.m3_core.specs.declared.program.VarKind.TheVariants as kind
 use Rattle.m3_values.specs.Values.{Value, Ordinal}
-use Rattle.m3_values.specs.Integers.{Computed, within_integer}
+use Rattle.m3_values.specs.Integers.{within_integer}
 use Rattle.m3_values.specs.Programs.{Program, procedure_at}
 use Rattle.m3_values.specs.Types.{bounds}
 use Rattle.m3_values.specs.Arrays.{shape, same_shape}
 use Rattle.m3_values.specs.Constants.{default_of}
 use Rattle.m3_values.specs.Places.{Place, Thing, Is, At}
 use Rattle.m3_values.specs.Store.{Memory, with_thing, with_shared}
-use Rattle.m3_source_meaning.specs.Meanings.{Evaluates, Acts, given, done, fault, undefined, there, computed, reading, writing, changing, unless, holding, ◌>>=◌, ◌>>◌}
+use Rattle.m3_source_meaning.specs.Meanings.{Evaluates, Acts, given, done, undefined, there, computed, reading, writing, changing, unless, holding, ◌>>=◌, ◌>>◌}
 use Rattle.m3_source_meaning.specs.Phrases.{Here, Expression, Chained}
 use Rattle.m3_source_meaning.specs.Designators.{is_shared_here}
 use Rattle.m3_source_meaning.specs.Operators.{within}

@@ -1,5 +1,5 @@
 -- SEQUENCES and BLOCKS (report, 2.3.6 and 2.3.11), and WITH (2.3.17).
-use Rattle.std.specs.Prelude.{ℕ, List, [], ◌∷◌, Option, Some, None}
+use Rattle.std.specs.Prelude.{ℕ, List, [], ◌∷◌}
 use Rattle.m3_core.specs.declared.stmts.Bound.{Bound}
 use Rattle.m3_core.specs.declared.stmts.Bound.TheVariants as bind
 use Rattle.m3_core.specs.declared.stmts.WithBinding.{WithBinding}

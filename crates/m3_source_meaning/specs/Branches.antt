@@ -1,19 +1,17 @@
 -- IF (report, 2.3.8), CASE (2.3.14) and TYPECASE (2.3.16).
-use Rattle.std.specs.Prelude.{ℕ, ℤ, pos, ◌||◌, Bool, true, false, List, [], ◌∷◌, map, Option, Some, None}
-use Rattle.m3_base.specs.declared.outcomes.FaultKind.{FaultKind}
+use Rattle.std.specs.Prelude.{ℕ, ℤ, pos, ◌||◌, Bool, true, false, List, [], ◌∷◌, Option, Some, None}
 use Rattle.m3_base.specs.declared.outcomes.FaultKind.TheVariants as fault_kind
 use Rattle.m3_base.specs.declared.places.Pos.{Pos}
 use Rattle.m3_core.specs.declared.stmts.LabelRange.{LabelRange}
 use Rattle.m3_types.specs.declared.nodes.TypeId.{TypeId}
-use Rattle.m3_values.specs.Values.{Value, Ordinal, same_integer}
+use Rattle.m3_values.specs.Values.{Value, Ordinal}
 use Rattle.m3_values.specs.Integers.{is_between}
 use Rattle.m3_values.specs.Programs.{Program}
-use Rattle.m3_values.specs.Places.{Thing, Is}
+use Rattle.m3_values.specs.Places.{Is}
 use Rattle.m3_values.specs.Store.{has_type}
 use Rattle.m3_source_meaning.specs.Meanings.{Evaluates, Acts, given, done, fault, undefined, seeing, in_scope, ◌>>=◌, ◌>>◌}
 use Rattle.m3_source_meaning.specs.Phrases.{Here, Expression}
 use Rattle.m3_source_meaning.specs.Assignment.{bound}
-use Rattle.m3_source_meaning.specs.Blocks.{in_turn}
 
 -- what stands behind ELSE: none where none is written
 pub record Otherwise : Type 0 where

@@ -1,23 +1,23 @@
 -- CALLS (report, 2.3.2): the procedure or the method, the actuals in order, the copies of open
 -- arrays, and the call's point.
-use Rattle.std.specs.Prelude.{ℕ, suc, pos, ◌==◌, Bool, true, false, not, ◌&&◌, List, [], ◌∷◌, ◌++◌, map, take, Option, Some, None, slice_get}
-use Rattle.std.specs.Option.{option_map_or, option_and_then}
+use Rattle.std.specs.Prelude.{ℕ, Bool, true, false, not, List, [], ◌∷◌, ◌++◌, map, take, Option, Some, None, slice_get}
+use Rattle.std.specs.Option.{option_map_or}
 use Rattle.m3_base.specs.declared.outcomes.FaultKind.TheVariants as fault_kind
 use Rattle.m3_base.specs.declared.places.Pos.{Pos}
 use Rattle.m3_types.specs.declared.nodes.Formal.{Formal}
 use Rattle.m3_types.specs.declared.nodes.Method.{Method}
 use Rattle.m3_types.specs.declared.nodes.Mode.{Mode}
 use Rattle.m3_types.specs.declared.nodes.Mode.TheVariants as mode
-use Rattle.m3_runs.specs.Languages.{Action, Calls, Makes, Cell}
+use Rattle.m3_runs.specs.Languages.{Calls, Makes, Cell}
 use Rattle.m3_values.specs.Values.{Value, Nil, Pointer, Procedure, number}
 use Rattle.m3_values.specs.Programs.{Program}
 use Rattle.m3_values.specs.Types.{node_of, formals_in, methods_in, is_open, open_dimensions, type_sizes, kind_of}
 use Rattle.m3_values.specs.Arrays.{shape, fits}
 use Rattle.m3_values.specs.Methods.{method_place, procedure_of}
-use Rattle.m3_values.specs.Places.{Name, Referent, Fresh, Place, Thing, Is, At, whole}
-use Rattle.m3_values.specs.Store.{Memory, kind_of_object, holding as held_in}
-use Rattle.m3_source_meaning.specs.Meanings.{Evaluates, Acts, given, done, fault, undefined, there, seeing, changing, valued, unless, acting, holding, holding_all, ◌>>=◌, ◌>>◌}
-use Rattle.m3_source_meaning.specs.Phrases.{Expression, Chained, Passing, By_value, By_place, Before}
+use Rattle.m3_values.specs.Places.{Referent, Fresh, Thing, Is, At, whole}
+use Rattle.m3_values.specs.Store.{kind_of_object, holding as held_in}
+use Rattle.m3_source_meaning.specs.Meanings.{Evaluates, Acts, given, done, fault, undefined, seeing, changing, valued, unless, acting, holding, holding_all, ◌>>=◌, ◌>>◌}
+use Rattle.m3_source_meaning.specs.Phrases.{Expression, Passing, By_value, By_place, Before}
 use Rattle.m3_source_meaning.specs.Operators.{made}
 use Rattle.m3_source_meaning.specs.Constructors.{in_order}
 use Rattle.m3_source_meaning.specs.Travelling.{result_of}

@@ -1,21 +1,20 @@
 -- CONSTRUCTORS (report, 2.6.8) and NEW (2.6.9): sets, arrays, records, and new cells.
-use Rattle.std.specs.Prelude.{ℕ, ℤ, suc, pos, ◌==◌, Bool, true, false, not, List, [], ◌∷◌, ◌++◌, length, map, take, Option, Some, None, slice_get, int_lt}
-use Rattle.std.specs.Option.{option_map, option_map_or, option_and_then, option_to_list, unwrap_or}
+use Rattle.std.specs.Prelude.{ℕ, ℤ, suc, pos, ◌==◌, Bool, true, false, not, List, [], ◌∷◌, ◌++◌, length, map, Option, Some, None, int_lt}
+use Rattle.std.specs.Option.{option_to_list}
 use Rattle.m3_base.specs.declared.outcomes.FaultKind.TheVariants as fault_kind
 use Rattle.m3_base.specs.declared.places.Pos.{Pos}
-use Rattle.m3_types.specs.declared.nodes.Field.{Field}
 use Rattle.m3_types.specs.declared.nodes.TypeNode.{TypeNode}
 use Rattle.m3_types.specs.declared.nodes.TypeNode.TheVariants as node
 use Rattle.m3_runs.specs.Languages.{Makes, Cell}
 use Rattle.m3_values.specs.Values.{Value, Ordinal, Pointer, Members, Record, row_of}
 use Rattle.m3_values.specs.Sets.{with_member, with_range}
 use Rattle.m3_values.specs.Programs.{Program}
-use Rattle.m3_values.specs.Types.{node_of, element, elements, is_open, below_type, unveiled, kind_of, object_fields, object_field}
+use Rattle.m3_values.specs.Types.{node_of, element, elements, below_type, unveiled, kind_of, object_fields, object_field}
 use Rattle.m3_values.specs.Arrays.{shape, array_of, up_to, same_shape}
 use Rattle.m3_values.specs.Constants.{default_of, sized_default, field_default}
-use Rattle.m3_values.specs.Places.{Name, Referent, Field as A_field, Thing, Is, whole, further}
+use Rattle.m3_values.specs.Places.{Referent, Field as A_field, Is, whole, further}
 use Rattle.m3_values.specs.Store.{holding as held_in}
-use Rattle.m3_source_meaning.specs.Meanings.{Evaluates, Acts, given, done, fault, undefined, there, seeing, changing, writing, unless, acting, holding, holding_all, ◌>>=◌, ◌>>◌}
+use Rattle.m3_source_meaning.specs.Meanings.{Evaluates, Acts, given, done, undefined, changing, writing, unless, acting, holding, holding_all, ◌>>=◌, ◌>>◌}
 use Rattle.m3_source_meaning.specs.Phrases.{Expression, Valued}
 use Rattle.m3_source_meaning.specs.Operators.{made}
 

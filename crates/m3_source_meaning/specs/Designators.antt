@@ -1,17 +1,17 @@
 -- DESIGNATORS (report, 2.6.3): what a name stands for, and the steps behind it.
-use Rattle.std.specs.Prelude.{ℕ, zero, suc, pos, ◌-ℤ◌, ◌-◌, ◌==◌, ◌&&◌, ◌||◌, not, nat_le, ◌+◌, Bool, true, false, List, [], ◌∷◌, length, Option, Some, None, int_lt, slice_get}
+use Rattle.std.specs.Prelude.{ℕ, zero, suc, pos, ◌-ℤ◌, ◌-◌, ◌==◌, ◌&&◌, not, nat_le, ◌+◌, Bool, true, false, List, [], ◌∷◌, Option, Some, None}
 use Rattle.std.specs.Option.{option_map, option_map_or, option_and_then}
 use Rattle.std.specs.List.{list_any}
 use Rattle.m3_base.specs.declared.outcomes.FaultKind.TheVariants as fault_kind
 use Rattle.m3_base.specs.declared.places.Pos.{Pos}
-use Rattle.m3_values.specs.Values.{Value, Ordinal, Nil, Pointer, items}
+use Rattle.m3_values.specs.Values.{Value, Ordinal, Nil, Pointer}
 use Rattle.m3_values.specs.Integers.{count_of}
 use Rattle.m3_values.specs.Programs.{Program}
 use Rattle.m3_values.specs.Types.{first_index, object_field}
 use Rattle.m3_values.specs.Arrays.{count}
-use Rattle.m3_values.specs.Places.{Name, Referent, Global, Local, Own, Fresh, Selector, Field, Element, Part, Place, Thing, Is, At, whole, further}
-use Rattle.m3_values.specs.Store.{Store, Memory, Kept, thing_in, shared_thing, kept_at}
-use Rattle.m3_source_meaning.specs.Meanings.{Evaluates, given, fault, undefined, there, seeing, reading, valued, holding, unless, ◌>>=◌, ◌>>◌}
+use Rattle.m3_values.specs.Places.{Name, Referent, Local, Own, Fresh, Field, Element, Part, Place, Thing, Is, At, whole, further}
+use Rattle.m3_values.specs.Store.{Store, Kept, thing_in, shared_thing, kept_at}
+use Rattle.m3_source_meaning.specs.Meanings.{Evaluates, given, fault, undefined, seeing, reading, valued, holding, unless, ◌>>=◌, ◌>>◌}
 use Rattle.m3_source_meaning.specs.Phrases.{Here, Expression, Chained, Based, Before, Stepped}
 
 -- ---- names

@@ -1,11 +1,11 @@
 -- EXCEPTIONS (report, 2.3.4 to 2.3.7): RAISE, RETURN, TRY EXCEPT and TRY FINALLY.
-use Rattle.std.specs.Prelude.{ℕ, ◌==◌, Bool, true, false, List, [], ◌∷◌, map, Option, Some, None}
-use Rattle.std.specs.Option.{option_map, option_to_list}
+use Rattle.std.specs.Prelude.{ℕ, ◌==◌, true, false, List, [], ◌∷◌, map, Option, Some, None}
+use Rattle.std.specs.Option.{option_to_list}
 use Rattle.std.specs.List.{list_any}
-use Rattle.m3_values.specs.Values.{Value, Nil}
+use Rattle.m3_values.specs.Values.{Value}
 use Rattle.m3_values.specs.Programs.{Program}
 use Rattle.m3_values.specs.Places.{Thing, Is}
-use Rattle.m3_source_meaning.specs.Meanings.{Raised, Exits, End, Now, Evaluates, Acts, given, done, raising, holding_all, ◌>>=◌}
+use Rattle.m3_source_meaning.specs.Meanings.{Raised, Evaluates, Acts, given, raising, holding_all, ◌>>=◌}
 use Rattle.m3_source_meaning.specs.Phrases.{Here, Expression}
 use Rattle.m3_source_meaning.specs.Branches.{Otherwise, with_variable}
 
@@ -46,8 +46,9 @@ module _ (p : Program) (here : Here) where
   abbrev pub handled : List Handling → Otherwise → Raised → Acts
   handled [] otherwise r = elim otherwise.is_written [ true ↦ otherwise.body | false ↦ raising r ]
   handled (h ∷ hs) otherwise r = elim (list_any (λ e. r.exception == e) h.exceptions) [
-      true ↦ with_argument h.variable r.argument h.body
-    | false ↦ handled hs otherwise r ]
+    | true ↦ with_argument h.variable r.argument h.body
+    | false ↦ handled hs otherwise r
+  ]
 
   -- RETURN and EXIT are exceptions without a name: only the ELSE handles them
   abbrev pub unless_handled : Otherwise → Acts → Acts

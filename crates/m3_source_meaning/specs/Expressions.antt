@@ -1,7 +1,7 @@
 -- EXPRESSIONS: one line for each form of the checked tree, from the meanings of its parts. What
 -- the words of a line mean is said in Designators, Operators, Constructors, Calls and Routines.
-use Rattle.std.specs.Prelude.{ℕ, ◌-◌, Bool, true, false, List, [], ◌∷◌, Option, Some, None}
-use Rattle.std.specs.Option.{option_map, option_map_or, option_and_then}
+use Rattle.std.specs.Prelude.{ℕ, ◌-◌, true, false, List, [], ◌∷◌, Option, Some, None}
+use Rattle.std.specs.Option.{option_map, option_and_then}
 use Rattle.m3_base.specs.declared.places.Pos.{Pos}
 use Rattle.m3_types.specs.declared.nodes.TypeId.{TypeId}
 use Rattle.m3_core.specs.declared.calls.Actual.TheFolds as folds
@@ -9,12 +9,11 @@ use Rattle.m3_core.specs.declared.calls.Actual.TheOpen as layer
 use Rattle.m3_core.specs.declared.chains.Chain.{Chain}
 use Rattle.m3_core.specs.declared.calls.BuiltinCall.{BuiltinCall}
 use Rattle.m3_core.specs.declared.exprs.CoreExpr.{CoreExpr}
-use Rattle.m3_core.specs.declared.program.ProcDef.{ProcDef}
 use Rattle.m3_values.specs.Values.{Value, Ordinal, Nil, Text, Procedure}
 use Rattle.m3_values.specs.Programs.{Program, procedure_at}
 use Rattle.m3_values.specs.Types.{bounds, index_in, node_of}
 use Rattle.m3_values.specs.Constants.{constant_at}
-use Rattle.m3_values.specs.Places.{Name, Global, Thing, Is, At, whole}
+use Rattle.m3_values.specs.Places.{Global, Thing, Is, At, whole}
 use Rattle.m3_source_meaning.specs.Meanings.{Evaluates, given, undefined, there, ◌>>=◌}
 use Rattle.m3_source_meaning.specs.Phrases.{Here, Expression, Chained, Based, Before, Stepped, Operated, Adding, Valued, Passing, By_value, By_place, Served}
 use Rattle.m3_source_meaning.specs.Designators.{named, subarray, read_step, keep_step, dereferenced, field_step, object_field_of, element_step, by_value, chained, activation_at}

@@ -14,3 +14,6 @@ pub mod Loops
 pub mod Exceptions
 pub mod Statements
 pub mod Sharing
+pub mod Procedures
+pub mod Showing
+pub mod Programs

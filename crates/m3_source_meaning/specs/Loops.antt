@@ -1,11 +1,11 @@
 -- LOOPS (report, 2.3.9 to 2.3.13): LOOP, EXIT, WHILE, REPEAT and FOR. A turn is completed when its
 -- body ends normally, and the end of a completed turn is a point.
-use Rattle.std.specs.Prelude.{ℕ, ℤ, zero, suc, pos, ◌+ℤ◌, Bool, true, false, not, List, [], ◌∷◌, length, Option, Some, None, int_le, int_lt}
-use Rattle.m3_runs.specs.Languages.{Passes, Answer}
+use Rattle.std.specs.Prelude.{ℕ, ℤ, zero, suc, pos, ◌+ℤ◌, Bool, true, false, not, [], ◌∷◌, length, Option, Some, None, int_le, int_lt}
+use Rattle.m3_runs.specs.Languages.{Passes}
 use Rattle.m3_values.specs.Values.{Value, Ordinal}
 use Rattle.m3_values.specs.Programs.{Program}
-use Rattle.m3_values.specs.Places.{Thing, Is}
-use Rattle.m3_source_meaning.specs.Meanings.{Exits, Evaluates, Acts, given, done, undefined, acting, holding, in_scope, ◌>>=◌, ◌>>◌}
+use Rattle.m3_values.specs.Places.{Is}
+use Rattle.m3_source_meaning.specs.Meanings.{Evaluates, Acts, given, done, undefined, acting, holding, in_scope, ◌>>=◌, ◌>>◌}
 use Rattle.m3_source_meaning.specs.Phrases.{Here, Expression}
 use Rattle.m3_source_meaning.specs.Assignment.{bound}
 
@@ -86,8 +86,9 @@ module _ (p : Program) (here : Here) where
   abbrev pub counting : (limit : ℕ) → (variable : ℕ) → (step last value : ℤ) → Acts → Acts
   counting zero x step last z body = undefined
   counting (suc limit) x step last z body = elim (is_further step last z) [
-      true ↦ (for_turn x z body >>= (λ ends. elim ends [ true ↦ counting limit x step last (z +ℤ step) body | false ↦ done ]))
-    | false ↦ done ]
+    | true ↦ (for_turn x z body >>= (λ ends. elim ends [ true ↦ counting limit x step last (z +ℤ step) body | false ↦ done ]))
+    | false ↦ done
+  ]
 
   abbrev pub counted : (variable : ℕ) → (first last step : Value) → Acts → Acts
   counted x (Ordinal first) (Ordinal last) (Ordinal step) body around now =

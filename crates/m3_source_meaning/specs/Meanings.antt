@@ -1,13 +1,13 @@
 -- WHAT A MEANING IS. A phrase of a procedure is known by where it leads, given what follows it:
 -- what follows is a function for each way in which the phrase can be left. At a point the answer
 -- to the action is taken from a list, so a meaning is a function of all that others may do.
-use Rattle.std.specs.Prelude.{ℕ, suc, Bool, true, false, List, [], ◌∷◌, ◌++◌, length, Option, Some, None}
+use Rattle.std.specs.Prelude.{ℕ, Bool, true, false, List, [], ◌∷◌, ◌++◌, Option, Some, None}
 use Rattle.m3_base.specs.declared.outcomes.FaultKind.{FaultKind}
 use Rattle.m3_base.specs.declared.places.Pos.{Pos}
-use Rattle.m3_runs.specs.Languages.{Action, Passes, Answer, Gives, Raises, Fails}
+use Rattle.m3_runs.specs.Languages.{Action, Answer}
 use Rattle.m3_values.specs.Values.{Value}
 use Rattle.m3_values.specs.Integers.{Computed, Result, Fault}
-use Rattle.m3_values.specs.Places.{Place, Thing, Is, At}
+use Rattle.m3_values.specs.Places.{Place, Thing}
 use Rattle.m3_values.specs.Store.{Variables, Store, Memory, read, write, value_now}
 
 -- ---- what stands around a phrase, and where it leads

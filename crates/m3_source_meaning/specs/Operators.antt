@@ -17,17 +17,17 @@ use Rattle.m3_core.specs.declared.exprs.PrefixOperator.{PrefixOperator}
 use Rattle.m3_core.specs.declared.exprs.PrefixOperator.TheVariants as prefix
 use Rattle.m3_core.specs.declared.exprs.Relation.{Relation}
 use Rattle.m3_core.specs.declared.exprs.Relation.TheVariants as relation
-use Rattle.m3_runs.specs.Languages.{New, Concatenated, Makes, Answer, Gives}
+use Rattle.m3_runs.specs.Languages.{Concatenated, Makes, Answer, Gives}
 use Rattle.m3_values.specs.Values.{Value, Ordinal, Nil, Procedure, Members, same, same_integer, truth, number}
 use Rattle.m3_values.specs.Integers as integers
 use Rattle.m3_values.specs.Integers.{Computed, is_between}
 use Rattle.m3_values.specs.Sets as sets
 use Rattle.m3_values.specs.Programs.{Program}
-use Rattle.m3_values.specs.Types.{Bounds, bounds, is_open, type_sizes}
+use Rattle.m3_values.specs.Types.{Bounds, bounds, type_sizes}
 use Rattle.m3_values.specs.Arrays.{shape, count, fits}
-use Rattle.m3_values.specs.Places.{Thing, Is, At}
+use Rattle.m3_values.specs.Places.{Thing, Is}
 use Rattle.m3_values.specs.Store.{has_type}
-use Rattle.m3_source_meaning.specs.Meanings.{Evaluates, Acts, given, done, fault, undefined, there, seeing, valued, computed, unless, acting, holding, ◌>>=◌, ◌>>◌}
+use Rattle.m3_source_meaning.specs.Meanings.{Evaluates, Acts, given, done, fault, undefined, seeing, valued, computed, unless, acting, holding, ◌>>=◌, ◌>>◌}
 use Rattle.m3_source_meaning.specs.Phrases.{Expression, Chained, Operated}
 
 abbrev pub ordinal : Pos → Computed ℤ → Evaluates Value
@@ -142,7 +142,7 @@ right_of go left right = holding (Is left) right.value >>= go
 -- one whose left operand was evaluated; `at` is the place of that operand
 abbrev pub operated_on : (at : Pos) → Operated → (left : Value) → Evaluates Value
 operated_on at o left = elim o.operator [
-    operator.Or ↦ or_next left o.right.value
+  | operator.Or ↦ or_next left o.right.value
   | operator.And ↦ and_next left o.right.value
   | operator.Plus ↦ right_of (arithmetic integers.sum o.pos left) left o.right
   | operator.Minus ↦ right_of (arithmetic integers.difference o.pos left) left o.right
@@ -155,7 +155,8 @@ operated_on at o left = elim o.operator [
   | operator.SymmetricDifference ↦ right_of (on_sets sets.symmetric_difference left) left o.right
   | operator.Concatenate ↦ concatenated at left o.right
   | operator.In ↦ right_of (membership left) left o.right
-  | operator.Compare r c ↦ right_of (compared_by r c left) left o.right ]
+  | operator.Compare r c ↦ right_of (compared_by r c left) left o.right
+]
 
 -- A comparison of structures leaves both operands where they are; every other operator reads its
 -- left operand first.

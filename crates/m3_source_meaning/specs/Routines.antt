@@ -1,7 +1,7 @@
 -- THE ROUTINES of the built-in interfaces IO, Text, Word and Thread, and the functions MIN, MAX,
 -- ORD and VAL.
-use Rattle.std.specs.Prelude.{ℕ, ℤ, zero, suc, pos, ◌==◌, ◌&&◌, not, Bool, true, false, List, [], ◌∷◌, ◌++◌, length, map, Option, Some, None, slice_get}
-use Rattle.std.specs.Option.{option_map, option_map_or, option_and_then}
+use Rattle.std.specs.Prelude.{ℕ, ℤ, zero, suc, pos, ◌==◌, Bool, true, false, List, [], ◌∷◌, ◌++◌, length, map, Option, Some, None, slice_get}
+use Rattle.std.specs.Option.{option_map, option_map_or}
 use Rattle.m3_base.specs.declared.outcomes.FaultKind.TheVariants as fault_kind
 use Rattle.m3_base.specs.declared.places.Pos.{Pos}
 use Rattle.m3_core.specs.declared.calls.Routine.{Routine}
@@ -15,7 +15,7 @@ use Rattle.m3_values.specs.Programs.{Program}
 use Rattle.m3_values.specs.Methods.{procedure_of}
 use Rattle.m3_values.specs.Places.{Thing, Is}
 use Rattle.m3_values.specs.Store.{bytes_of, kind_of_object}
-use Rattle.m3_source_meaning.specs.Meanings.{Evaluates, Acts, given, done, fault, undefined, there, seeing, unless, acting, raising, holding, holding_all, ◌>>=◌, ◌>>◌}
+use Rattle.m3_source_meaning.specs.Meanings.{Evaluates, Acts, given, done, fault, undefined, there, seeing, acting, raising, holding_all, ◌>>=◌, ◌>>◌}
 use Rattle.m3_source_meaning.specs.Phrases.{Expression}
 use Rattle.m3_source_meaning.specs.Operators.{not_nil, in_range}
 use Rattle.m3_source_meaning.specs.Constructors.{in_order}

@@ -3,9 +3,9 @@
 -- pass it on; and a procedure inside the variable's own reaches the variable by its name. Nothing
 -- else makes a place of a variable known to others: no reference leads to one, and no place is a
 -- value. So no other activation reads or writes a variable of which none of this is so.
-use Rattle.std.specs.Prelude.{ℕ, suc, ◌==◌, ◌&&◌, ◌||◌, not, Bool, true, false, List, [], ◌∷◌, ◌++◌, length, map, Option, Some, None, nat_lt, slice_get}
+use Rattle.std.specs.Prelude.{ℕ, suc, ◌==◌, ◌&&◌, ◌||◌, not, Bool, true, false, List, [], ◌∷◌, ◌++◌, length, map, Option, Some, None, nat_lt}
 use Rattle.std.specs.Option.{option_map_or, option_and_then}
-use Rattle.std.specs.List.{list_any, flat_map, filter, range_with_len}
+use Rattle.std.specs.List.{list_any, filter, range_with_len}
 use Rattle.m3_core.specs.declared.calls.Actual.TheFolds as expression_folds
 use Rattle.m3_core.specs.declared.calls.Actual.TheOpen as layer
 use Rattle.m3_core.specs.declared.calls.BuiltinCall.{BuiltinCall}
@@ -197,8 +197,9 @@ module _ (p : Program) where
   abbrev pub owner_to : (limit : ℕ) → (procedure level : ℕ) → Option ℕ
   owner_to ℕ.zero q level = None
   owner_to (suc limit) q level = elim (nat_lt level (level_of q)) [
-      true ↦ option_and_then (λ o. owner_to limit o level) (outer_of q)
-    | false ↦ Some q ]
+    | true ↦ option_and_then (λ o. owner_to limit o level) (outer_of q)
+    | false ↦ Some q
+  ]
 
   abbrev pub is_owner : (procedure : ℕ) → Option ℕ → Bool
   is_owner q None = false

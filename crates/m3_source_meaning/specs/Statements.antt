@@ -1,14 +1,14 @@
 -- STATEMENTS: one line for each form of the checked tree, from the meanings of its parts. What the
 -- words of a line mean is said in Assignment, Blocks, Branches, Loops and Exceptions.
-use Rattle.std.specs.Prelude.{ℕ, List, [], ◌∷◌, map, Option, Some, None}
+use Rattle.std.specs.Prelude.{List, map}
 use Rattle.std.specs.Option.{option_map}
 use Rattle.m3_core.specs.declared.exprs.CoreExpr.{CoreExpr}
 use Rattle.m3_core.specs.declared.stmts.CoreStmt.{CoreStmt}
 use Rattle.m3_core.specs.declared.stmts.CoreStmt.TheFolds as folds
 use Rattle.m3_core.specs.declared.stmts.CoreStmt.TheOpen as layer
 use Rattle.m3_values.specs.Programs.{Program}
-use Rattle.m3_source_meaning.specs.Meanings.{Evaluates, Acts, given, done, ◌>>=◌}
-use Rattle.m3_source_meaning.specs.Phrases.{Here, Expression, Chained}
+use Rattle.m3_source_meaning.specs.Meanings.{Evaluates, Acts, done, ◌>>=◌}
+use Rattle.m3_source_meaning.specs.Phrases.{Here, Expression}
 use Rattle.m3_source_meaning.specs.Expressions.{expression, chain, routine}
 use Rattle.m3_source_meaning.specs.Assignment.{assignment, change}
 use Rattle.m3_source_meaning.specs.Blocks.{in_turn, block, with}

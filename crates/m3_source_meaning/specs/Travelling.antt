@@ -1,6 +1,6 @@
 -- What travels between activations: results, and exceptions with their arguments.
-use Rattle.std.specs.Prelude.{ℕ, ℤ, pos, Bool, true, false, List, Option, Some, None, slice_get}
-use Rattle.std.specs.Option.{option_map, option_map_or, option_and_then}
+use Rattle.std.specs.Prelude.{ℕ, Bool, true, false, Option, Some, None, slice_get}
+use Rattle.std.specs.Option.{option_map, option_and_then}
 use Rattle.m3_core.specs.declared.program.ExcDef.{ExcDef}
 use Rattle.m3_types.specs.declared.nodes.TypeId.{TypeId}
 use Rattle.m3_runs.specs.Languages.{Answer, Gives, Raises, Fails}
