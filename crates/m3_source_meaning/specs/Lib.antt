@@ -17,3 +17,4 @@ pub mod Sharing
 pub mod Procedures
 pub mod Showing
 pub mod Programs
+pub mod Reach
