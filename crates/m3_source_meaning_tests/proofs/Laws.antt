@@ -1,0 +1,85 @@
+-- The laws.
+use Rattle.std.proofs.Common.{◌≡◌, ℕ, Bool, true, false, List, [], ◌∷◌, Option, Some, None, refl, sym, ap, ◌∙◌, subst}
+use Rattle.m3_base.specs.declared.outcomes.FaultKind.{FaultKind}
+use Rattle.m3_base.specs.declared.places.Pos.{Pos}
+use Rattle.m3_core.specs.declared.exprs.Compared.TheVariants.{Structures}
+use Rattle.m3_runs.specs.Languages.{New, Parts}
+use Rattle.m3_runs.specs.Laws.{IsDetermined}
+use Rattle.m3_runs.proofs.Once.{runs_once}
+use Rattle.m3_runs.proofs.Courses as courses
+use Rattle.m3_runs.proofs.Growing as growing
+use Rattle.m3_values.specs.Programs.{Program}
+use Rattle.m3_values.specs.Places.{Thing}
+use Rattle.m3_values.specs.Store.{Cell, Store, with_new_cell}
+use Rattle.m3_source_meaning.specs.Meanings.{Evaluates, fault, holding, ◌>>=◌}
+use Rattle.m3_source_meaning.specs.Phrases.{Expression, Operated}
+use Rattle.m3_source_meaning.specs.Operators.{is_structural, relation_of, both_read, operated_on, first_operated, operated_further, operations}
+use Rattle.m3_source_meaning.specs.Programs as programs
+use Rattle.m3_source_meaning.specs.Programs.{Activity, language, goes_on}
+use Rattle.m3_source_meaning_tests.specs.Laws.{HasOneRun, GoesOn, OutputGrows, BudgetEnds, EveryTurnEnds, LeftFaultsFirst, IsAssociative, FinallyNothing, FinallyReplaces, NothingHandled, ElseHandlesAll, ExitEndsLoop}
+
+-- ---- runs
+
+module _ (p : Program) where
+  made_once : (parts : Parts Activity Thing Store) (new : New Thing) (v v' : Option Thing) (after after' : Parts Activity Thing Store) → programs.Makes p parts new v after → programs.Makes p parts new v' after' → v ≡ v'
+  made_once parts new v v' after after' (programs.makes c e) (programs.makes c' e') = refl
+
+  after_once : (parts : Parts Activity Thing Store) (new : New Thing) (v v' : Option Thing) (after after' : Parts Activity Thing Store) → programs.Makes p parts new v after → programs.Makes p parts new v' after' → after ≡ after'
+  after_once parts new v v' after after' (programs.makes c e) (programs.makes c' e') =
+      let q : Some c ≡ Some c' = sym e ∙ e' in
+      let same : c ≡ c' = cc in
+      ap (λ i. record parts { memory = with_new_cell i parts.memory }) same
+
+  determined : IsDetermined (language p)
+  determined = record {
+    enters = λ ss q environment vs m e e' h h'. sym h ∙ h';
+    goes = λ s a m move move' h h'. sym h ∙ h';
+    made = λ parts n new v v' after after'. made_once parts new v v' after after';
+    makes = λ parts n new v v' after after'. after_once parts new v v' after after';
+    collects = λ parts after after' e e'. sym e ∙ e';
+  }
+
+pub one_run : HasOneRun
+one_run p given = runs_once (language p) (determined p) given
+
+pub goes_further : GoesOn
+goes_further p given = courses.goes_on (language p) given
+
+pub output_grows : OutputGrows
+output_grows p given = growing.output_grows (language p) given
+
+pub budget_ends : BudgetEnds
+budget_ends p given = growing.budget_ends (language p) given
+
+pub every_turn_ends : EveryTurnEnds
+every_turn_ends p s answer store = record { move = goes_on p s answer store; goes = refl }
+
+-- ---- expressions
+
+first_faults : (structural : Bool) (first : Expression) (o : Operated) (kind : FaultKind) (at : Pos) → first.value ≡ fault kind at → first.unread ≡ fault kind at → first_operated structural first o ≡ fault kind at
+first_faults true first o kind at value unread = ap (λ e. e >>= (λ left. holding left o.right.unread >>= both_read (relation_of o.operator) Structures left)) unread
+first_faults false first o kind at value unread = ap (λ e. e >>= operated_on first.pos o) value
+
+pub left_faults_first : LeftFaultsFirst
+left_faults_first first o os kind at value unread =
+    ap (λ e. e >>= operated_further first.pos os) (first_faults (is_structural o.operator) first o kind at value unread)
+
+-- ---- statements
+
+pub associative : IsAssociative
+associative r s t = refl
+
+pub finally_nothing : FinallyNothing
+finally_nothing p here body = refl
+
+pub finally_replaces : FinallyReplaces
+finally_replaces p here v u r = (refl, refl, refl)
+
+pub nothing_handled : NothingHandled
+nothing_handled p here body nothing = refl
+
+pub else_handles_all : ElseHandlesAll
+else_handles_all p here other v r = (refl, refl, refl)
+
+pub exit_ends_loop : ExitEndsLoop
+exit_ends_loop = refl
