@@ -22,19 +22,13 @@ use Rattle.m3_core.specs.declared.stmts.Else.{Else, roll-Else}
 use Rattle.m3_core.specs.declared.stmts.Handler.{Handler, roll-Handler}
 use Rattle.m3_core.specs.declared.stmts.TypeBranch.{TypeBranch, roll-TypeBranch}
 use Rattle.m3_values.specs.Programs.{Program}
+use Rattle.m3_source_meaning.specs.Trees.{Tree, StatementTree}
 use Rattle.m3_source_meaning.specs.Meanings.{Acts}
 use Rattle.m3_source_meaning.specs.Phrases.{Here, Expression, Chained, Based, Stepped, Operated, Adding, Valued, Passing, Served}
 use Rattle.m3_source_meaning.specs.Branches.{Otherwise, Conditional, Labelled, Typed}
 use Rattle.m3_source_meaning.specs.Exceptions.{Handling}
 use Rattle.m3_source_meaning.specs.Expressions.{actual_of, base_of, step_of, expression_of, set_element_of, routine_of, chain_of, binding_of, field_of, operation_of, expression, chain, routine}
 use Rattle.m3_source_meaning.specs.Statements.{statement_of, arm_of, branch_of, else_of, handler_of, type_branch_of, statement}
-
--- a node over trees
-abbrev pub Tree : (Type 0 → Type 0 → Type 0 → Type 0 → Type 0 → Type 0 → Type 0 → Type 0 → Type 0 → Type 0 → Type 0) → Type 0
-Tree Node = Node Actual Base Step CoreExpr SetElement BuiltinCall Chain Binding FieldValue Operation
-
-abbrev pub StatementTree : (Type 0 → Type 0 → Type 0 → Type 0 → Type 0 → Type 0 → Type 0) → Type 0
-StatementTree Node = Node CoreStmt Arm CaseBranch Else Handler TypeBranch
 
 module _ (p : Program) (here : Here) where
   abbrev pub actual : Actual → Passing

@@ -18,3 +18,4 @@ pub mod Procedures
 pub mod Showing
 pub mod Programs
 pub mod Reach
+pub mod Trees

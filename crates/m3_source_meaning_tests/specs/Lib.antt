@@ -1,3 +1,4 @@
 pub mod Trees
 pub mod Example
 pub mod Laws
+pub mod Growing

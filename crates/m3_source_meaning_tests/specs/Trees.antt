@@ -17,7 +17,7 @@ use Rattle.m3_core.specs.declared.program.ProcDef.{ProcDef}
 use Rattle.m3_core.specs.declared.stmts.CoreStmt.{CoreStmt, roll-CoreStmt}
 use Rattle.m3_core.specs.declared.stmts.CoreStmt.TheOpen as statement
 use Rattle.m3_values.specs.Programs.{Program}
-use Rattle.m3_source_meaning.proofs.Trees.{Tree, StatementTree}
+use Rattle.m3_source_meaning.specs.Trees.{Tree, StatementTree}
 
 abbrev pub to : {A : Type 0} → A → Bor A
 to x = record { ref_ptr = (0, 0); now = x }
