@@ -83,7 +83,8 @@ module _ (p : Program) (here : Here) where
 
   -- the variable as its declaration has it
   abbrev pub declared : ℕ → Option VarDef
-  declared x = option_and_then (λ (q : ProcDef). slice_get (variables_of q) x) (procedure_at p here.procedure)
+  declared x = option_and_then (λ (q : ProcDef). slice_get (variables_of q) x)
+      (procedure_at p here.procedure)
 
   abbrev pub bound_in : Bool → ℕ → Thing → Memory → Memory
   bound_in true x thing m = record m { store = with_shared here.activation x thing m.store }
@@ -94,7 +95,8 @@ module _ (p : Program) (here : Here) where
   bound x thing = changing (λ m. Some (bound_in (is_shared_here p here x) x thing m))
 
   abbrev pub default_for : ℕ → Evaluates Value
-  default_for x = there (option_map (λ (v : VarDef). default_of p (type_of_variable v.kind)) (declared x))
+  default_for x =
+      there (option_map (λ (v : VarDef). default_of p (type_of_variable v.kind)) (declared x))
 
   -- variables with their defaults, in order
   abbrev pub each_made : List ℕ → Acts

@@ -54,7 +54,8 @@ chosen true branch others = branch
 chosen false branch others = others
 
 abbrev pub case_of : Pos → List Labelled → Otherwise → ℤ → Acts
-case_of at [] otherwise z = otherwise_or (fault fault_kind.NoCase at) otherwise.is_written otherwise.body
+case_of at [] otherwise z =
+    otherwise_or (fault fault_kind.NoCase at) otherwise.is_written otherwise.body
 case_of at (b ∷ bs) otherwise z = chosen (is_labelled b.ranges z) b.body (case_of at bs otherwise z)
 
 abbrev pub case_value : Pos → List Labelled → Otherwise → Value → Acts
@@ -83,7 +84,8 @@ module _ (p : Program) (here : Here) where
 
   -- the first branch with a type of the value: NIL has each
   abbrev pub type_case : Pos → List Typed → Otherwise → Value → Acts
-  type_case at [] otherwise v = otherwise_or (fault fault_kind.NoTypecase at) otherwise.is_written otherwise.body
+  type_case at [] otherwise v =
+      otherwise_or (fault fault_kind.NoTypecase at) otherwise.is_written otherwise.body
   type_case at (b ∷ bs) otherwise v = do
     is_it ← is_of_any b.types v
     chosen is_it (with_variable b.variable v b.body) (type_case at bs otherwise v)

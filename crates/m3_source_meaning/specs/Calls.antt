@@ -39,7 +39,8 @@ module _ (p : Program) where
   -- ---- actuals
 
   abbrev pub mode_of : List Formal → ℕ → Mode
-  mode_of formals formal = option_map_or (λ (f : Formal). f.mode) (slice_get formals formal) mode.Value
+  mode_of formals formal =
+      option_map_or (λ (f : Formal). f.mode) (slice_get formals formal) mode.Value
 
   -- A VALUE formal gets the value; of an open array it gets a copy, and the actual stays a place
   -- until then.
@@ -64,7 +65,8 @@ module _ (p : Program) where
     given (formal, Passes thing)
 
   -- in the order of evaluation; what was evaluated is held
-  abbrev pub each_actual : List Formal → (before : List (ℕ × Passed)) → List Passing → Evaluates (List (ℕ × Passed))
+  abbrev pub each_actual : List Formal → (before : List (ℕ × Passed)) → List Passing
+      → Evaluates (List (ℕ × Passed))
   each_actual formals before [] = given before
   each_actual formals before (a ∷ more) = do
     x ← holding_all (map (λ b. thing_of b.1) before) (actual formals a)
@@ -108,7 +110,8 @@ module _ (p : Program) where
     v ← result_of p a
     given (Is v)
 
-  abbrev pub call_with : List Formal → (first : List Thing) → ℕ → Option ℕ → List Passing → Evaluates Thing
+  abbrev pub call_with : List Formal → (first : List Thing) → ℕ → Option ℕ → List Passing
+      → Evaluates Thing
   call_with formals first procedure around actuals = do
     passed ← holding_all first (each_actual formals [] actuals)
     things ← holding_all first (each_copied (in_order passed))
@@ -117,7 +120,8 @@ module _ (p : Program) where
   -- a procedure value of a type is called
   abbrev pub call_of : Before → List Passing → Value → Evaluates Thing
   call_of before actuals (Procedure procedure around) =
-      call_with (option_map_or (λ t. formals_in (node_of p t)) before.kind []) [] procedure around actuals
+      call_with (option_map_or (λ t. formals_in (node_of p t)) before.kind []) [] procedure around
+      actuals
   call_of before actuals Nil = fault fault_kind.Nil before.pos
   call_of before actuals _ = undefined
 
@@ -135,7 +139,8 @@ module _ (p : Program) where
   abbrev pub method_of : Pos → (owner method : ℕ) → List Passing → Value → Evaluates Thing
   method_of at owner method actuals object = do
     kind ← seeing (λ m. kind_of_object p m.store object)
-    bound_call at (signature_of (slice_get (methods_in (node_of p owner)) method)) actuals object (procedure_of p kind (method_place p owner method))
+    bound_call at (signature_of (slice_get (methods_in (node_of p owner)) method)) actuals object
+        (procedure_of p kind (method_place p owner method))
 
   -- a method of an object, which becomes the first actual
   abbrev pub method_call : Pos → (owner method : ℕ) → List Passing → Value → Evaluates Thing

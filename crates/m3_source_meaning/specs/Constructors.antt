@@ -132,11 +132,13 @@ module _ (p : Program) where
 
   abbrev pub stored : ℕ → List Valued → List Value → Acts
   stored c (b ∷ bs) (v ∷ vs) =
-      writing (further (whole (Referent c)) (A_field (cell_field b.owner b.field))) v >> stored c bs vs
+      writing (further (whole (Referent c)) (A_field (cell_field b.owner b.field))) v
+      >> stored c bs vs
   stored c _ _ = done
 
   -- gives a new cell its defaults and its bindings
-  abbrev pub furnished : (kind : ℕ) → (sizes : List ℕ) → List Valued → List Value → Value → Evaluates Value
+  abbrev pub furnished : (kind : ℕ) → (sizes : List ℕ) → List Valued → List Value → Value
+      → Evaluates Value
   furnished kind sizes bs vs (Pointer c) = do
     changing (held_in (Referent c) (first_content (node_of p kind) kind sizes))
     stored c bs vs

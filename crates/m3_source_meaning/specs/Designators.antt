@@ -26,7 +26,8 @@ stands_for name (At place) = At place
 abbrev pub outwards : (steps : ℕ) → Store → ℕ → Option ℕ
 outwards zero store activation = Some activation
 outwards (suc steps) store activation =
-    option_and_then (outwards steps store) (option_and_then (λ (k : Kept). k.around) (kept_at store activation))
+    option_and_then (outwards steps store)
+    (option_and_then (λ (k : Kept). k.around) (kept_at store activation))
 
 module _ (p : Program) (here : Here) where
   abbrev pub is_shared_here : ℕ → Bool
@@ -96,7 +97,8 @@ module _ (p : Program) (here : Here) where
 
   abbrev pub element_at : Pos → Option ℕ → Place → (array index : Value) → Evaluates Thing
   element_at at kind place array (Ordinal z) =
-      element_there at place (count array) (count_of (z -ℤ option_map_or (first_index p) kind (pos 0)))
+      element_there at place (count array)
+      (count_of (z -ℤ option_map_or (first_index p) kind (pos 0)))
   element_at at kind place array _ = undefined
 
   abbrev pub element_step : Expression → Option ℕ → Thing → Evaluates Thing
@@ -140,7 +142,8 @@ module _ (p : Program) (here : Here) where
   -- the same without a read at their end
   abbrev pub stepping_unread : Before → List Stepped → Thing → Evaluates Thing
   stepping_unread before [] thing = given thing
-  stepping_unread before (s ∷ []) thing = elim s.is_read [ true ↦ given thing | false ↦ s.goes before thing ]
+  stepping_unread before (s ∷ []) thing =
+      elim s.is_read [ true ↦ given thing | false ↦ s.goes before thing ]
   stepping_unread before (s ∷ t ∷ steps) thing =
       s.goes before thing >>= stepping_unread (record before { kind = s.kind }) (t ∷ steps)
 

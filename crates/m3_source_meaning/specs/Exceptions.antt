@@ -52,7 +52,8 @@ module _ (p : Program) (here : Here) where
 
   -- RETURN and EXIT are exceptions without a name: only the ELSE handles them
   abbrev pub unless_handled : Otherwise → Acts → Acts
-  unless_handled otherwise leaving = elim otherwise.is_written [ true ↦ otherwise.body | false ↦ leaving ]
+  unless_handled otherwise leaving =
+      elim otherwise.is_written [ true ↦ otherwise.body | false ↦ leaving ]
 
   abbrev pub exiting : Acts
   exiting around now exits = exits.exit now
@@ -72,7 +73,9 @@ module _ (p : Program) (here : Here) where
   abbrev pub try_finally : (body last : Acts) → Acts
   try_finally body last around now exits = body around now (record {
     gives = λ u later. last around later (record exits { gives = λ w after. exits.gives u after });
-    raised = λ r later. holding_all (kept_value r.argument) last around later (record exits { gives = λ w after. exits.raised r after });
+    raised = λ r later. holding_all (kept_value r.argument) last around later
+        (record exits { gives = λ w after. exits.raised r after });
     exit = λ later. last around later (record exits { gives = λ w after. exits.exit after });
-    return = λ v later. holding_all (kept_value v) last around later (record exits { gives = λ w after. exits.return v after });
+    return = λ v later. holding_all (kept_value v) last around later
+        (record exits { gives = λ w after. exits.return v after });
   })

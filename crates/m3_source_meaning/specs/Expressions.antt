@@ -23,7 +23,8 @@ use Rattle.m3_source_meaning.specs.Calls.{call_of, method_call}
 use Rattle.m3_source_meaning.specs.Routines.{routine_call}
 
 -- a node of the tree whose parts are known by their meanings
-abbrev pub Over : (Type 0 → Type 0 → Type 0 → Type 0 → Type 0 → Type 0 → Type 0 → Type 0 → Type 0 → Type 0 → Type 0) → Type 0
+abbrev pub Over : (Type 0 → Type 0 → Type 0 → Type 0 → Type 0 → Type 0 → Type 0 → Type 0 → Type 0
+    → Type 0 → Type 0) → Type 0
 Over Node = Node Passing Based Stepped Expression Adding Served Chained Valued Valued Operated
 
 abbrev pub type_of : Option TypeId → Option ℕ
@@ -97,7 +98,8 @@ module _ (p : Program) (here : Here) where
       stepped (Some kind.0) (λ before. by_value p here (dereferenced p here before.pos))
   step_of (layer.Field f kind) = stepped (Some kind.0) (λ before. field_step p here f)
   step_of (layer.ObjectField owner f kind) =
-      stepped (Some kind.0) (λ before. by_value p here (object_field_of p here before.pos owner.0 f))
+      stepped (Some kind.0)
+      (λ before. by_value p here (object_field_of p here before.pos owner.0 f))
   step_of (layer.Element index kind) =
       stepped (Some kind.0) (λ before. element_step p here index.now before.kind)
   step_of (layer.Call actuals kind) =
@@ -151,9 +153,11 @@ module _ (p : Program) (here : Here) where
   expression_of (layer.Number at kind n) = plain at kind (given (Ordinal n))
   expression_of (layer.Text at kind text) = plain at kind (given (Text text))
   expression_of (layer.Nil at kind) = plain at kind (given Nil)
-  expression_of (layer.Procedure at kind procedure) = plain at kind (given (Procedure procedure None))
+  expression_of (layer.Procedure at kind procedure) =
+      plain at kind (given (Procedure procedure None))
   expression_of (layer.InnerProcedure at kind procedure) = plain at kind (inner_procedure procedure)
-  expression_of (layer.Constant at kind value) = plain at kind (there (constant_at p kind.0 value.0))
+  expression_of (layer.Constant at kind value) =
+      plain at kind (there (constant_at p kind.0 value.0))
   expression_of (layer.Chain chain) = of_chain chain.now
   expression_of (layer.Builtin call) = of_call call.now
   expression_of (layer.Prefixed at kind operators operand) =
@@ -170,19 +174,27 @@ module _ (p : Program) (here : Here) where
   expression_of (layer.TypeTest at kind operand tested) =
       plain at kind (operand.now.value >>= type_test p tested.0)
   expression_of (layer.ArrayLimit at kind limit array) = plain at kind
-      (array_limit p limit (option_and_then (λ t. option_and_then (bounds p) (index_in (node_of p t))) array.now.kind) array.now)
+      (array_limit p limit
+      (option_and_then (λ t. option_and_then (bounds p) (index_in (node_of p t))) array.now.kind)
+      array.now)
 
   -- ---- whole trees
 
   -- THE MEANING OF AN EXPRESSION in an activation
   abbrev pub expression : CoreExpr → Expression
-  expression = folds.fold-CoreExpr Passing Based Stepped Expression Adding Served Chained Valued Valued Operated
-      actual_of base_of step_of expression_of set_element_of routine_of chain_of binding_of field_of operation_of
+  expression = folds.fold-CoreExpr
+      Passing Based Stepped Expression Adding Served Chained Valued Valued Operated
+      actual_of base_of step_of expression_of set_element_of routine_of chain_of binding_of
+      field_of operation_of
 
   abbrev pub chain : Chain → Chained
-  chain = folds.fold-Chain Passing Based Stepped Expression Adding Served Chained Valued Valued Operated
-      actual_of base_of step_of expression_of set_element_of routine_of chain_of binding_of field_of operation_of
+  chain = folds.fold-Chain
+      Passing Based Stepped Expression Adding Served Chained Valued Valued Operated
+      actual_of base_of step_of expression_of set_element_of routine_of chain_of binding_of
+      field_of operation_of
 
   abbrev pub routine : BuiltinCall → Served
-  routine = folds.fold-BuiltinCall Passing Based Stepped Expression Adding Served Chained Valued Valued Operated
-      actual_of base_of step_of expression_of set_element_of routine_of chain_of binding_of field_of operation_of
+  routine = folds.fold-BuiltinCall
+      Passing Based Stepped Expression Adding Served Chained Valued Valued Operated
+      actual_of base_of step_of expression_of set_element_of routine_of chain_of binding_of
+      field_of operation_of

@@ -32,7 +32,8 @@ passing = acting Passes >>= (λ a. done)
 -- each that isn't the last takes one.
 abbrev pub again : (limit : ℕ) → Evaluates Bool → Acts
 again zero turn = undefined
-again (suc limit) turn = turn >>= (λ goes_on. elim goes_on [ true ↦ again limit turn | false ↦ done ])
+again (suc limit) turn =
+    turn >>= (λ goes_on. elim goes_on [ true ↦ again limit turn | false ↦ done ])
 
 abbrev pub repeatedly : Evaluates Bool → Acts
 repeatedly turn around now = again (suc (length now.answers)) turn around now
@@ -86,7 +87,8 @@ module _ (p : Program) (here : Here) where
   abbrev pub counting : (limit : ℕ) → (variable : ℕ) → (step last value : ℤ) → Acts → Acts
   counting zero x step last z body = undefined
   counting (suc limit) x step last z body = elim (is_further step last z) [
-    | true ↦ (for_turn x z body >>= (λ ends. elim ends [ true ↦ counting limit x step last (z +ℤ step) body | false ↦ done ]))
+    | true ↦ (for_turn x z body >>= (λ ends.
+        elim ends [ true ↦ counting limit x step last (z +ℤ step) body | false ↦ done ]))
     | false ↦ done
   ]
 

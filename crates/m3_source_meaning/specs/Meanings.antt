@@ -131,7 +131,8 @@ seeing look around now exits = there (look now.memory) around now exits
 -- memory becomes another one
 abbrev pub changing : (Memory → Option Memory) → Acts
 changing change around now =
-    (there (change now.memory) >>= (λ memory around later exits. exits.gives tt (record later { memory = memory }))) around now
+    (there (change now.memory) >>= (λ memory around later exits.
+    exits.gives tt (record later { memory = memory }))) around now
 
 abbrev pub reading : Place → Evaluates Value
 reading place = seeing (λ m. read m place)
@@ -153,7 +154,8 @@ standing around now =
 abbrev pub answered : Action Thing → Around → Now → List Told → Exits (Answer Thing) → End
 answered action around now [] exits = Waits action (standing around now) now.memory.store
 answered action around now (told ∷ answers) exits =
-    exits.gives told.answer (record { memory = record now.memory { store = told.store }; answers = answers })
+    exits.gives told.answer
+    (record { memory = record now.memory { store = told.store }; answers = answers })
 
 abbrev pub acting : Action Thing → Evaluates (Answer Thing)
 acting action around now = answered action around now now.answers

@@ -40,7 +40,8 @@ if_is false false thing = thing
 if_is _ _ thing = None
 
 -- those that are shared, or those that aren't
-abbrev pub part_of : (shared : List ℕ) → (wanted : Bool) → (at : ℕ) → List (Option Thing) → Variables
+abbrev pub part_of : (shared : List ℕ) → (wanted : Bool) → (at : ℕ) → List (Option Thing)
+    → Variables
 part_of shared wanted at [] = []
 part_of shared wanted at (thing ∷ things) =
     if_is wanted (is_among shared at) thing ∷ part_of shared wanted (suc at) things
@@ -73,7 +74,8 @@ module _ (p : Program) where
   abbrev pub global_defaults : (at : ℕ) → List VarDef → Acts
   global_defaults at [] = done
   global_defaults at (v ∷ vs) =
-      writing (whole (Global at)) (default_of p (type_of_variable v.kind)) >> global_defaults (suc at) vs
+      writing (whole (Global at)) (default_of p (type_of_variable v.kind))
+      >> global_defaults (suc at) vs
 
   abbrev pub initial_value : Here → (at : ℕ) → Option CoreExpr → Acts
   initial_value here at None = done
@@ -118,7 +120,8 @@ module _ (p : Program) where
   abbrev pub ways_out : ProcDef → Exits (Unit {0})
   ways_out q = record {
     gives = λ u now. at_end q (has_result q) now.memory.store;
-    raised = λ r now. leaves_raised q (may_raise (option_map (λ es. es.now) q.raises) r.exception) r now.memory.store;
+    raised = λ r now.
+        leaves_raised q (may_raise (option_map (λ es. es.now) q.raises) r.exception) r now.memory.store;
     exit = λ now. Undefined;
     return = λ v now. Left (Gives (option_map Is v)) now.memory.store;
   }

@@ -72,7 +72,8 @@ module _ (p : Program) where
   first_activation s =
       record { here = s.here; first = s.memory; told = []; standing = no_standing }
 
-  abbrev pub begins_with : (procedure : ℕ) → (around : Option ℕ) → List Thing → Store → Option ProcDef → Moves
+  abbrev pub begins_with : (procedure : ℕ) → (around : Option ℕ) → List Thing → Store
+      → Option ProcDef → Moves
   begins_with procedure around formals store None = Breaks
   begins_with procedure around formals store (Some q) =
       goes_within (first_activation (start_of p procedure q around formals store)) (Some q)
@@ -115,10 +116,12 @@ module _ (p : Program) where
   abbrev pub new_cell : Store → New Thing → Option Cell
   new_cell store (run.Cell kind sizes) = Some (Made kind Nil 0)
   new_cell store (run.Concatenated t u) =
-      option_and_then (λ bytes. option_map (λ more. Bytes (bytes ++ more)) (text store u)) (text store t)
+      option_and_then (λ bytes. option_map (λ more. Bytes (bytes ++ more)) (text store u))
+      (text store t)
   new_cell store (run.ByteText v) = option_map (λ n. Bytes (n ∷ [])) (natural v)
   new_cell store (run.Subtext t from count) =
-      option_and_then (λ bytes. option_and_then (λ i. option_map (λ n. Bytes (take n (drop i bytes)))
+      option_and_then (λ bytes. option_and_then (λ i.
+      option_map (λ n. Bytes (take n (drop i bytes)))
       (natural count)) (natural from)) (text store t)
   new_cell store (run.ThreadCell n) = Some (Forked n None false)
 
@@ -202,7 +205,8 @@ module _ (p : Program) where
   -- a thread calls the method `apply` of its closure, the first of its type
   abbrev pub begun : Store → Value → Option (Begun Activity Thing)
   begun store closure =
-      option_map (applied closure) (option_and_then (λ kind. procedure_of p kind 0) (kind_of_object p store closure))
+      option_map (applied closure)
+      (option_and_then (λ kind. procedure_of p kind 0) (kind_of_object p store closure))
 
   abbrev pub main_of : List ℕ → Begun Activity Thing
   main_of [] = record { action = Passes; lowest = Bodies [] }
@@ -222,7 +226,8 @@ module _ (p : Program) where
   -- THE LANGUAGE
   abbrev pub language : Language Activity Thing Store
   language = record {
-    enters = λ stack procedure environment formals store entered. Begins (begins procedure environment formals store) ≡ entered;
+    enters = λ stack procedure environment formals store entered.
+        Begins (begins procedure environment formals store) ≡ entered;
     goes = λ s answer store move. goes_on s answer store ≡ move;
     shows = shown_by;
     makes = λ parts n new v after. Makes parts new v after;
@@ -252,6 +257,7 @@ abbrev pub SourceState : Type 0
 SourceState = State Activity Thing Store
 
 -- the run of a program from its start, under a schedule, after so many turns
-abbrev pub SourceRuns : Core → Given → List Entry → (turns : ℕ) → Result Activity Thing Store → Type 0
+abbrev pub SourceRuns : Core → Given → List Entry → (turns : ℕ) → Result Activity Thing Store
+    → Type 0
 SourceRuns core given schedule turns result =
     Runs (core_language core) given (start (core_language core)) schedule turns result

@@ -86,7 +86,8 @@ module _ (p : Program) where
     given (n, v)
 
   -- the actuals in the order of evaluation
-  abbrev pub each_operand : (call : Pos) → Routine → List Expression → (before : List (ℕ × Value)) → (order : List ℕ) → Evaluates (List (ℕ × Value))
+  abbrev pub each_operand : (call : Pos) → Routine → List Expression
+      → (before : List (ℕ × Value)) → (order : List ℕ) → Evaluates (List (ℕ × Value))
   each_operand call r es before [] = given before
   each_operand call r es before (n ∷ ns) = do
     e ← there (slice_get es n)
@@ -177,7 +178,8 @@ module _ (p : Program) where
   abbrev pub second_place : List Expression → Pos → Pos
   second_place es call = option_map_or (λ (e : Expression). e.pos) (slice_get es 1) call
 
-  abbrev pub routine_of : Routine → (call second : Pos) → (kind : Option ℕ) → List Value → Evaluates Value
+  abbrev pub routine_of : Routine → (call second : Pos) → (kind : Option ℕ) → List Value
+      → Evaluates Value
   routine_of routine.Put at i kind (t ∷ []) = serving at (asked.Put asked.Text (Is t))
   routine_of routine.PutInt at i kind (n ∷ []) = serving at (asked.Put asked.Decimal (Is n))
   routine_of routine.PutChar at i kind (c ∷ []) = serving at (asked.Put asked.Byte (Is c))
@@ -188,7 +190,8 @@ module _ (p : Program) where
   routine_of routine.TextGetChar at i kind (t ∷ n ∷ []) = byte_in at i t n
   routine_of routine.TextLength at i kind (t ∷ []) = behind_point at (length_of t)
   routine_of routine.TextEmpty at i kind (t ∷ []) = behind_point at (is_empty t)
-  routine_of routine.TextSub at i kind (t ∷ start ∷ n ∷ []) = asking at (Makes (Subtext (Is t) (Is start) (Is n)))
+  routine_of routine.TextSub at i kind (t ∷ start ∷ n ∷ []) =
+      asking at (Makes (Subtext (Is t) (Is start) (Is n)))
   routine_of routine.TextFromChar at i kind (c ∷ []) = asking at (Makes (ByteText (Is c)))
   routine_of routine.WordPlus at i kind (x ∷ y ∷ []) = word integers.word_sum at x y
   routine_of routine.WordTimes at i kind (x ∷ y ∷ []) = word integers.word_product at x y
@@ -198,7 +201,8 @@ module _ (p : Program) where
   routine_of routine.WordLess at i kind (x ∷ y ∷ []) = word_test integers.word_less at x y
   routine_of routine.WordLessEqual at i kind (x ∷ y ∷ []) = word_test integers.word_at_most at x y
   routine_of routine.WordGreater at i kind (x ∷ y ∷ []) = word_test integers.word_less at y x
-  routine_of routine.WordGreaterEqual at i kind (x ∷ y ∷ []) = word_test integers.word_at_most at y x
+  routine_of routine.WordGreaterEqual at i kind (x ∷ y ∷ []) =
+      word_test integers.word_at_most at y x
   routine_of routine.WordAnd at i kind (x ∷ y ∷ []) = word integers.word_and at x y
   routine_of routine.WordOr at i kind (x ∷ y ∷ []) = word integers.word_or at x y
   routine_of routine.WordXor at i kind (x ∷ y ∷ []) = word integers.word_xor at x y
@@ -224,7 +228,8 @@ module _ (p : Program) where
   routine_of _ at i kind _ = undefined
 
   -- the call of a routine
-  abbrev pub routine_call : Routine → Pos → List Expression → (order : List ℕ) → (kind : Option ℕ) → Evaluates Value
+  abbrev pub routine_call : Routine → Pos → List Expression → (order : List ℕ)
+      → (kind : Option ℕ) → Evaluates Value
   routine_call r at es order kind = do
     vs ← each_operand at r es [] order
     routine_of r at (second_place es at) kind (in_order vs)

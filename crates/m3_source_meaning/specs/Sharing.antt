@@ -51,7 +51,8 @@ taken n = n.uses ++ out_of n.root
 
 -- ---- expressions
 
-abbrev pub Over : (Type 0 → Type 0 → Type 0 → Type 0 → Type 0 → Type 0 → Type 0 → Type 0 → Type 0 → Type 0 → Type 0) → Type 0
+abbrev pub Over : (Type 0 → Type 0 → Type 0 → Type 0 → Type 0 → Type 0 → Type 0 → Type 0 → Type 0
+    → Type 0 → Type 0) → Type 0
 Over Node = Node Uses Named Uses Uses Uses Uses Named Uses Uses Uses
 
 abbrev pub actual_uses : Over layer.Actual-F → Uses
@@ -109,15 +110,18 @@ expression_uses _ = []
 
 abbrev pub in_expression : CoreExpr → Uses
 in_expression = expression_folds.fold-CoreExpr Uses Named Uses Uses Uses Uses Named Uses Uses Uses
-    actual_uses base_uses step_uses expression_uses element_uses call_uses chain_uses binding_uses field_uses operation_uses
+    actual_uses base_uses step_uses expression_uses element_uses call_uses chain_uses
+    binding_uses field_uses operation_uses
 
 abbrev pub in_chain : Chain → Named
 in_chain = expression_folds.fold-Chain Uses Named Uses Uses Uses Uses Named Uses Uses Uses
-    actual_uses base_uses step_uses expression_uses element_uses call_uses chain_uses binding_uses field_uses operation_uses
+    actual_uses base_uses step_uses expression_uses element_uses call_uses chain_uses
+    binding_uses field_uses operation_uses
 
 abbrev pub in_call : BuiltinCall → Uses
 in_call = expression_folds.fold-BuiltinCall Uses Named Uses Uses Uses Uses Named Uses Uses Uses
-    actual_uses base_uses step_uses expression_uses element_uses call_uses chain_uses binding_uses field_uses operation_uses
+    actual_uses base_uses step_uses expression_uses element_uses call_uses chain_uses
+    binding_uses field_uses operation_uses
 
 -- ---- statements
 
@@ -220,7 +224,8 @@ module _ (p : Program) where
   is_shared q x = list_any (body_shares q x) (range_with_len 0 (length p.procedures))
 
   abbrev pub variable_count : ℕ → ℕ
-  variable_count q = option_map_or (λ (d : ProcDef). length (d.formals.now ++ d.locals.now)) (procedure_at p q) 0
+  variable_count q =
+      option_map_or (λ (d : ProcDef). length (d.formals.now ++ d.locals.now)) (procedure_at p q) 0
 
   -- all variables of a procedure that are
   abbrev pub shared_by : ℕ → List ℕ

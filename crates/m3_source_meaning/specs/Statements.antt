@@ -44,7 +44,8 @@ module _ (p : Program) (here : Here) where
       record { exceptions = h.exceptions.now; variable = h.variable; body = in_turn h.body.now }
 
   abbrev pub type_branch_of : Over layer.TypeBranch-F → Typed
-  type_branch_of b = record { types = b.types.now; variable = b.variable; body = in_turn b.body.now }
+  type_branch_of b =
+      record { types = b.types.now; variable = b.variable; body = in_turn b.body.now }
 
   -- ---- statements
 
@@ -62,7 +63,8 @@ module _ (p : Program) (here : Here) where
   statement_of (layer.Exit at) = exit_loop
   statement_of (layer.Eval at e) = dropped (value e.now).value
   statement_of (layer.For at variable first last step body) =
-      for p here variable (value first.now) (value last.now) (option_map (λ e. value e.now) step) (in_turn body.now)
+      for p here variable (value first.now) (value last.now) (option_map (λ e. value e.now) step)
+      (in_turn body.now)
   statement_of (layer.If at arms otherwise) = if_else arms.now otherwise
   statement_of (layer.Loop at body) = loop (in_turn body.now)
   statement_of (layer.Raise at exception argument) =

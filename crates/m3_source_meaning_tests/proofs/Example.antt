@@ -1,5 +1,4 @@
-use Rattle.std.proofs.Common.{◌≡◌, ℕ, pos, List, [], ◌∷◌, Some, None, refl, sym, ap, ◌∙◌, map}
-use Rattle.m3_base.specs.declared.places.Pos.{Pos}
+use Rattle.std.proofs.Common.{◌≡◌, ℕ, pos, List, [], ◌∷◌, Some, None, refl, ap, ◌∙◌, map}
 use Rattle.m3_core.specs.declared.exprs.CoreExpr.{CoreExpr}
 use Rattle.m3_core.specs.declared.exprs.Operator.{Operator}
 use Rattle.m3_core.specs.declared.exprs.Operator.TheVariants.{Plus, Div}
@@ -8,14 +7,13 @@ use Rattle.m3_values.specs.Programs.{Program}
 use Rattle.m3_values.specs.Values.{Ordinal}
 use Rattle.m3_source_meaning.specs.Meanings.{Acts, given}
 use Rattle.m3_source_meaning.specs.Phrases.{Here, Expression, Operated}
-use Rattle.m3_source_meaning.specs.Expressions.{expression, routine, plain, of_operations}
+use Rattle.m3_source_meaning.specs.Expressions.{expression, plain, of_operations}
 use Rattle.m3_source_meaning.specs.Statements.{statement, dropped}
 use Rattle.m3_source_meaning.specs.Routines.{routine_call}
 use Rattle.m3_source_meaning.proofs.Trees as trees
 use Rattle.m3_source_meaning.proofs.Trees.{expression_is, operation_is, routine_is, statement_is}
-use Rattle.m3_source_meaning_tests.specs.Trees.{at, integer, number, number_node, operation, operation_node, operations, operations_node, put, put_node, put_call, builtin_node, program}
-use Rattle.m3_source_meaning_tests.specs.Example.{first, second, body, example, ExamplePutsThree}
-
+use Rattle.m3_source_meaning_tests.specs.Trees.{at, integer, number, number_node, operation, operation_node, operations, operations_node, put, put_node, put_call, builtin_node}
+use Rattle.m3_source_meaning_tests.specs.Example.{second, body, example, ExamplePutsThree}
 use Rattle.std.specs.Prelude.{◌<◌}
 use Rattle.std.proofs.Common.{true, arith}
 use Rattle.m3_base.specs.declared.outcomes.FaultKind.TheVariants.{DivZero}
@@ -66,7 +64,6 @@ module _ (p : Program) (here : Here) where
   body_means =
       ap (λ m. m ∷ statement p here second ∷ []) (put_means 2 _ _ (sum_means Plus 2 1 2))
       ∙ ap (λ m. put_meaning 2 (sum Plus 2 1 2) ∷ m ∷ []) (put_means 3 _ _ (sum_means Div 3 4 0))
-
 
 -- ---- the run
 

@@ -1,5 +1,5 @@
 -- The laws.
-use Rattle.std.proofs.Common.{◌≡◌, ℕ, Bool, true, false, List, [], ◌∷◌, Option, Some, None, refl, sym, ap, ◌∙◌, subst}
+use Rattle.std.proofs.Common.{◌≡◌, Bool, true, false, Option, Some, refl, sym, ap, ◌∙◌}
 use Rattle.m3_base.specs.declared.outcomes.FaultKind.{FaultKind}
 use Rattle.m3_base.specs.declared.places.Pos.{Pos}
 use Rattle.m3_core.specs.declared.exprs.Compared.TheVariants.{Structures}
@@ -10,10 +10,10 @@ use Rattle.m3_runs.proofs.Courses as courses
 use Rattle.m3_runs.proofs.Growing as growing
 use Rattle.m3_values.specs.Programs.{Program}
 use Rattle.m3_values.specs.Places.{Thing}
-use Rattle.m3_values.specs.Store.{Cell, Store, with_new_cell}
-use Rattle.m3_source_meaning.specs.Meanings.{Evaluates, fault, holding, ◌>>=◌}
+use Rattle.m3_values.specs.Store.{Store, with_new_cell}
+use Rattle.m3_source_meaning.specs.Meanings.{fault, holding, ◌>>=◌}
 use Rattle.m3_source_meaning.specs.Phrases.{Expression, Operated}
-use Rattle.m3_source_meaning.specs.Operators.{is_structural, relation_of, both_read, operated_on, first_operated, operated_further, operations}
+use Rattle.m3_source_meaning.specs.Operators.{is_structural, relation_of, both_read, operated_on, first_operated, operated_further}
 use Rattle.m3_source_meaning.specs.Programs as programs
 use Rattle.m3_source_meaning.specs.Programs.{Activity, language, goes_on}
 use Rattle.m3_source_meaning_tests.specs.Laws.{HasOneRun, GoesOn, OutputGrows, BudgetEnds, EveryTurnEnds, LeftFaultsFirst, IsAssociative, FinallyNothing, FinallyReplaces, NothingHandled, ElseHandlesAll, ExitEndsLoop}

@@ -1,5 +1,5 @@
 -- IO.PutInt(1 + 2); IO.PutInt(4 DIV 0)
-use Rattle.std.specs.Prelude.{◌≡◌, ℕ, pos, List, [], ◌∷◌}
+use Rattle.std.specs.Prelude.{◌≡◌, pos, List, [], ◌∷◌}
 use Rattle.std.specs.Fmt.{signed_decimal}
 use Rattle.m3_base.specs.declared.outcomes.Outcome.TheVariants.{Fault}
 use Rattle.m3_base.specs.declared.outcomes.FaultKind.TheVariants.{DivZero}
@@ -28,7 +28,8 @@ example = program body
 -- it puts 3, and then faults at the operator of its third line
 pub record PutsThree (given : Given) : Type 0 where
   pub state : State Activity Thing Store
-  pub runs : Runs (language example) given (start (language example)) [] 2 (Ends state (Fault DivZero 0 3))
+  pub runs : Runs (language example) given (start (language example)) [] 2
+      (Ends state (Fault DivZero 0 3))
   pub output : state.output ≡ signed_decimal (pos 3)
 
 abbrev pub ExamplePutsThree : Type 0

@@ -1,20 +1,20 @@
 -- What the meaning of checked programs keeps to, whatever the program.
-use Rattle.std.specs.Prelude.{◌≡◌, true, false, List, [], ◌∷◌, Option, Some, None}
+use Rattle.std.specs.Prelude.{◌≡◌, true, false, List, [], ◌∷◌, Option}
 use Rattle.m3_base.specs.declared.outcomes.FaultKind.{FaultKind}
 use Rattle.m3_base.specs.declared.places.Pos.{Pos}
-use Rattle.m3_runs.specs.Languages.{Answer, Begins}
+use Rattle.m3_runs.specs.Languages.{Answer}
 use Rattle.m3_runs.specs.States.{Given}
 use Rattle.m3_runs.specs.Laws as law
 use Rattle.m3_values.specs.Values.{Value}
 use Rattle.m3_values.specs.Programs.{Program}
 use Rattle.m3_values.specs.Places.{Thing}
 use Rattle.m3_values.specs.Store.{Store}
-use Rattle.m3_source_meaning.specs.Meanings.{Evaluates, Acts, Raised, given, done, fault, raising, ◌>>=◌, ◌>>◌}
+use Rattle.m3_source_meaning.specs.Meanings.{Acts, Raised, done, fault, raising, ◌>>◌}
 use Rattle.m3_source_meaning.specs.Phrases.{Here, Expression, Operated}
 use Rattle.m3_source_meaning.specs.Operators.{operations}
 use Rattle.m3_source_meaning.specs.Branches.{Otherwise}
 use Rattle.m3_source_meaning.specs.Loops.{loop, exit_loop}
-use Rattle.m3_source_meaning.specs.Exceptions.{Handling, returning, try_except, try_finally}
+use Rattle.m3_source_meaning.specs.Exceptions.{returning, try_except, try_finally}
 use Rattle.m3_source_meaning.specs.Programs.{Activity, Moves, language}
 
 -- ---- runs
@@ -38,7 +38,8 @@ pub record Ends (p : Program) (s : Activity) (answer : Answer Thing) (store : St
 
 -- EVERY TURN ENDS
 abbrev pub EveryTurnEnds : Type 0
-EveryTurnEnds = (p : Program) (s : Activity) (answer : Answer Thing) (store : Store) → Ends p s answer store
+EveryTurnEnds =
+    (p : Program) (s : Activity) (answer : Answer Thing) (store : Store) → Ends p s answer store
 
 -- ---- expressions
 

@@ -1,14 +1,12 @@
 -- Trees written by hand.
-use Rattle.std.specs.Prelude.{ℕ, ℤ, pos, false, true, List, [], ◌∷◌, Option, Some, None}
+use Rattle.std.specs.Prelude.{ℕ, pos, true, List, [], ◌∷◌, None}
 use Rattle.std.specs.Borrow.{Bor}
 use Rattle.m3_base.specs.declared.places.Pos.{Pos}
 use Rattle.m3_types.specs.declared.nodes.TypeId.{TypeId}
 use Rattle.m3_types.specs.declared.nodes.Raises.TheVariants.{Any}
-use Rattle.m3_types.specs.declared.nodes.TypeNode.{TypeNode}
 use Rattle.m3_types.specs.declared.nodes.TypeNode.TheVariants as node
 use Rattle.m3_core.specs.declared.calls.Actual.TheOpen as layer
 use Rattle.m3_core.specs.declared.calls.BuiltinCall.{BuiltinCall, roll-BuiltinCall}
-use Rattle.m3_core.specs.declared.calls.Routine.{Routine}
 use Rattle.m3_core.specs.declared.calls.Routine.TheVariants as routine
 use Rattle.m3_core.specs.declared.exprs.CoreExpr.{CoreExpr, roll-CoreExpr}
 use Rattle.m3_core.specs.declared.exprs.Operation.{Operation, roll-Operation}

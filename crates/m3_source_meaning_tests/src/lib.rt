@@ -2,6 +2,7 @@
 #![tactic(auto)]
 
 ghost use Rattle.m3_source_meaning_tests.specs.Example.{ExamplePutsThree};
+ghost use Rattle.m3_source_meaning_tests.specs.Growing.{StoreGrows};
 ghost use Rattle.m3_source_meaning_tests.specs.Laws.{HasOneRun, GoesOn, OutputGrows, BudgetEnds, EveryTurnEnds, LeftFaultsFirst};
 ghost use Rattle.m3_source_meaning_tests.specs.Laws.{IsAssociative, FinallyNothing, FinallyReplaces, NothingHandled, ElseHandlesAll, ExitEndsLoop};
 
@@ -68,4 +69,10 @@ pub fn else_handles_all()
 /// A loop whose body is EXIT does nothing.
 pub fn exit_ends_loop()
     ensures { ExitEndsLoop }
+{}
+
+/// An activation only lets the store grow: cells and activations stay, a cell keeps its type and an
+/// activation the one around it.
+pub fn store_grows()
+    ensures { StoreGrows }
 {}

@@ -25,7 +25,11 @@ is_named name b = same_list ◌==◌ name b.name
 abbrev pub rebound : List ℕ → Option ℕ → List Bound → List Bound
 rebound name procedure [] = []
 rebound name procedure (b ∷ bs) =
-    elim (list_any (is_named name) bs) [ true ↦ b ∷ rebound name procedure bs | false ↦ elim (is_named name b) [ true ↦ record b { procedure = procedure } ∷ bs | false ↦ b ∷ bs ] ]
+    elim (list_any (is_named name) bs) [
+        true ↦ b ∷ rebound name procedure bs
+      | false ↦ elim (is_named name b) [
+            true ↦ record b { procedure = procedure } ∷ bs
+          | false ↦ b ∷ bs ] ]
 
 abbrev pub procedure_in : Option TypeNode → Option ℕ
 procedure_in (Some (node.Constant (constant.Procedure procedure))) = Some procedure
@@ -62,4 +66,5 @@ module _ (p : Program) where
 
   -- what an object of a type has bound to the method at a place; none where it is NIL
   abbrev pub procedure_of : (kind place : ℕ) → Option ℕ
-  procedure_of kind place = option_and_then (λ (b : Bound). b.procedure) (slice_get (methods_of kind) place)
+  procedure_of kind place =
+      option_and_then (λ (b : Bound). b.procedure) (slice_get (methods_of kind) place)

@@ -77,7 +77,8 @@ is_mutex_in _ = false
 
 abbrev pub first_such : (count : ℕ) → (at : ℕ) → (ℕ → Bool) → Option ℕ
 first_such zero at test = None
-first_such (suc count) at test = elim (test at) [ true ↦ Some at | false ↦ first_such count (suc at) test ]
+first_such (suc count) at test =
+    elim (test at) [ true ↦ Some at | false ↦ first_such count (suc at) test ]
 
 module _ (p : Program) where
   abbrev pub node_of : ℕ → Option TypeNode
@@ -106,7 +107,8 @@ module _ (p : Program) where
 
   -- the index of the first element: 0 of an open array
   abbrev pub first_index : ℕ → ℤ
-  first_index t = option_map_or (λ b. b.first) (option_and_then bounds (index_in (node_of t))) (pos 0)
+  first_index t =
+      option_map_or (λ b. b.first) (option_and_then bounds (index_in (node_of t))) (pos 0)
 
   -- how many elements an array type says that there are: none of an open one
   abbrev pub elements : ℕ → ℕ
