@@ -19,3 +19,4 @@ pub mod Showing
 pub mod Programs
 pub mod Reach
 pub mod Trees
+pub mod Room
