@@ -19,7 +19,7 @@ use Rattle.m3c_image_commands.specs.Reports.{Setting, Ended}
 use Rattle.m3c_image_commands.specs.ImageCommands.{by_schedule, on_input}
 use Rattle.m3c_image_commands.specs.Complete.{CutsShort, IsHeld, HoldsAll}
 use Rattle.m3c_image_commands.proofs.CompleteLemmas.{runs_whole, dumps_whole}
-use Rattle.m3c_source_commands.specs.Orders.{Commands, usage, no_words, carried_out, Fulfils, within}
+use Rattle.m3c_source_commands.specs.Orders.{Commands, usage, no_words, carried_out, Fulfils}
 use Rattle.m3c_source_commands.proofs.UsageLemmas.{never_usage}
 use Rattle.m3c.specs.Command.{Call, UsageByWords, IsCalm, IsRunComplete, IsDumpComplete, RanImage, DumpedImage, RanOut, file_of, is_name}
 

@@ -21,12 +21,12 @@ use Rattle.m3c_image_commands.specs.declared.answers.Answer.{Answer}
 use Rattle.m3c_image_commands.specs.declared.answers.Refusal.{Refusal}
 use Rattle.m3c_image_commands.specs.Statuses.{Shelving, Putting, Tells, image_cap}
 pub use Rattle.m3c_image_commands.specs.Statuses.{CountRose, Took}
-use Rattle.m3c_image_commands.specs.Reports.{Setting, Ended}
+use Rattle.m3c_image_commands.specs.Reports.{Setting, Ended, within}
 use Rattle.m3c_image_commands.specs.ImageCommands.{by_schedule, on_input}
 use Rattle.m3c_image_commands.specs.Complete.{IsHeld, HoldsAll}
 use Rattle.m3c_words.specs.Orders.{Options, run, exec, dump}
 use Rattle.m3c_words.specs.Asked.{asked, usual_options}
-use Rattle.m3c_source_commands.specs.Orders.{Fulfils, Commands, within}
+use Rattle.m3c_source_commands.specs.Orders.{Fulfils, Commands}
 
 -- ---- the words
 
@@ -57,6 +57,9 @@ pub record Call : Type 0 where
   pub out : Putting
   pub err : Putting
   pub image : List ℕ
+
+abbrev pub call_of : List (List ℕ) → Shelving → Putting → Putting → List ℕ → Call
+call_of words shelf out err image = record { words = words; file = file_of words; shelf = shelf; out = out; err = err; image = image }
 
 -- out has what it had
 abbrev pub IsSilent : Call → Type 0

@@ -10,9 +10,10 @@ ghost use Rattle.m3_ports.specs.declared.shelves.ShelfFault.TheVariants.{Absent,
 ghost use Rattle.m3_ports.specs.declared.shelves.ShelfFault.TheVariants.{NoMemory};
 ghost use Rattle.m3_plain.specs.Terms.{Term};
 ghost use Rattle.m3_plain.specs.PlainForm.{IsPlain};
-ghost use Rattle.m3c_image_commands.specs.Statuses.{Took};
+ghost use Rattle.m3c_image_commands.specs.Statuses.{Took, putting, shelving};
 ghost use Rattle.m3c_source_commands.specs.Orders.{Commands};
-ghost use Rattle.m3c.specs.Command.{file_of, is_name, Answers, IsOther, NotPlainText, Promises};
+ghost use Rattle.m3c.specs.Command.{Answers, IsOther, NotPlainText, Promises};
+ghost use Rattle.m3c.specs.Command.{call_of, file_of, is_name};
 ghost use Rattle.m3c.specs.Compiled.{Compiles, refusal, refusal_status};
 
 use crate::machine::run;
@@ -53,28 +54,9 @@ pub fn m3c<F: Shelf, O: Sink, E: Sink>(
     image: &mut Vec<u8>,
 ) -> u8
     requires { image.old.items ≡ [] }
-    ensures promises { Promises (record {
-      words = map string_bytes words.items;
-      file = file_of (map string_bytes words.items);
-      shelf = record {
-        held = (F.held shelf.old, F.held shelf.new);
-        faults = (F.faults shelf.old, F.faults shelf.new);
-        store_faults = (F.store_faults shelf.old, F.store_faults shelf.new);
-        absences = (F.absences shelf.old, F.absences shelf.new);
-        excesses = (F.excesses shelf.old, F.excesses shelf.new);
-      };
-      out = record {
-        taken = (O.taken out.old, O.taken out.new);
-        faults =
-            (O.faults out.old, O.faults out.new);
-      };
-      err = record {
-        taken = (E.taken err.old, E.taken err.new);
-        faults =
-            (E.faults err.old, E.faults err.new);
-      };
-      image = image.new.items;
-    }) result }
+    ensures promises { Promises (call_of (map string_bytes words.items)
+        (shelving F.Shelf shelf.old shelf.new) (putting O.Sink out.old out.new)
+        (putting E.Sink err.old err.new) image.new.items) result }
     ensures held { (file_of (map string_bytes words.items) ≡ None) ⊎
         (F.held shelf.new ≡ F.held shelf.old) }
     ensures image { (image.new.items ≡ []) ⊎ IsOther (file_of (map string_bytes words.items))
@@ -97,19 +79,9 @@ fn other_command<F: Shelf, O: Sink, E: Sink>(
     image: &mut Vec<u8>,
 ) -> u8
     requires { image.old.items ≡ [] }
-    ensures { Commands (map string_bytes words.now) (record {
-      held = (F.held shelf.old, F.held shelf.new);
-      faults = (F.faults shelf.old, F.faults shelf.new);
-      store_faults = (F.store_faults shelf.old, F.store_faults shelf.new);
-      absences = (F.absences shelf.old, F.absences shelf.new);
-      excesses = (F.excesses shelf.old, F.excesses shelf.new);
-    }) (record {
-      taken = (O.taken out.old, O.taken out.new);
-      faults = (O.faults out.old, O.faults out.new);
-    }) (record {
-      taken = (E.taken err.old, E.taken err.new);
-      faults = (E.faults err.old, E.faults err.new);
-    }) image.new.items result }
+    ensures { Commands (map string_bytes words.now) (shelving F.Shelf shelf.old shelf.new)
+        (putting O.Sink out.old out.new) (putting E.Sink err.old err.new)
+        image.new.items result }
 {
     match texts_of(alloc, words) {
         Ok(texts) => command(alloc, &texts, shelf, out, err, image),
@@ -140,28 +112,10 @@ fn exec_file<F: Shelf, O: Sink, E: Sink>(
     image: &mut Vec<u8>,
 ) -> u8
     requires { image.old.items ≡ [] }
-    ensures promises { (words : List (List ℕ)) → file_of words ≡ Some name.now → Promises (record {
-      words = words;
-      file = file_of words;
-      shelf = record {
-        held = (F.held shelf.old, F.held shelf.new);
-        faults = (F.faults shelf.old, F.faults shelf.new);
-        store_faults = (F.store_faults shelf.old, F.store_faults shelf.new);
-        absences = (F.absences shelf.old, F.absences shelf.new);
-        excesses = (F.excesses shelf.old, F.excesses shelf.new);
-      };
-      out = record {
-        taken = (O.taken out.old, O.taken out.new);
-        faults =
-            (O.faults out.old, O.faults out.new);
-      };
-      err = record {
-        taken = (E.taken err.old, E.taken err.new);
-        faults =
-            (E.faults err.old, E.faults err.new);
-      };
-      image = image.new.items;
-    }) result }
+    ensures promises { (words : List (List ℕ)) → file_of words ≡ Some name.now
+        → Promises (call_of words
+        (shelving F.Shelf shelf.old shelf.new) (putting O.Sink out.old out.new)
+        (putting E.Sink err.old err.new) image.new.items) result }
     ensures held { F.held shelf.new ≡ F.held shelf.old }
     ensures image { (image.new.items ≡ []) ⊎ IsOther (Some name.now) (F.held shelf.old) }
 {
@@ -221,18 +175,8 @@ fn execute<F: Shelf, O: Sink>(
     ensures answers { MatchResult result (λ status. Answers (record {
       words = [];
       file = Some name.now;
-      shelf = record {
-        held = (F.held shelf.old, F.held shelf.new);
-        faults = (F.faults shelf.old, F.faults shelf.new);
-        store_faults = (F.store_faults shelf.old, F.store_faults shelf.new);
-        absences = (F.absences shelf.old, F.absences shelf.new);
-        excesses = (F.excesses shelf.old, F.excesses shelf.new);
-      };
-      out = record {
-        taken = (O.taken out.old, O.taken out.new);
-        faults =
-            (O.faults out.old, O.faults out.new);
-      };
+      shelf = shelving F.Shelf shelf.old shelf.new;
+      out = putting O.Sink out.old out.new;
       err = record { taken = (Some [], Some line.new.items); faults = (0, 0) };
       image = [];
     }) status) (λ text. NotPlainText (Some name.now) (F.held shelf.old)) }

@@ -8,7 +8,8 @@ use Rattle.m3_image_dump.specs.Texts.{IsDump}
 use Rattle.m3c_image_commands.specs.declared.answers.Answer.{Answer}
 use Rattle.m3c_image_commands.specs.declared.answers.Refusal.{Refusal}
 use Rattle.m3c_image_commands.specs.Statuses.{Shelving, Putting, StoresNothing, PutsNothing, Took, IsRead, IsGiven, image_cap, Only, OfOptions, Cuts, Refuses}
-use Rattle.m3c_image_commands.specs.Reports.{Setting, Ended}
+use Rattle.m3c_image_commands.specs.declared.running.Run.{Run}
+use Rattle.m3c_image_commands.specs.Reports.{Setting, Ended, setting_of}
 
 -- a line of a switch file is no entry, or it has too many
 abbrev pub IsNoSchedule : List ℕ → Type 0
@@ -38,6 +39,9 @@ by_schedule setting schedule = record setting { schedule = schedule }
 
 abbrev pub on_input : Setting → List ℕ → Setting
 on_input setting input = record setting { input = input }
+
+abbrev pub setting_of_run : Run → Setting
+setting_of_run run = by_schedule (on_input (setting_of run.limits) run.input.now) run.schedule.now
 
 -- the same of bytes and a text of switches, whose schedule the run has: the bytes are tested first
 abbrev pub RunAnswer : List ℕ → List ℕ → Setting → Bool → Putting → ℕ → List ℕ → Type 0

@@ -9,6 +9,8 @@ use Rattle.m3_heap.specs.Semi.{new_heap}
 use Rattle.m3_image_sections.specs.Parts.{Image}
 use Rattle.m3_run_meaning.specs.State.{State}
 use Rattle.m3_machine.specs.RunCalls.{RunOf}
+use Rattle.m3c_words.specs.declared.limits.Limits.{Limits}
+use Rattle.m3c_words.specs.Orders.{Bounds, bounds_of}
 use Rattle.m3c_image_commands.specs.Statuses.{Putting, Took}
 
 -- the status of each outcome
@@ -63,6 +65,14 @@ pub record Setting : Type 0 where
   pub threads : ℕ
   pub schedule : List Entry
   pub input : List ℕ
+
+-- the bounds of a run, before its switches and its input are read
+abbrev pub within : Bounds → Setting
+within bounds =
+    record { points = bounds.points; heap = bounds.heap; stack = bounds.stack; threads = bounds.threads; schedule = []; input = [] }
+
+abbrev pub setting_of : Limits → Setting
+setting_of limits = within (bounds_of limits)
 
 -- A run of an image ended: it is a run of its program from the start, over a heap of two halves. Its output was put, and
 -- the status and the line are those of its outcome and its counts.

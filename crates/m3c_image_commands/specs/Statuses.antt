@@ -4,6 +4,8 @@ use Rattle.std.specs.Option.{option_map}
 use Rattle.std.specs.FinMap.{insert, get}
 use Rattle.m3_ports.specs.Counts.{Rose}
 use Rattle.m3_ports.specs.Files.{Files, IsFront, IsNotHeld, IsHeldOver, LeavesFront}
+use Rattle.m3_ports.specs.declared.shelves.Shelf.{Ghosts as ShelfGhosts}
+use Rattle.m3_ports.specs.declared.sinks.Sink.{Ghosts as SinkGhosts}
 use Rattle.m3_ports.specs.declared.shelves.ShelfFault.{ShelfFault}
 use Rattle.m3_ports.specs.declared.shelves.ShelfFault.TheVariants.{Absent, TooLong, Failed}
 use Rattle.m3c_image_commands.specs.declared.answers.Answer.{Answer}
@@ -35,6 +37,20 @@ pub record Shelving : Type 0 where
 pub record Putting : Type 0 where
   pub taken : Option (List ℕ) × Option (List ℕ)
   pub faults : ℕ × ℕ
+
+-- that of a shelf that was so before and is so after
+abbrev pub shelving : {S : Type 0} → ShelfGhosts S → S → S → Shelving
+shelving g before after = record {
+  held = (g.held before, g.held after);
+  faults = (g.faults before, g.faults after);
+  store_faults = (g.store_faults before, g.store_faults after);
+  absences = (g.absences before, g.absences after);
+  excesses = (g.excesses before, g.excesses after);
+}
+
+-- that of a sink that was so before and is so after
+abbrev pub putting : {S : Type 0} → SinkGhosts S → S → S → Putting
+putting g before after = record { taken = (g.taken before, g.taken after); faults = (g.faults before, g.faults after) }
 
 -- no file was stored
 abbrev pub StoresNothing : Shelving → Type 0

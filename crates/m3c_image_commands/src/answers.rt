@@ -1,6 +1,6 @@
 ghost use Rattle.std.specs.Prelude.{◌≡◌, ◌≤◌, ◌++◌, [], OnOk, OnErr, codes};
 ghost use Rattle.m3_ports.specs.Counts.{Rose};
-ghost use Rattle.m3c_image_commands.specs.Statuses.{Took, Tells};
+ghost use Rattle.m3c_image_commands.specs.Statuses.{Took, Tells, putting};
 
 use m3_ports::{Sink, SinkFailed};
 use std::alloc::Global;
@@ -104,10 +104,7 @@ fn status_of(status: u8, told: Result<(), SinkFailed>) -> u8
 
 /// Puts the line of an answer or of a refusal, and gives the status, or that of a write fault.
 pub fn tell<E: Sink>(err: &mut E, answer: Result<Answer, Refusal<'_>>) -> u8
-    ensures { Tells (record {
-      taken = (E.taken err.old, E.taken err.new);
-      faults = (E.faults err.old, E.faults err.new);
-    }) answer.entry result }
+    ensures { Tells (putting E.Sink err.old err.new) answer.entry result }
 {
     match answer {
         Ok(answer) => status_of(answer.status, put_line(err, &answer.line)),

@@ -1,6 +1,7 @@
 ghost use Rattle.std.specs.Prelude.{◌≡◌, ℕ, List, [], Ok};
 ghost use Rattle.m3_image.specs.Images.{read_of};
 ghost use Rattle.m3_image.specs.Views.{image_view};
+ghost use Rattle.m3c_image_commands.specs.Statuses.{putting, shelving};
 ghost use Rattle.m3c_image_commands.specs.ImageCommands.{Dumps, DumpsBytes};
 
 use crate::answers::{Answer, Refusal};
@@ -18,10 +19,7 @@ fn dump_view<O: Sink>(
     out: &mut O,
 ) -> Result<Answer, Refusal<'static>>
     ensures { (bytes : List ℕ) → read_of bytes ≡ Ok (image_view image.entry)
-        → DumpsBytes bytes (record {
-          taken = (O.taken out.old, O.taken out.new);
-          faults = (O.faults out.old, O.faults out.new);
-        }) result }
+        → DumpsBytes bytes (putting O.Sink out.old out.new) result }
 {
     let Ok(decoded) = Decoded::of(alloc, image) else {
         return Err(Refusal::NO_MEMORY);
@@ -37,10 +35,7 @@ fn dump_view<O: Sink>(
 
 /// The text of the image that some bytes are, put on out.
 fn dump_bytes<O: Sink>(alloc: Global, bytes: &[u8], out: &mut O) -> Result<Answer, Refusal<'static>>
-    ensures { DumpsBytes bytes.now (record {
-      taken = (O.taken out.old, O.taken out.new);
-      faults = (O.faults out.old, O.faults out.new);
-    }) result }
+    ensures { DumpsBytes bytes.now (putting O.Sink out.old out.new) result }
 {
     match read_image(alloc, bytes) {
         Ok(view) => dump_view(alloc, view, out),
@@ -58,16 +53,8 @@ pub fn dump_image<'a, F: Shelf, O: Sink>(
     image: &mut Vec<u8>,
 ) -> Result<Answer, Refusal<'a>>
     requires { image.old.items ≡ [] }
-    ensures { Dumps (record {
-      held = (F.held shelf.old, F.held shelf.new);
-      faults = (F.faults shelf.old, F.faults shelf.new);
-      store_faults = (F.store_faults shelf.old, F.store_faults shelf.new);
-      absences = (F.absences shelf.old, F.absences shelf.new);
-      excesses = (F.excesses shelf.old, F.excesses shelf.new);
-    }) (record {
-      taken = (O.taken out.old, O.taken out.new);
-      faults = (O.faults out.old, O.faults out.new);
-    }) name.now image.new.items result }
+    ensures { Dumps (shelving F.Shelf shelf.old shelf.new) (putting O.Sink out.old out.new) name.now
+        image.new.items result }
 {
     match fetch_image(alloc, name, shelf, image) {
         Ok(()) => dump_bytes(alloc, image, out),

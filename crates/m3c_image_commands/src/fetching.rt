@@ -1,8 +1,8 @@
 ghost use Rattle.std.specs.Prelude.{◌≡◌, ℕ, [], IfOk, OnOk};
-ghost use Rattle.std.specs.Option.{option_map};
 ghost use Rattle.m3_ports.specs.Files.{TakesFile};
 ghost use Rattle.m3c_image_commands.specs.Statuses.{Causes, Fetches, IsGiven, Only, OfOptions};
-ghost use Rattle.m3c_image_commands.specs.Statuses.{Shelving, Unfetched};
+ghost use Rattle.m3c_image_commands.specs.Statuses.{Shelving, Unfetched, shelving};
+ghost use Rattle.m3c_words.specs.Orders.{name_of};
 
 use crate::answers::Refusal;
 use m3_ports::{Shelf, ShelfFault};
@@ -53,13 +53,8 @@ pub fn fetch<'a, F: Shelf>(
     cap: u64,
     into: &mut Vec<u8>,
 ) -> Result<(), Refusal<'a>>
-    ensures fetches { Fetches (record {
-      held = (F.held shelf.old, F.held shelf.new);
-      faults = (F.faults shelf.old, F.faults shelf.new);
-      store_faults = (F.store_faults shelf.old, F.store_faults shelf.new);
-      absences = (F.absences shelf.old, F.absences shelf.new);
-      excesses = (F.excesses shelf.old, F.excesses shelf.new);
-    }) (Only name.now cap) result }
+    ensures fetches { Fetches (shelving F.Shelf shelf.old shelf.new) (Only name.now cap)
+        result }
     ensures ok { OnOk result (TakesFile (F.held shelf.old) name.now cap into.old.items
         into.new.items) }
 {
@@ -77,16 +72,9 @@ fn fetch_named<'a, F: Shelf>(
     into: &mut Vec<u8>,
 ) -> Result<(), Refusal<'a>>
     requires { into.old.items ≡ [] }
-    ensures fetches { Fetches (record {
-      held = (F.held shelf.old, F.held shelf.new);
-      faults = (F.faults shelf.old, F.faults shelf.new);
-      store_faults = (F.store_faults shelf.old, F.store_faults shelf.new);
-      absences = (F.absences shelf.old, F.absences shelf.new);
-      excesses = (F.excesses shelf.old, F.excesses shelf.new);
-    }) (OfOptions (option_map (λ n. n.now) name.entry) (option_map (λ n. n.now) name.entry))
-        result }
-    ensures ok { OnOk result (IsGiven (F.held shelf.old) (option_map (λ n. n.now) name.entry)
-        into.new.items) }
+    ensures fetches { Fetches (shelving F.Shelf shelf.old shelf.new)
+        (OfOptions (name_of name.entry) (name_of name.entry)) result }
+    ensures ok { OnOk result (IsGiven (F.held shelf.old) (name_of name.entry) into.new.items) }
 {
     match name {
         Some(name) => fetch(alloc, shelf, name, FILE_CAP, into),
@@ -100,18 +88,12 @@ pub fn fetch_run_files<'a, F: Shelf>(
     shelf: &mut F,
     options: RunOptions<'a>,
 ) -> Result<RunFiles, Refusal<'a>>
-    ensures fetches { Fetches (record {
-      held = (F.held shelf.old, F.held shelf.new);
-      faults = (F.faults shelf.old, F.faults shelf.new);
-      store_faults = (F.store_faults shelf.old, F.store_faults shelf.new);
-      absences = (F.absences shelf.old, F.absences shelf.new);
-      excesses = (F.excesses shelf.old, F.excesses shelf.new);
-    }) (OfOptions (option_map (λ n. n.now) options.entry.switches)
-        (option_map (λ n. n.now) options.entry.input)) result }
+    ensures fetches { Fetches (shelving F.Shelf shelf.old shelf.new)
+        (OfOptions (name_of options.entry.switches) (name_of options.entry.input)) result }
     ensures switches { IfOk result (λ files. IsGiven (F.held shelf.old)
-        (option_map (λ n. n.now) options.entry.switches) files.switches.items) }
+        (name_of options.entry.switches) files.switches.items) }
     ensures input { IfOk result (λ files. IsGiven (F.held shelf.old)
-        (option_map (λ n. n.now) options.entry.input) files.input.items) }
+        (name_of options.entry.input) files.input.items) }
 {
     let mut files = RunFiles {
         switches: Vec::new(alloc),

@@ -1,13 +1,14 @@
 ghost use Rattle.std.specs.Prelude.{◌≡◌, [], IfOk, IfErr, OnOk, IsOk, IsErr, is_some};
-ghost use Rattle.std.specs.Option.{option_map};
 ghost use Rattle.m3_base.specs.Schedules.{IsSchedule};
 ghost use Rattle.m3_image_sections.specs.Reading.{seen};
 ghost use Rattle.m3_image.specs.Images.{read_of};
 ghost use Rattle.m3_image.specs.Views.{image_view};
 ghost use Rattle.m3c_image_commands.specs.Statuses.{Fetches, IsGiven, IsRead, Only, RefusesBy};
-ghost use Rattle.m3c_image_commands.specs.Statuses.{image_cap};
+ghost use Rattle.m3c_image_commands.specs.Statuses.{image_cap, putting, shelving};
+ghost use Rattle.m3c_image_commands.specs.Reports.{setting_of};
 ghost use Rattle.m3c_image_commands.specs.ImageCommands.{Ends, IsNoSchedule, OfRun, Runs, RunsBytes};
-ghost use Rattle.m3c_image_commands.specs.ImageCommands.{RunsImage};
+ghost use Rattle.m3c_image_commands.specs.ImageCommands.{RunsImage, setting_of_run};
+ghost use Rattle.m3c_words.specs.Orders.{name_of};
 
 use crate::answers::{Answer, Refusal};
 use crate::fetching::{RunFiles, fetch, fetch_run_files};
@@ -90,17 +91,8 @@ fn run_view<O: Sink>(
     run: Run<'_>,
     out: &mut O,
 ) -> Result<Answer, Refusal<'static>>
-    ensures { Ends (image_view image.entry) (record {
-      points = run.entry.limits.points;
-      heap = run.entry.limits.heap;
-      stack = run.entry.limits.stack;
-      threads = run.entry.limits.threads;
-      schedule = run.entry.schedule.now;
-      input = run.entry.input.now;
-    }) run.entry.tells_collections (record {
-      taken = (O.taken out.old, O.taken out.new);
-      faults = (O.faults out.old, O.faults out.new);
-    }) result }
+    ensures { Ends (image_view image.entry) (setting_of_run run.entry)
+        run.entry.tells_collections (putting O.Sink out.old out.new) result }
 {
     let room = longest_name(&image) + LINE_ROOM;
     let Ok(line) = Vec::with_capacity(alloc, room) else {
@@ -130,17 +122,8 @@ pub fn run_bytes<O: Sink>(
     run: Run<'_>,
     out: &mut O,
 ) -> Result<Answer, Refusal<'static>>
-    ensures { RunsImage bytes.now (record {
-      points = run.entry.limits.points;
-      heap = run.entry.limits.heap;
-      stack = run.entry.limits.stack;
-      threads = run.entry.limits.threads;
-      schedule = run.entry.schedule.now;
-      input = run.entry.input.now;
-    }) run.entry.tells_collections (record {
-      taken = (O.taken out.old, O.taken out.new);
-      faults = (O.faults out.old, O.faults out.new);
-    }) result }
+    ensures { RunsImage bytes.now (setting_of_run run.entry) run.entry.tells_collections
+        (putting O.Sink out.old out.new) result }
 {
     match read_image(alloc, bytes) {
         Ok(image) => run_view(alloc, image, run, out),
@@ -156,17 +139,8 @@ fn run_fetched<O: Sink>(
     run: Run<'_>,
     out: &mut O,
 ) -> Result<Answer, Refusal<'static>>
-    ensures { RunsBytes bytes.now switches.now (record {
-      points = run.entry.limits.points;
-      heap = run.entry.limits.heap;
-      stack = run.entry.limits.stack;
-      threads = run.entry.limits.threads;
-      schedule = run.entry.schedule.now;
-      input = run.entry.input.now;
-    }) run.entry.tells_collections (record {
-      taken = (O.taken out.old, O.taken out.new);
-      faults = (O.faults out.old, O.faults out.new);
-    }) result }
+    ensures { RunsBytes bytes.now switches.now (setting_of_run run.entry)
+        run.entry.tells_collections (putting O.Sink out.old out.new) result }
 {
     let image = match read_image(alloc, bytes) {
         Ok(image) => image,
@@ -195,24 +169,9 @@ pub fn run_image<'a, F: Shelf, O: Sink>(
     image: &mut Vec<u8>,
 ) -> Result<Answer, Refusal<'a>>
     requires { image.old.items ≡ [] }
-    ensures { Runs (record {
-      held = (F.held shelf.old, F.held shelf.new);
-      faults = (F.faults shelf.old, F.faults shelf.new);
-      store_faults = (F.store_faults shelf.old, F.store_faults shelf.new);
-      absences = (F.absences shelf.old, F.absences shelf.new);
-      excesses = (F.excesses shelf.old, F.excesses shelf.new);
-    }) (record {
-      taken = (O.taken out.old, O.taken out.new);
-      faults = (O.faults out.old, O.faults out.new);
-    }) name.now (option_map (λ n. n.now) options.entry.switches)
-        (option_map (λ n. n.now) options.entry.input) (record {
-          points = options.entry.limits.points;
-          heap = options.entry.limits.heap;
-          stack = options.entry.limits.stack;
-          threads = options.entry.limits.threads;
-          schedule = [];
-          input = [];
-        }) image.new.items result }
+    ensures { Runs (shelving F.Shelf shelf.old shelf.new) (putting O.Sink out.old out.new) name.now
+        (name_of options.entry.switches) (name_of options.entry.input)
+        (setting_of options.entry.limits) image.new.items result }
 {
     let files = match fetch_all(alloc, name, options, shelf, image) {
         Ok(files) => files,
@@ -236,19 +195,13 @@ fn fetch_all<'a, F: Shelf>(
     image: &mut Vec<u8>,
 ) -> Result<RunFiles, Refusal<'a>>
     requires { image.old.items ≡ [] }
-    ensures fetches { Fetches (record {
-      held = (F.held shelf.old, F.held shelf.new);
-      faults = (F.faults shelf.old, F.faults shelf.new);
-      store_faults = (F.store_faults shelf.old, F.store_faults shelf.new);
-      absences = (F.absences shelf.old, F.absences shelf.new);
-      excesses = (F.excesses shelf.old, F.excesses shelf.new);
-    }) (OfRun name.now (option_map (λ n. n.now) options.entry.switches)
-        (option_map (λ n. n.now) options.entry.input)) result }
+    ensures fetches { Fetches (shelving F.Shelf shelf.old shelf.new)
+        (OfRun name.now (name_of options.entry.switches) (name_of options.entry.input)) result }
     ensures image { OnOk result (IsRead (F.held shelf.old) name.now image_cap image.new.items) }
     ensures switches { IfOk result (λ files. IsGiven (F.held shelf.old)
-        (option_map (λ n. n.now) options.entry.switches) files.switches.items) }
+        (name_of options.entry.switches) files.switches.items) }
     ensures input { IfOk result (λ files. IsGiven (F.held shelf.old)
-        (option_map (λ n. n.now) options.entry.input) files.input.items) }
+        (name_of options.entry.input) files.input.items) }
 {
     match fetch_image(alloc, name, shelf, image) {
         Ok(()) => fetch_run_files(alloc, shelf, options),
@@ -264,13 +217,8 @@ pub fn fetch_image<'a, F: Shelf>(
     image: &mut Vec<u8>,
 ) -> Result<(), Refusal<'a>>
     requires { image.old.items ≡ [] }
-    ensures fetches { Fetches (record {
-      held = (F.held shelf.old, F.held shelf.new);
-      faults = (F.faults shelf.old, F.faults shelf.new);
-      store_faults = (F.store_faults shelf.old, F.store_faults shelf.new);
-      absences = (F.absences shelf.old, F.absences shelf.new);
-      excesses = (F.excesses shelf.old, F.excesses shelf.new);
-    }) (Only name.now image_cap) result }
+    ensures fetches { Fetches (shelving F.Shelf shelf.old shelf.new)
+        (Only name.now image_cap) result }
     ensures image { OnOk result (IsRead (F.held shelf.old) name.now image_cap image.new.items) }
 {
     fetch(alloc, shelf, name, IMAGE_CAP, image)

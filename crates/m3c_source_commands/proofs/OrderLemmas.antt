@@ -10,7 +10,7 @@ use Rattle.m3_ports.specs.declared.shelves.ShelfFault.{ShelfFault}
 use Rattle.m3_ports.specs.declared.shelves.ShelfFault.TheVariants.{Absent, TooLong, Failed, NoMemory}
 use Rattle.m3_base.specs.Schedules.{IsSchedule, IsFirstBadLine, HasTooMany, lines_of}
 use Rattle.m3_base.specs.declared.outcomes.Entry.{Entry}
-use Rattle.m3c_image_commands.specs.Reports.{Setting}
+use Rattle.m3c_image_commands.specs.Reports.{Setting, setting_of}
 use Rattle.m3_image.specs.Images.{read_of}
 use Rattle.m3c_image_commands.specs.declared.answers.Answer.{Answer}
 use Rattle.m3c_image_commands.specs.declared.answers.Refusal.{Refusal}
@@ -19,7 +19,7 @@ use Rattle.m3c_image_commands.proofs.FetchLemmas.{Follows, Rises, joined}
 use Rattle.m3c_image_commands.specs.ImageCommands.{ImageAnswer, image_refused, ended, RunsImage, IsNoSchedule, by_schedule, on_input}
 use Rattle.m3c_words.specs.declared.limits.Limits.{Limits}
 use Rattle.m3c_words.specs.Ranges.{AreUsual, AreOfBench}
-use Rattle.m3c_source_commands.specs.Orders.{Order, Fulfils, bench_setting, setting_of, usual_setting}
+use Rattle.m3c_source_commands.specs.Orders.{Order, Fulfils, bench_setting, usual_setting}
 use Rattle.m3c_source_commands.specs.SourceCommands.{OfFiles, RefusesSources, Stores, BuildAnswer, not_built, stored, Builds, ExecAnswer, not_run, no_schedule, run_ended, ExecsTexts, OfExec, Execs}
 
 pub never_both : {A E : Type 0} (r : Result A E) → IsOk r → IsErr r → ⊥

@@ -8,10 +8,10 @@ use Rattle.m3_image_sections.specs.Parts.{Image}
 use Rattle.m3c_image_commands.specs.declared.answers.Answer.{Answer}
 use Rattle.m3c_image_commands.specs.declared.answers.Refusal.{Refusal}
 use Rattle.m3c_image_commands.specs.Statuses.{Shelving, Putting, LacksMemory, LacksOutput, Cuts, Refuses, Unfetched, read_fault, no_memory, absent, too_long, Tells}
-use Rattle.m3c_image_commands.specs.Reports.{Setting, Ended, end_status}
+use Rattle.m3c_image_commands.specs.Reports.{Setting, Ended, end_status, within}
 use Rattle.m3c_image_commands.specs.ImageCommands.{on_input, ImageAnswer, image_refused, ended, RunAnswer, DumpAnswer, not_dumped, dumped}
 use Rattle.m3c_source_commands.specs.SourceCommands.{BuildAnswer, not_built, stored, ExecAnswer, not_run, no_schedule, run_ended, IsOfNumber}
-use Rattle.m3c_source_commands.specs.Orders.{Order, build, run, exec, dump, bench, Fulfils, bench_setting, within}
+use Rattle.m3c_source_commands.specs.Orders.{Order, build, run, exec, dump, bench, Fulfils, bench_setting}
 
 -- ---- answers
 

@@ -1,25 +1,15 @@
 -- Every command: what its words ask for, and what it answers.
 use Rattle.std.specs.Prelude.{ℕ, ◌≡◌, false, Option, None, Some, Result, List, [], codes}
-use Rattle.m3c_words.specs.declared.limits.Limits.{Limits}
-use Rattle.m3c_words.specs.Orders.{Bounds, bounds_of}
 pub use Rattle.m3c_words.specs.Orders.{Order, build, run, exec, dump, bench, order_of}
 use Rattle.m3c_words.specs.Asked.{asked, usual_options}
 use Rattle.m3c_image_commands.specs.declared.answers.Answer.{Answer}
 use Rattle.m3c_image_commands.specs.declared.answers.Refusal.{Refusal}
 use Rattle.m3c_image_commands.specs.Statuses.{Shelving, Putting, StoresNothing, PutsNothing, Says, Tells}
-use Rattle.m3c_image_commands.specs.Reports.{Setting}
+use Rattle.m3c_image_commands.specs.Reports.{Setting, within}
 use Rattle.m3c_image_commands.specs.ImageCommands.{Runs, Dumps}
 use Rattle.m3c_source_commands.specs.SourceCommands.{Builds, ExecsTexts, Execs, IsOfNumber}
 
--- the bounds of a run, before its switches and its input are read
-abbrev pub within : Bounds → Setting
-within bounds =
-    record { points = bounds.points; heap = bounds.heap; stack = bounds.stack; threads = bounds.threads; schedule = []; input = [] }
-
-abbrev pub setting_of : Limits → Setting
-setting_of limits = within (bounds_of limits)
-
--- those of a run without options, and those of `bench`
+-- the setting of a run without options, and that of `bench`
 abbrev pub usual_setting : Setting
 usual_setting = within usual_options.bounds
 

@@ -1,17 +1,19 @@
 //! The commands.
 ghost use Rattle.std.specs.Prelude.{◌≡◌, false, [], None, Result, IfOk, IfErr, IsOk, is_some, map};
 ghost use Rattle.m3c_words.specs.Ranges.{AreUsual};
-ghost use Rattle.std.specs.Option.{option_map};
+ghost use Rattle.m3c_words.specs.Orders.{name_of};
 ghost use Rattle.m3_image.specs.Images.{read_of};
 ghost use Rattle.m3c_image_commands.specs.declared.answers.Answer.{Answer as AnswerValue};
 ghost use Rattle.m3c_image_commands.specs.declared.answers.Refusal.{Refusal as RefusalValue};
 ghost use Rattle.m3c_image_commands.specs.Statuses.{LacksMemory, LacksOutput, Tells};
+ghost use Rattle.m3c_image_commands.specs.Statuses.{putting, shelving};
+ghost use Rattle.m3c_image_commands.specs.Reports.{setting_of};
 ghost use Rattle.m3_base.specs.Schedules.{IsSchedule};
 ghost use Rattle.m3c_image_commands.specs.ImageCommands.{on_input};
 ghost use Rattle.m3c_source_commands.specs.SourceCommands.{Builds, Execs, ExecsTexts, IsOfNumber};
 ghost use Rattle.m3c_source_commands.specs.SourceCommands.{RefusesSources, Stores};
 ghost use Rattle.m3c_source_commands.specs.Orders.{Fulfils, Commands, bench_setting, order_of};
-ghost use Rattle.m3c_source_commands.specs.Orders.{setting_of, usual_setting};
+ghost use Rattle.m3c_source_commands.specs.Orders.{usual_setting};
 
 use crate::compiling::compile;
 use crate::sources::{Sources, fetch_sources, views_of, views_of_bytes};
@@ -31,13 +33,7 @@ fn store_image<F: Shelf>(
     shelf: &mut F,
     image: &[u8],
 ) -> Result<Answer, Refusal<'static>>
-    ensures { Stores (record {
-      held = (F.held shelf.old, F.held shelf.new);
-      faults = (F.faults shelf.old, F.faults shelf.new);
-      store_faults = (F.store_faults shelf.old, F.store_faults shelf.new);
-      absences = (F.absences shelf.old, F.absences shelf.new);
-      excesses = (F.excesses shelf.old, F.excesses shelf.new);
-    }) name.now image.now result }
+    ensures { Stores (shelving F.Shelf shelf.old shelf.new) name.now image.now result }
 {
     match shelf.store(alloc, name, image) {
         Ok(()) => Ok(Answer::silent(alloc)),
@@ -83,13 +79,8 @@ fn build_files<'a, F: Shelf>(
     shelf: &mut F,
     image: &mut Vec<u8>,
 ) -> Result<Answer, Refusal<'a>>
-    ensures { Builds (record {
-      held = (F.held shelf.old, F.held shelf.new);
-      faults = (F.faults shelf.old, F.faults shelf.new);
-      store_faults = (F.store_faults shelf.old, F.store_faults shelf.new);
-      absences = (F.absences shelf.old, F.absences shelf.new);
-      excesses = (F.excesses shelf.old, F.excesses shelf.new);
-    }) name.now (map (λ n. n.now) files.entry.now) image.new.items result }
+    ensures { Builds (shelving F.Shelf shelf.old shelf.new) name.now
+        (map (λ n. n.now) files.entry.now) image.new.items result }
 {
     let sources = fetch_sources(alloc, shelf, files)?;
     let views = views_of(alloc, &sources.names, &sources.texts);
@@ -108,19 +99,9 @@ fn exec_files<'a, F: Shelf, O: Sink>(
     out: &mut O,
     image: &mut Vec<u8>,
 ) -> Result<Answer, Refusal<'a>>
-    ensures { Execs (record {
-      held = (F.held shelf.old, F.held shelf.new);
-      faults = (F.faults shelf.old, F.faults shelf.new);
-      store_faults = (F.store_faults shelf.old, F.store_faults shelf.new);
-      absences = (F.absences shelf.old, F.absences shelf.new);
-      excesses = (F.excesses shelf.old, F.excesses shelf.new);
-    }) (record {
-      taken = (O.taken out.old, O.taken out.new);
-      faults = (O.faults out.old, O.faults out.new);
-    }) (map (λ n. n.now) files.entry.now)
-        (option_map (λ n. n.now) options.entry.switches)
-        (option_map (λ n. n.now) options.entry.input)
-        (setting_of options.entry.limits) image.new.items result }
+    ensures { Execs (shelving F.Shelf shelf.old shelf.new) (putting O.Sink out.old out.new)
+        (map (λ n. n.now) files.entry.now) (name_of options.entry.switches)
+        (name_of options.entry.input) (setting_of options.entry.limits) image.new.items result }
 {
     let sources = match fetch_sources(alloc, shelf, files) {
         Ok(sources) => sources,
@@ -146,10 +127,7 @@ fn exec_sources<'a, O: Sink>(
     ensures { ExecsTexts image.new.items given.now.switches.items
         (IsSchedule given.now.switches.items)
         (on_input (setting_of options.entry.limits) given.now.input.items)
-        (is_some options.entry.switches) (record {
-          taken = (O.taken out.old, O.taken out.new);
-          faults = (O.faults out.old, O.faults out.new);
-        }) result }
+        (is_some options.entry.switches) (putting O.Sink out.old out.new) result }
 {
     let views = views_of(alloc, &sources.names, &sources.texts);
     match compile_into(alloc, views, &given.switches, image) {
@@ -197,10 +175,8 @@ fn exec_one<O: Sink>(
     out: &mut O,
     image: &mut Vec<u8>,
 ) -> Result<Answer, Refusal<'static>>
-    ensures { ExecsTexts image.new.items [] (IsSchedule []) usual_setting false (record {
-      taken = (O.taken out.old, O.taken out.new);
-      faults = (O.faults out.old, O.faults out.new);
-    }) result }
+    ensures { ExecsTexts image.new.items [] (IsSchedule []) usual_setting false
+        (putting O.Sink out.old out.new) result }
 {
     let mut sources = Sources::new(alloc);
     if sources.add(name, text).is_err() {
@@ -222,14 +198,9 @@ pub fn exec_text<O: Sink, E: Sink>(
     image: &mut Vec<u8>,
 ) -> u8
     ensures { (answer : Result AnswerValue RefusalValue)
-        × ExecsTexts image.new.items [] (IsSchedule []) usual_setting false (record {
-          taken = (O.taken out.old, O.taken out.new);
-          faults = (O.faults out.old, O.faults out.new);
-        }) answer
-        × Tells (record {
-          taken = (E.taken err.old, E.taken err.new);
-          faults = (E.faults err.old, E.faults err.new);
-        }) answer result }
+        × ExecsTexts image.new.items [] (IsSchedule []) usual_setting false
+        (putting O.Sink out.old out.new) answer
+        × Tells (putting E.Sink err.old err.new) answer result }
 {
     let answer = exec_one(alloc, name, text, out, image);
     tell(err, answer)
@@ -242,10 +213,8 @@ fn bench<O: Sink>(
     out: &mut O,
     image: &mut Vec<u8>,
 ) -> Result<Answer, Refusal<'static>>
-    ensures { ExecsTexts image.new.items [] (IsOfNumber number) bench_setting false (record {
-      taken = (O.taken out.old, O.taken out.new);
-      faults = (O.faults out.old, O.faults out.new);
-    }) result }
+    ensures { ExecsTexts image.new.items [] (IsOfNumber number) bench_setting false
+        (putting O.Sink out.old out.new) result }
 {
     let Ok(workload) = make(alloc, number) else {
         return Err(Refusal::NO_MEMORY);
@@ -273,16 +242,8 @@ fn carry_out<'a, F: Shelf, O: Sink>(
     image: &mut Vec<u8>,
 ) -> Result<Answer, Refusal<'a>>
     requires { image.old.items ≡ [] }
-    ensures { Fulfils (order_of request.entry.now) (record {
-      held = (F.held shelf.old, F.held shelf.new);
-      faults = (F.faults shelf.old, F.faults shelf.new);
-      store_faults = (F.store_faults shelf.old, F.store_faults shelf.new);
-      absences = (F.absences shelf.old, F.absences shelf.new);
-      excesses = (F.excesses shelf.old, F.excesses shelf.new);
-    }) (record {
-      taken = (O.taken out.old, O.taken out.new);
-      faults = (O.faults out.old, O.faults out.new);
-    }) image.new.items result }
+    ensures { Fulfils (order_of request.entry.now) (shelving F.Shelf shelf.old shelf.new)
+        (putting O.Sink out.old out.new) image.new.items result }
 {
     match request {
         Request::Build { image: name, files } => build_files(alloc, *name, files, shelf, image),
@@ -310,19 +271,9 @@ pub fn command<F: Shelf, O: Sink, E: Sink>(
     image: &mut Vec<u8>,
 ) -> u8
     requires { image.old.items ≡ [] }
-    ensures { Commands (map (λ word. word.now) words.entry.now) (record {
-      held = (F.held shelf.old, F.held shelf.new);
-      faults = (F.faults shelf.old, F.faults shelf.new);
-      store_faults = (F.store_faults shelf.old, F.store_faults shelf.new);
-      absences = (F.absences shelf.old, F.absences shelf.new);
-      excesses = (F.excesses shelf.old, F.excesses shelf.new);
-    }) (record {
-      taken = (O.taken out.old, O.taken out.new);
-      faults = (O.faults out.old, O.faults out.new);
-    }) (record {
-      taken = (E.taken err.old, E.taken err.new);
-      faults = (E.faults err.old, E.faults err.new);
-    }) image.new.items result }
+    ensures { Commands (map (λ word. word.now) words.entry.now)
+        (shelving F.Shelf shelf.old shelf.new) (putting O.Sink out.old out.new)
+        (putting E.Sink err.old err.new) image.new.items result }
 {
     match read_words(alloc, words) {
         Ok(Some(request)) => {

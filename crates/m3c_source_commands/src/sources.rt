@@ -1,6 +1,6 @@
 //! The FILEs of a command.
 ghost use Rattle.std.specs.Prelude.{◌≡◌, [], ◌∷◌, ◌++◌, OnOk, IfOk, map, min};
-ghost use Rattle.m3c_image_commands.specs.Statuses.{Fetches, Only};
+ghost use Rattle.m3c_image_commands.specs.Statuses.{Fetches, Only, shelving};
 ghost use Rattle.m3c_source_commands.specs.SourceCommands.{OfFiles, source_cap};
 ghost use Rattle.m3c_source_commands.specs.Texts.{texts_of, IsNext};
 
@@ -52,13 +52,8 @@ fn fetch_next<'a, F: Shelf>(
     left: u64,
     sources: &mut Sources<'a>,
 ) -> Result<u64, Refusal<'a>>
-    ensures fetches { Fetches (record {
-      held = (F.held shelf.old, F.held shelf.new);
-      faults = (F.faults shelf.old, F.faults shelf.new);
-      store_faults = (F.store_faults shelf.old, F.store_faults shelf.new);
-      absences = (F.absences shelf.old, F.absences shelf.new);
-      excesses = (F.excesses shelf.old, F.excesses shelf.new);
-    }) (Only name.now (min left source_cap)) result }
+    ensures fetches { Fetches (shelving F.Shelf shelf.old shelf.new)
+        (Only name.now (min left source_cap)) result }
     ensures read { IfOk result
         (IsNext (F.held shelf.old) name.now left (texts_of sources.old) (texts_of sources.new)) }
 {
@@ -77,13 +72,8 @@ pub fn fetch_sources<'a, F: Shelf>(
     shelf: &mut F,
     files: &[&'a str],
 ) -> Result<Sources<'a>, Refusal<'a>>
-    ensures { Fetches (record {
-      held = (F.held shelf.old, F.held shelf.new);
-      faults = (F.faults shelf.old, F.faults shelf.new);
-      store_faults = (F.store_faults shelf.old, F.store_faults shelf.new);
-      absences = (F.absences shelf.old, F.absences shelf.new);
-      excesses = (F.excesses shelf.old, F.excesses shelf.new);
-    }) (OfFiles (F.held shelf.old) (map (λ n. n.now) files.entry.now)) result }
+    ensures { Fetches (shelving F.Shelf shelf.old shelf.new)
+        (OfFiles (F.held shelf.old) (map (λ n. n.now) files.entry.now)) result }
 {
     let mut sources = Sources::new(alloc);
     let mut left = SOURCES_CAP;

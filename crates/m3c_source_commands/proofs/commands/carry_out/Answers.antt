@@ -1,18 +1,12 @@
 use Rattle.std.proofs.Common.{refl, ap, map}
-use Rattle.m3c_image_commands.specs.Statuses.{Shelving}
+use Rattle.m3c_image_commands.specs.Statuses.{Shelving, shelving}
 use Rattle.m3c_source_commands.specs.Orders.{order_of}
 use Rattle.m3c_source_commands.proofs.OrderLemmas.{builds_of, execs_of, carried}
 use Rattle.m3c_source_commands.proofs.commands.carry_out.Goals as goal
 
 pub returns-in-Build : goal.returns-in-Build
 returns-in-Build g c =
-    let shelf : Shelving = record {
-      held = (g.F.Shelf.held c.args.shelf.now, g.F.Shelf.held c.build_files.new.shelf);
-      faults = (g.F.Shelf.faults c.args.shelf.now, g.F.Shelf.faults c.build_files.new.shelf);
-      store_faults = (g.F.Shelf.store_faults c.args.shelf.now, g.F.Shelf.store_faults c.build_files.new.shelf);
-      absences = (g.F.Shelf.absences c.args.shelf.now, g.F.Shelf.absences c.build_files.new.shelf);
-      excesses = (g.F.Shelf.excesses c.args.shelf.now, g.F.Shelf.excesses c.build_files.new.shelf);
-    } in
+    let shelf : Shelving = shelving g.F.Shelf c.args.shelf.now c.build_files.new.shelf in
     carried _ _ _ _ _ _ (ap order_of c.in-Build.is)
     (builds_of shelf _ _ _ _ c.build_files.result (ap (λ files. map (λ n. n.now) files) c.deref.ensures.value) c.build_files.ensures, refl)
 

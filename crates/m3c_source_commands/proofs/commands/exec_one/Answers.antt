@@ -1,6 +1,7 @@
 use Rattle.std.proofs.Common.{ap}
 use Rattle.std.specs.Prelude.{is_some}
-use Rattle.m3c_source_commands.specs.Orders.{setting_of, usual_setting}
+use Rattle.m3c_image_commands.specs.Reports.{setting_of}
+use Rattle.m3c_source_commands.specs.Orders.{usual_setting}
 use Rattle.m3c_source_commands.proofs.OrderLemmas.{execs_plain, usual_limits}
 use Rattle.m3c_source_commands.proofs.commands.exec_one.Goals as goal
 

@@ -1,8 +1,8 @@
 use Rattle.std.proofs.Common.{ℕ, List, refl, subst}
 use Rattle.m3_base.specs.Schedules.{IsSchedule}
 use Rattle.m3c_image_commands.specs.ImageCommands.{on_input}
+use Rattle.m3c_image_commands.specs.Reports.{setting_of}
 use Rattle.m3c_source_commands.specs.SourceCommands.{RefusesSources}
-use Rattle.m3c_source_commands.specs.Orders.{setting_of}
 use Rattle.m3c_source_commands.proofs.OrderLemmas.{execs_ran, execs_refused, same_run}
 use Rattle.m3c_source_commands.proofs.commands.exec_sources.Goals as goal
 

@@ -1,7 +1,7 @@
 use Rattle.std.proofs.Common.{◌≡◌, ℕ, List, map, refl, ap, sym, ◌∙◌, Some, arith}
 use Rattle.std.specs.Prelude.{slice_get, ◌<◌, length}
 use Rattle.std.proofs.lemmas.Option.{slice_get_read}
-use Rattle.m3c_image_commands.specs.Statuses.{Shelving}
+use Rattle.m3c_image_commands.specs.Statuses.{Shelving, shelving}
 use Rattle.m3c_source_commands.specs.Texts.{texts_of}
 use Rattle.m3c_source_commands.proofs.SourceLemmas.{reading_start, reading_more, reading_failed, reading_done, named_at}
 use Rattle.m3c_source_commands.proofs.sources.fetch_sources.Goals as goal
@@ -11,20 +11,8 @@ files-init g c = reading_start _ _ _ (ap (λ texts. map (λ text. text.items) te
 
 pub files-preserved : goal.files-preserved
 files-preserved g c =
-    let a : Shelving = record {
-      held = (g.F.Shelf.held c.args.shelf.now, g.F.Shelf.held c.files.shelf);
-      faults = (g.F.Shelf.faults c.args.shelf.now, g.F.Shelf.faults c.files.shelf);
-      store_faults = (g.F.Shelf.store_faults c.args.shelf.now, g.F.Shelf.store_faults c.files.shelf);
-      absences = (g.F.Shelf.absences c.args.shelf.now, g.F.Shelf.absences c.files.shelf);
-      excesses = (g.F.Shelf.excesses c.args.shelf.now, g.F.Shelf.excesses c.files.shelf);
-    } in
-    let b : Shelving = record {
-      held = (g.F.Shelf.held c.files.shelf, g.F.Shelf.held c.fetch_next.new.shelf);
-      faults = (g.F.Shelf.faults c.files.shelf, g.F.Shelf.faults c.fetch_next.new.shelf);
-      store_faults = (g.F.Shelf.store_faults c.files.shelf, g.F.Shelf.store_faults c.fetch_next.new.shelf);
-      absences = (g.F.Shelf.absences c.files.shelf, g.F.Shelf.absences c.fetch_next.new.shelf);
-      excesses = (g.F.Shelf.excesses c.files.shelf, g.F.Shelf.excesses c.fetch_next.new.shelf);
-    } in
+    let a : Shelving = shelving g.F.Shelf c.args.shelf.now c.files.shelf in
+    let b : Shelving = shelving g.F.Shelf c.files.shelf c.fetch_next.new.shelf in
     let files : List (List ℕ) = map (λ n. n.now) c.args.files.now in
     reading_more a b files (texts_of c.files.sources) (texts_of c.fetch_next.new.sources) c.in-Some.name.now.now c.files.place c.files.left c.in-Ok.rest c.fetch_next.result
     c.files.invariant (record { held = refl; faults = refl; store_faults = refl; absences = refl; excesses = refl }) c.fetch_next.ensures.fetches
@@ -32,20 +20,8 @@ files-preserved g c =
 
 pub returns-in-Err : goal.returns-in-Err
 returns-in-Err g c =
-    let a : Shelving = record {
-      held = (g.F.Shelf.held c.args.shelf.now, g.F.Shelf.held c.files.shelf);
-      faults = (g.F.Shelf.faults c.args.shelf.now, g.F.Shelf.faults c.files.shelf);
-      store_faults = (g.F.Shelf.store_faults c.args.shelf.now, g.F.Shelf.store_faults c.files.shelf);
-      absences = (g.F.Shelf.absences c.args.shelf.now, g.F.Shelf.absences c.files.shelf);
-      excesses = (g.F.Shelf.excesses c.args.shelf.now, g.F.Shelf.excesses c.files.shelf);
-    } in
-    let b : Shelving = record {
-      held = (g.F.Shelf.held c.files.shelf, g.F.Shelf.held c.fetch_next.new.shelf);
-      faults = (g.F.Shelf.faults c.files.shelf, g.F.Shelf.faults c.fetch_next.new.shelf);
-      store_faults = (g.F.Shelf.store_faults c.files.shelf, g.F.Shelf.store_faults c.fetch_next.new.shelf);
-      absences = (g.F.Shelf.absences c.files.shelf, g.F.Shelf.absences c.fetch_next.new.shelf);
-      excesses = (g.F.Shelf.excesses c.files.shelf, g.F.Shelf.excesses c.fetch_next.new.shelf);
-    } in
+    let a : Shelving = shelving g.F.Shelf c.args.shelf.now c.files.shelf in
+    let b : Shelving = shelving g.F.Shelf c.files.shelf c.fetch_next.new.shelf in
     let files : List (List ℕ) = map (λ n. n.now) c.args.files.now in
     reading_failed a b files (texts_of c.files.sources) c.in-Some.name.now.now c.files.place c.files.left c.in-Err.refusal
     c.files.invariant (record { held = refl; faults = refl; store_faults = refl; absences = refl; excesses = refl }) c.in-Err.ensures.fetches
