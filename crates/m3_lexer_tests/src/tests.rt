@@ -318,7 +318,7 @@ fn keywords(rt: HostRuntime) -> Result<(), Fail> {
     expect(&rt, lexed.tokens.len(), 61, &"how many keywords");
     for (number, token) in lexed.tokens.iter().enumerate() {
         let TokenKind::Keyword(word) = token.kind else {
-            panic!(rt; "{token:?}");
+            panic!(rt; "{:?}", token.kind);
         };
         expect(
             &rt,

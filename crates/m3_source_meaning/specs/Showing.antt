@@ -58,7 +58,7 @@ module _ (p : Program) where
   shown_from here standing store at place [] = []
   shown_from here standing store at place (v ∷ vs) = elim (is_shown v) [
     | true ↦ beside place
-          (if_in_scope (is_among standing.scope at) (thing_at here standing store at))
+        (if_in_scope (is_among standing.scope at) (thing_at here standing store at))
         (shown_from here standing store (suc at) (suc place) vs)
     | false ↦ shown_from here standing store (suc at) place vs
   ]

@@ -26,10 +26,12 @@ abbrev pub rebound : List ℕ → Option ℕ → List Bound → List Bound
 rebound name procedure [] = []
 rebound name procedure (b ∷ bs) =
     elim (list_any (is_named name) bs) [
-        true ↦ b ∷ rebound name procedure bs
+      | true ↦ b ∷ rebound name procedure bs
       | false ↦ elim (is_named name b) [
-            true ↦ record b { procedure = procedure } ∷ bs
-          | false ↦ b ∷ bs ] ]
+        | true ↦ record b { procedure = procedure } ∷ bs
+        | false ↦ b ∷ bs
+      ]
+    ]
 
 abbrev pub procedure_in : Option TypeNode → Option ℕ
 procedure_in (Some (node.Constant (constant.Procedure procedure))) = Some procedure
