@@ -15,7 +15,7 @@ use Rattle.m3c_words.proofs.PlainExec.{exec_asked}
 use Rattle.m3c_image_commands.specs.declared.answers.Answer.{Answer}
 use Rattle.m3c_image_commands.specs.declared.answers.Refusal.{Refusal}
 use Rattle.m3c_image_commands.specs.Statuses.{Shelving, Putting, Took, Tells, image_cap}
-use Rattle.m3c_image_commands.specs.Reports.{Setting, Ended}
+use Rattle.m3c_image_commands.specs.Reports.{Setting, Ended, within}
 use Rattle.m3c_image_commands.specs.ImageCommands.{by_schedule, on_input}
 use Rattle.m3c_image_commands.specs.Complete.{CutsShort, IsHeld, HoldsAll}
 use Rattle.m3c_image_commands.proofs.CompleteLemmas.{runs_whole, dumps_whole}
