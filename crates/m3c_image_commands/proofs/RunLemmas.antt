@@ -9,6 +9,7 @@ use Rattle.m3_heap.specs.Semi.{new_heap}
 use Rattle.m3_image_sections.specs.Parts.{Image, Program}
 use Rattle.m3_run_meaning.specs.State.{State}
 use Rattle.m3_run_meaning.specs.Runs.{Begins, begins}
+use Rattle.m3_run_laws.specs.Stores.{IsLawful}
 use Rattle.m3_machine.specs.RunCalls.{Ran}
 use Rattle.m3_image_dump.specs.Texts.{IsDump}
 use Rattle.m3c_image_commands.specs.declared.answers.Answer.{Answer}
@@ -27,6 +28,24 @@ begins-first p heap threads stack s (begins i next) = refl
 pub begins_first : (p : Program) (heap : Heap) (threads stack points : ℕ) (s : State) → Begins p heap threads stack s → points < 2 ^ 63 → s.points + points < 2 ^ 63
 begins_first p heap threads stack points s begun few = let none = begins-first p heap threads stack s begun in omega (arith, none, few)
 
+-- a heap that was just made keeps the laws of a store
+new_lawful : (words : ℕ) → IsLawful (new_heap words)
+new_lawful words = record {
+  laws = record {
+    half = refl;
+    young = omega arith;
+    some = omega arith;
+    room = omega arith;
+    placed = tt;
+    apart = tt;
+    free = omega arith;
+    tenured = refl;
+    watched = λ e. refl;
+    minors = λ e. refl;
+  };
+  closed = refl;
+}
+
 -- the run of a machine that was made for it
 pub ends_run : (i : Image) (setting : Setting) (tells : Bool) (out : Putting) (p : Program) (input : List ℕ) (heap : Heap) (start to : State) (outcome : Outcome) (status : ℕ) (line : List ℕ) → p ≡ i.program → input ≡ setting.input → heap ≡ new_heap setting.heap
     → Begins i.program heap setting.threads setting.stack start → (bytes : List ℕ) × Took out.taken bytes × Ran p input start setting.schedule setting.points bytes to outcome
@@ -38,6 +57,7 @@ ends_run i setting tells out p input heap start to outcome status line program s
   run = record {
     start = start;
     begins = subst (λ (h : Heap). Begins i.program h setting.threads setting.stack start) empty begun;
+    lawful = new_lawful setting.heap;
     ran = subst (λ (q : List ℕ). Ran i.program q start setting.schedule setting.points ran.0 to outcome) same (subst (λ (q : Program). Ran q input start setting.schedule setting.points ran.0 to outcome) program ran.2);
   };
   put = ran.1;
