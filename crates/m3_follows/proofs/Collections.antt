@@ -1,7 +1,6 @@
 -- The source takes no notice of the collections that a schedule asks for.
-use Rattle.std.proofs.Common.{◌≡◌, ℕ, suc, Bool, true, false, List, [], ◌∷◌, Option, Some, None, refl, sym, ap, ◌∙◌, subst}
+use Rattle.std.proofs.Common.{◌≡◌, ℕ, Bool, true, false, List, [], ◌∷◌, Some, refl, subst}
 use Rattle.m3_base.specs.declared.outcomes.Entry.{Entry}
-use Rattle.m3_core.specs.declared.program.Core.{Core}
 use Rattle.m3_runs.specs.Languages.{Parts}
 use Rattle.m3_runs.specs.States.{Given, State}
 use Rattle.m3_runs.specs.Choice.{choice}

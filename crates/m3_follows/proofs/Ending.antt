@@ -19,7 +19,7 @@ use Rattle.m3_source_meaning.proofs.Determined.{determined}
 use Rattle.m3_follows.specs.Settings.{Setting, IsInRange, ImageRuns, DifferInRoom, given_by, points_of}
 use Rattle.m3_follows.specs.Source.{EndedAfter}
 use Rattle.m3_follows.specs.Follows.{EndsSo, Follows}
-use Rattle.m3_follows.specs.Laws.{Ended, EndAlike, HasOneEnd}
+use Rattle.m3_follows.specs.Laws.{Ended, HasOneEnd}
 use Rattle.m3_follows.proofs.Collections.{collections_ignored}
 
 module _ (core : Core) (given : Given) (schedule : List Entry) where
@@ -69,9 +69,11 @@ module _ (core : Core) (bytes : List ℕ) (s : Setting) where
 
   -- under what another setting gives and names
   so_given : (other : Setting) (turns : ℕ) (u : SourceState) (o : Outcome) → DifferInRoom s other → EndedAfter core s turns u o → (n : ℕ) × SourceRuns core (given_by other) other.schedule n (Ends u o)
-  so_given other turns u o same e =
-      (e.steps, subst (λ g. SourceRuns core g other.schedule e.steps (Ends u o)) (same_given s other same)
-      (collections_ignored core (given_by s) s.schedule other.schedule e.steps (Ends u o) same.names e.runs))
+  so_given other turns u o same e = (
+    e.steps,
+    subst (λ g. SourceRuns core g other.schedule e.steps (Ends u o)) (same_given s other same)
+        (collections_ignored core (given_by s) s.schedule other.schedule e.steps (Ends u o) same.names e.runs),
+  )
 
 pub one_end : HasOneEnd
 one_end core bytes s other o p c d follows same within within' e f =

@@ -1,6 +1,6 @@
 -- THE HEADLINE. An image follows a checked program where each of its runs does what the source does,
 -- under every schedule, input and collection.
-use Rattle.std.specs.Prelude.{ℕ, suc, ◌≡◌, ◌≤◌, List, ◌++◌, map, codes, Result, Ok}
+use Rattle.std.specs.Prelude.{ℕ, suc, ◌≡◌, ◌≤◌, List, ◌++◌, map, codes, Ok}
 use Rattle.m3_base.specs.declared.outcomes.Outcome.{Outcome}
 use Rattle.m3_base.specs.declared.outcomes.Outcome.TheVariants.{HeapFull, StackFull, Trap}
 use Rattle.m3_core.specs.declared.program.Core.{Core}

@@ -1,7 +1,7 @@
 -- FRAME WORDS: how many words a frame of a procedure may have: 32, those of its variables, 4 for
 -- each node of its checked tree, and twice those of each value that a call, a constructor, an actual
 -- or a binding of NEW handles.
-use Rattle.std.specs.Prelude.{ℕ, zero, suc, ◌+◌, ◌*◌, ◌-◌, Bool, true, false, List, [], ◌∷◌, length, map, take, sum_by, Option, Some, None, slice_get}
+use Rattle.std.specs.Prelude.{ℕ, zero, suc, ◌+◌, ◌*◌, ◌-◌, true, false, List, [], ◌∷◌, length, map, take, sum_by, Option, Some, slice_get}
 use Rattle.std.specs.Option.{option_map, option_map_or}
 use Rattle.m3_core.specs.declared.calls.Actual.TheFolds as folds
 use Rattle.m3_core.specs.declared.calls.Actual.TheOpen as layer
@@ -19,11 +19,10 @@ use Rattle.m3_core.specs.declared.stmts.WithBinding.{WithBinding}
 use Rattle.m3_core.specs.declared.stmts.CoreStmt.{CoreStmt}
 use Rattle.m3_core.specs.declared.stmts.CoreStmt.TheFolds as statement_folds
 use Rattle.m3_core.specs.declared.stmts.CoreStmt.TheOpen as statement
-use Rattle.m3_core.specs.declared.values.Value.{Value}
 use Rattle.m3_core.specs.declared.values.Value.TheVariants as constant
 use Rattle.m3_types.specs.declared.nodes.TypeId.{TypeId}
 use Rattle.m3_values.specs.Programs.{Program, program_of, procedure_at}
-use Rattle.m3_values.specs.Types.{depth, element, is_open, type_shape, below_type, open_dimensions}
+use Rattle.m3_values.specs.Types.{element, is_open, type_shape, below_type, open_dimensions}
 use Rattle.m3_source_meaning.specs.Assignment.{variables_of}
 use Rattle.m3_source_meaning.specs.Reach.{value_words, below, product}
 

@@ -1,5 +1,5 @@
 -- What may be relied on of an image that follows a program, whatever the program.
-use Rattle.std.specs.Prelude.{ℕ, ◌≡◌, List, Result, Ok}
+use Rattle.std.specs.Prelude.{ℕ, ◌≡◌, List, Ok}
 use Rattle.m3_base.specs.declared.outcomes.Entry.{Entry}
 use Rattle.m3_base.specs.declared.outcomes.Outcome.{Outcome}
 use Rattle.m3_core.specs.declared.program.Core.{Core}
@@ -34,8 +34,8 @@ pub record Ended (bytes : List ℕ) (s : Setting) (outcome : Outcome) (c : Confi
   pub known : IsOfSource outcome
 
 -- they ended in the same way, after as many points, and put the same
-pub record EndAlike (outcome other : Outcome) (c d : Config) : Type 0 where
-  pub outcome : outcome ≡ other
+pub record EndAlike (o p : Outcome) (c d : Config) : Type 0 where
+  pub outcome : o ≡ p
   pub points : points_of c ≡ points_of d
   pub output : c.output ≡ d.output
 

@@ -1,7 +1,6 @@
 -- THE SOURCE AFTER SO MANY TURNS, where it has ended, and what is known of the thread that goes next
 -- where the machine lacks room.
-use Rattle.std.specs.Prelude.{ℕ, suc, ◌≡◌, List, length, Option, Some}
-use Rattle.m3_base.specs.declared.outcomes.Entry.{Entry}
+use Rattle.std.specs.Prelude.{ℕ, ◌≡◌, Option, Some}
 use Rattle.m3_base.specs.declared.outcomes.Outcome.{Outcome}
 use Rattle.m3_core.specs.declared.program.Core.{Core}
 use Rattle.m3_runs.specs.Choice.{choice}
