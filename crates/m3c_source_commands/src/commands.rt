@@ -1,5 +1,5 @@
 //! The commands.
-ghost use Rattle.std.specs.Prelude.{◌≡◌, ℕ, false, List, [], ◌∷◌, None, Result, IfOk, IfErr};
+ghost use Rattle.std.specs.Prelude.{◌≡◌, false, [], ◌∷◌, None, Result, IfOk, IfErr};
 ghost use Rattle.std.specs.Prelude.{IsOk, is_some, map};
 ghost use Rattle.m3c_words.specs.Ranges.{AreUsual};
 ghost use Rattle.m3c_words.specs.Orders.{name_of};
@@ -18,7 +18,7 @@ ghost use Rattle.m3c_source_commands.specs.Orders.{Fulfils, Commands, bench_sett
 ghost use Rattle.m3c_source_commands.specs.Orders.{usual_setting};
 
 use crate::compiling::compile;
-use crate::sources::{Sources, fetch_sources, names_of_bytes, views_of, views_of_bytes};
+use crate::sources::{Sources, fetch_sources, views_of, views_of_bytes};
 use m3_base::{Entry, NoMemory, Source};
 use m3_ports::{Shelf, ShelfFault, Sink};
 use m3_workload::make;
@@ -219,18 +219,15 @@ fn bench<O: Sink>(
     out: &mut O,
     image: &mut Vec<u8>,
 ) -> Result<Answer, Refusal<'static>>
-    ensures { (files : List (List ℕ))
-        × ExecsTexts files image.new.items [] (IsOfNumber number) bench_setting false
+    ensures { ExecsTexts [] image.new.items [] (IsOfNumber number) bench_setting false
         (putting O.Sink out.old out.new) result }
 {
     let Ok(workload) = make(alloc, number) else {
         return Err(Refusal::NO_MEMORY);
     };
-    let Ok(names) = names_of_bytes(alloc, &workload.names) else {
-        return Err(Refusal::NO_MEMORY);
-    };
     let views = views_of_bytes(alloc, &workload.names, &workload.texts);
-    match compile_into(alloc, &names, views, b"", image) {
+    // The workload breaks no rule, so no line names a file of it.
+    match compile_into(alloc, &[], views, b"", image) {
         Ok(_) => {
             let run = Run {
                 limits: Limits::of_bench(),

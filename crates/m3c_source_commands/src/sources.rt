@@ -126,12 +126,3 @@ pub fn views_of_bytes<'s>(
     }
     Ok(views)
 }
-
-/// The same of their names.
-pub fn names_of_bytes<'s>(alloc: Global, names: &'s [Bytes]) -> Result<Vec<&'s str>, NoMemory> {
-    let mut texts = Vec::new(alloc);
-    for name in names {
-        texts.push(str::from_utf8(name.as_slice()).unwrap_or(""))?;
-    }
-    Ok(texts)
-}
