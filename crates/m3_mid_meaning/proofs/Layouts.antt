@@ -1,104 +1,128 @@
 -- Where cells lie doesn't matter for sums and differences.
-use Rattle.std.proofs.Common.{◌≡◌, ℕ, ◌+◌, ◌%◌, ◌^◌, ◌<◌, Bool, true, false, List, [], ◌∷◌, ◌++◌, Option, Some, None, refl, sym, ap, ◌∙◌, arith}
-use Rattle.std.specs.Prelude.{◌==◌, if◌then◌else◌, sum_by}
-use Rattle.std.specs.Option.{option_map}
+use Rattle.std.proofs.Common.{◌≡◌, ℕ, ◌+◌, ◌-◌, ◌*◌, ◌%◌, ◌^◌, ◌<◌, Bool, true, false, List, [], ◌∷◌, Some, None, refl, sym, ap, ◌∙◌, arith}
+use Rattle.std.specs.Prelude.{◌==◌, if◌then◌else◌, nat_lt}
 use Rattle.std.proofs.lemmas.Bool.Decides.{nat_tests}
-use Rattle.std.proofs.lemmas.List.Sums.{sum_by-append, sum_by-cons}
-use Rattle.m3_base.specs.Words.{add_words, sub_words}
-use Rattle.m3_mid_meaning.specs.Words.{Word, sum_of, difference_of, cells_without, cells_left, ◌>>=◌, place_in, Place, InCell, Outside}
-use Rattle.m3_mid_meaning.specs.Layouts.{machine_word, machine_address}
-use Rattle.m3_mid_meaning.specs.Laws.{AgreesWithMachine}
+use Rattle.std.proofs.lemmas.List.Sums.{sum_by-cons}
+use Rattle.std.proofs.lemmas.Nat.{mul-mod_second, mul-mod_first}
+use Rattle.m3_base.specs.Words.{add_words, sub_words, mul_words}
+use Rattle.m3_mid_meaning.specs.Words.{Multiple, Word, put, with_cell, with_cells, times_of, normal, sum_of, difference_of, further, number, place_in, Place, InCell, Outside}
+use Rattle.m3_mid_meaning.specs.Layouts.{addresses_of, machine_word, machine_address}
+use Rattle.m3_mid_meaning.specs.WordLaws.{AgreesWithMachine}
 
--- ---- numbers modulo 2 ^ 64
+over_sum : (m a b : ℕ) → m * (a + b) ≡ m * a + m * b
+over_sum m a b = grind arith
 
--- what the machine makes of sums of addresses that are added and taken away, and of an offset
-abbrev whole : ℕ → ℕ → ℕ → ℕ
-whole p q o = add_words (sub_words (p % 2 ^ 64) (q % 2 ^ 64)) o
+of_sum : (m n a : ℕ) → (m + n) * a ≡ m * a + n * a
+of_sum m n a = grind arith
 
-sums : (p q o p' q' o' : ℕ) → whole (p + p') (q + q') (add_words o o') ≡ add_words (whole p q o) (whole p' q' o')
-sums p q o p' q' o' = omega arith
-
-differences : (p q o p' q' o' : ℕ) → o' < 2 ^ 64 → whole (p + q') (q + p') (sub_words o o') ≡ sub_words (whole p q o) (whole p' q' o')
-differences p q o p' q' o' h = omega arith
-
-distances : (p q o n : ℕ) → whole p q (add_words o n) ≡ add_words (whole p q o) n
-distances p q o n = omega arith
-
-one_left : (p q o a : ℕ) → p ≡ a + q → whole p q o ≡ add_words a o
-one_left p q o a h = omega arith
-
-none_left : (p q o : ℕ) → o < 2 ^ 64 → p ≡ q → whole p q o ≡ o
-none_left p q o h e = omega arith
-
--- ---- cells
+assoc_product : (m n a : ℕ) → m * n * a ≡ m * (n * a)
+assoc_product m n a = grind arith
 
 module _ (lies : ℕ → ℕ) where
-  -- one cell less
-  one_less : (c d : ℕ) (ds rest : List ℕ) (b : Bool) (r : Option (List ℕ)) → (c == d) ≡ b → ((others : List ℕ) → r ≡ Some others → sum_by lies ds ≡ lies c + sum_by lies others) → (if b then Some ds else option_map (λ others. d ∷ others) r) ≡ Some rest → lies d + sum_by lies ds ≡ lies c + sum_by lies rest
-  one_less c d ds rest true r e h k =
-      let same : c ≡ d = grind (arith, nat_tests) in
-      let all : ds ≡ rest = cc in
-      ap (λ n. lies n + sum_by lies ds) (sym same) ∙ ap (λ xs. lies c + sum_by lies xs) all
-  one_less c d ds rest false None e h k = absurd (let bad : None ≡ Some rest = k in cc)
-  one_less c d ds rest false (Some others) e h k =
-      let all : (d ∷ others) ≡ rest = cc in
-      let step : sum_by lies ds ≡ lies c + sum_by lies others = h others refl in
-      let there : lies d + sum_by lies ds ≡ lies c + (lies d + sum_by lies others) = omega arith in
-      there ∙ ap (λ n. lies c + n) (sym (sum_by-cons lies d others)) ∙ ap (λ xs. lies c + sum_by lies xs) all
+  abbrev lie : List Multiple → ℕ
+  lie xs = addresses_of lies xs
 
-  without : (c : ℕ) (cs rest : List ℕ) → cells_without c cs ≡ Some rest → sum_by lies cs ≡ lies c + sum_by lies rest
-  without c [] rest e = absurd (let bad : None ≡ Some rest = e in cc)
-  without c (d ∷ ds) rest e =
-      sum_by-cons lies d ds ∙ one_less c d ds rest (c == d) (cells_without c ds) refl (without c ds) e
+  lie_cons : (x : Multiple) (xs : List Multiple) → lie (x ∷ xs) ≡ x.times * lies x.cell + lie xs
+  lie_cons x xs = sum_by-cons (λ y. y.times * lies y.cell) x xs
 
-  taken : (c : ℕ) (plus minus rest : List ℕ) (r : Option (List ℕ)) → cells_without c plus ≡ r → ((others : List ℕ) → cells_left others minus ≡ Some rest → sum_by lies others ≡ sum_by lies rest + sum_by lies minus) → (r >>= λ others. cells_left others minus) ≡ Some rest → sum_by lies plus ≡ sum_by lies rest + (lies c + sum_by lies minus)
-  taken c plus minus rest None e h k = absurd (let bad : None ≡ Some rest = k in cc)
-  taken c plus minus rest (Some others) e h k =
-      let first : sum_by lies plus ≡ lies c + sum_by lies others = without c plus others e in
-      let second : sum_by lies others ≡ sum_by lies rest + sum_by lies minus = h others k in
+  put_at : (c n : ℕ) (xs : List Multiple) (b : Bool) → (n % 2 ^ 64 == 0) ≡ b → lie (if b then xs else record { cell = c; times = n % 2 ^ 64 } ∷ xs) % 2 ^ 64 ≡ (n * lies c + lie xs) % 2 ^ 64
+  put_at c n xs true e =
+      let z : n % 2 ^ 64 ≡ 0 = grind (arith, nat_tests) in
+      let p : (n % 2 ^ 64 * lies c) % 2 ^ 64 ≡ (n * lies c) % 2 ^ 64 = mul-mod_first n (lies c) (2 ^ 64) in
+      let q : n % 2 ^ 64 * lies c ≡ 0 * lies c = ap (λ z. z * lies c) z in
+      let r : 0 * lies c ≡ 0 = grind arith in
+      omega arith
+  put_at c n xs false e =
+      let p : (n % 2 ^ 64 * lies c) % 2 ^ 64 ≡ (n * lies c) % 2 ^ 64 = mul-mod_first n (lies c) (2 ^ 64) in
+      let q = lie_cons (record { cell = c; times = n % 2 ^ 64 }) xs in
       omega arith
 
-  left_over : (plus minus rest : List ℕ) → cells_left plus minus ≡ Some rest → sum_by lies plus ≡ sum_by lies rest + sum_by lies minus
-  left_over plus [] rest e =
-      let all : plus ≡ rest = cc in
-      let zero_more : sum_by lies plus ≡ sum_by lies plus + sum_by lies [] = omega arith in
-      zero_more ∙ ap (λ xs. sum_by lies xs + sum_by lies []) all
-  left_over plus (c ∷ minus) rest e =
-      taken c plus minus rest (cells_without c plus) refl (λ others. left_over others minus rest) e ∙ ap (λ n. sum_by lies rest + n) (sym (sum_by-cons lies c minus))
+  put_lies : (c n : ℕ) (xs : List Multiple) → lie (put c n xs) % 2 ^ 64 ≡ (n * lies c + lie xs) % 2 ^ 64
+  put_lies c n xs = put_at c n xs (n % 2 ^ 64 == 0) refl
 
-  -- a word that is an address has one cell left, or none
-  placed : (w : Word) (place : Place) (r : Option (List ℕ)) → w.offset < 2 ^ 64 → cells_left w.plus w.minus ≡ r → (r >>= λ cells. place_in cells w.offset) ≡ Some place → machine_word lies w ≡ machine_address lies place
-  placed w place None lt e k = absurd (let bad : None ≡ Some place = k in cc)
-  placed w place (Some []) lt e k =
-      let both : Some (Outside w.offset) ≡ Some place = k in
-      let there : Outside w.offset ≡ place = cc in
-      let h : sum_by lies w.plus ≡ sum_by lies [] + sum_by lies w.minus = left_over w.plus w.minus [] e in
-      let s : sum_by lies w.plus ≡ sum_by lies w.minus = omega arith in
-      none_left (sum_by lies w.plus) (sum_by lies w.minus) w.offset lt s ∙ ap (machine_address lies) there
-  placed w place (Some (c ∷ [])) lt e k =
-      let both : Some (InCell c w.offset) ≡ Some place = k in
-      let there : InCell c w.offset ≡ place = cc in
-      let h : sum_by lies w.plus ≡ sum_by lies (c ∷ []) + sum_by lies w.minus = left_over w.plus w.minus (c ∷ []) e in
-      let s : sum_by lies w.plus ≡ lies c + sum_by lies w.minus = omega arith in
-      one_left (sum_by lies w.plus) (sum_by lies w.minus) w.offset (lies c) s ∙ ap (machine_address lies) there
-  placed w place (Some (c ∷ d ∷ cs)) lt e k = absurd (let bad : None ≡ Some place = k in cc)
+  with_at : (c n : ℕ) (x : Multiple) (xs : List Multiple) (b b' : Bool) → (c == x.cell) ≡ b → lie (with_cell c n xs) % 2 ^ 64 ≡ (n * lies c + lie xs) % 2 ^ 64 →
+      lie (if b then put c (n + x.times) xs else if b' then put c n (x ∷ xs) else x ∷ with_cell c n xs) % 2 ^ 64 ≡ (n * lies c + lie (x ∷ xs)) % 2 ^ 64
+  with_at c n x xs true b' e h =
+      let same : c ≡ x.cell = grind (arith, nat_tests) in
+      let p : lie (put c (n + x.times) xs) % 2 ^ 64 ≡ ((n + x.times) * lies c + lie xs) % 2 ^ 64 = put_lies c (n + x.times) xs in
+      let q : (n + x.times) * lies c ≡ n * lies c + x.times * lies c = of_sum n x.times (lies c) in
+      let r : x.times * lies c ≡ x.times * lies x.cell = ap (λ z. x.times * lies z) same in
+      let s = lie_cons x xs in
+      omega arith
+  with_at c n x xs false true e h = put_lies c n (x ∷ xs)
+  with_at c n x xs false false e h = let s = lie_cons x xs in let t = lie_cons x (with_cell c n xs) in omega arith
+
+  with_cell_lies : (c n : ℕ) (xs : List Multiple) → lie (with_cell c n xs) % 2 ^ 64 ≡ (n * lies c + lie xs) % 2 ^ 64
+  with_cell_lies c n [] = put_lies c n []
+  with_cell_lies c n (x ∷ xs) = with_at c n x xs (c == x.cell) (nat_lt c x.cell) refl (with_cell_lies c n xs)
+
+  with_cells_lie : (n : ℕ) (xs ys : List Multiple) → lie (with_cells n xs ys) % 2 ^ 64 ≡ (n * lie xs + lie ys) % 2 ^ 64
+  with_cells_lie n [] ys = let z : n * lie [] ≡ 0 = let q : n * 0 ≡ 0 = grind arith in q in omega arith
+  with_cells_lie n (x ∷ xs) ys =
+      let h = with_cells_lie n xs ys in
+      let p = with_cell_lies x.cell (n * x.times) (with_cells n xs ys) in
+      let q : n * x.times * lies x.cell ≡ n * (x.times * lies x.cell) = assoc_product n x.times (lies x.cell) in
+      let s : n * lie (x ∷ xs) ≡ n * (x.times * lies x.cell + lie xs) = ap (λ z. n * z) (lie_cons x xs) in
+      let r = over_sum n (x.times * lies x.cell) (lie xs) in
+      omega arith
 
   sum_agrees : (v w : Word) → machine_word lies (sum_of v w) ≡ add_words (machine_word lies v) (machine_word lies w)
   sum_agrees v w =
-      ap (λ p. whole p (sum_by lies (v.minus ++ w.minus)) (add_words v.offset w.offset)) (sum_by-append lies v.plus w.plus)
-      ∙ ap (λ q. whole (sum_by lies v.plus + sum_by lies w.plus) q (add_words v.offset w.offset)) (sum_by-append lies v.minus w.minus)
-      ∙ sums (sum_by lies v.plus) (sum_by lies v.minus) v.offset (sum_by lies w.plus) (sum_by lies w.minus) w.offset
+      let a : lie (with_cells 1 w.cells []) % 2 ^ 64 ≡ (1 * lie w.cells + lie []) % 2 ^ 64 = with_cells_lie 1 w.cells [] in
+      let z : lie [] ≡ 0 = refl in
+      let b : lie (with_cells 1 v.cells (with_cells 1 w.cells [])) % 2 ^ 64 ≡ (1 * lie v.cells + lie (with_cells 1 w.cells [])) % 2 ^ 64 = with_cells_lie 1 v.cells (with_cells 1 w.cells []) in
+      omega arith
 
-  difference_agrees : (v w : Word) → w.offset < 2 ^ 64 → machine_word lies (difference_of v w) ≡ sub_words (machine_word lies v) (machine_word lies w)
-  difference_agrees v w lt =
-      ap (λ p. whole p (sum_by lies (v.minus ++ w.plus)) (sub_words v.offset w.offset)) (sum_by-append lies v.plus w.minus)
-      ∙ ap (λ q. whole (sum_by lies v.plus + sum_by lies w.minus) q (sub_words v.offset w.offset)) (sum_by-append lies v.minus w.plus)
-      ∙ differences (sum_by lies v.plus) (sum_by lies v.minus) v.offset (sum_by lies w.plus) (sum_by lies w.minus) w.offset lt
+  times_agree : (n : ℕ) (w : Word) → machine_word lies (times_of n w) ≡ mul_words n (machine_word lies w)
+  times_agree n w =
+      let a : lie (with_cells n w.cells []) % 2 ^ 64 ≡ (n * lie w.cells + lie []) % 2 ^ 64 = with_cells_lie n w.cells [] in
+      let z : lie [] ≡ 0 = refl in
+      let p = mul-mod_second n (lie w.cells + w.offset) (2 ^ 64) in
+      let r = over_sum n (lie w.cells) w.offset in
+      omega arith
 
-  pub agrees : (v w : Word) → v.offset < 2 ^ 64 → w.offset < 2 ^ 64 → AgreesWithMachine lies v w
-  agrees v w lv lw = record {
+  difference_agrees : (v w : Word) → machine_word lies (difference_of v w) ≡ sub_words (machine_word lies v) (machine_word lies w)
+  difference_agrees v w =
+      let a = sum_agrees v (times_of (2 ^ 64 - 1) w) in
+      let b = times_agree (2 ^ 64 - 1) w in
+      let c : machine_word lies w < 2 ^ 64 = omega arith in
+      omega arith
+
+  distance_agrees : (w : Word) (n : ℕ) → machine_word lies (further w n) ≡ add_words (machine_word lies w) n
+  distance_agrees w n =
+      let a = sum_agrees w (number n) in
+      let z : machine_word lies (number n) ≡ n % 2 ^ 64 = omega arith in
+      omega arith
+
+  normal_agrees : (w : Word) → machine_word lies (normal w) ≡ machine_word lies w
+  normal_agrees w = let a = times_agree 1 w in omega arith
+
+  in_cell : (x : Multiple) (n : ℕ) (place : Place) (b : Bool) → (x.times == 1) ≡ b → (if b then Some (InCell x.cell n) else None) ≡ Some place → add_words (lie (x ∷ [])) n ≡ machine_address lies place
+  in_cell x n place true e k =
+      let one : x.times ≡ 1 = grind (arith, nat_tests) in
+      let there : InCell x.cell n ≡ place = cc in
+      let s = lie_cons x [] in
+      let p : x.times * lies x.cell ≡ 1 * lies x.cell = ap (λ z. z * lies x.cell) one in
+      let z : lie [] ≡ 0 = refl in
+      let q : add_words (lie (x ∷ [])) n ≡ add_words (lies x.cell) n = omega arith in
+      q ∙ ap (machine_address lies) there
+  in_cell x n place false e k = absurd (let bad : None ≡ Some place = k in cc)
+
+  placed : (xs : List Multiple) (n : ℕ) (place : Place) → n < 2 ^ 64 → place_in xs n ≡ Some place → add_words (lie xs) n ≡ machine_address lies place
+  placed [] n place lt k =
+      let both : Some (Outside n) ≡ Some place = k in
+      let there : Outside n ≡ place = cc in
+      let z : lie [] ≡ 0 = refl in
+      let q : add_words (lie []) n ≡ n = omega arith in
+      q ∙ ap (machine_address lies) there
+  placed (x ∷ []) n place lt k = in_cell x n place (x.times == 1) refl k
+  placed (x ∷ y ∷ xs) n place lt k = absurd (let bad : None ≡ Some place = k in cc)
+
+  pub agrees : (v w : Word) → AgreesWithMachine lies v w
+  agrees v w = record {
     sum = sum_agrees v w;
-    difference = difference_agrees v w lw;
-    distance = λ n. distances (sum_by lies w.plus) (sum_by lies w.minus) w.offset n;
-    address = λ place. placed w place (cells_left w.plus w.minus) lw refl;
+    difference = difference_agrees v w;
+    distance = distance_agrees w;
+    normal_form = normal_agrees w;
+    address = λ place e. sym (normal_agrees w) ∙ placed (normal w).cells (normal w).offset place (omega arith) e;
   }

@@ -1,3 +1,9 @@
 pub mod Longer
-pub mod Layouts
 pub mod Stepwise
+pub mod Sums
+pub mod WordSums
+pub mod Layouts
+pub mod Chain
+pub mod Where
+pub mod Following
+pub mod Proper

@@ -63,7 +63,7 @@ exit_leads more (Over ending) f g h = over_leads more (record { events = []; end
 module _ (p : Proc) (around : Around) (more : List Answer) where
   ops_lead : (ops : List MidOp) (end : End) (s : State) (answers : List Answer) (f g : ℕ → Following) → ((b : ℕ) → GoesAlong more (f b) (g b)) → Leads more (run_ops p around ops end s answers f) (run_ops p around ops end s (answers ++ more) g)
   ops_lead [] end s answers f g h =
-      exit_leads more (exit_of p.slots.now around s end) (λ b. f b s answers) (λ b. g b s (answers ++ more)) (λ b. h b s answers)
+      exit_leads more (exit_of s end) (λ b. f b s answers) (λ b. g b s (answers ++ more)) (λ b. h b s answers)
   ops_lead (op ∷ ops) end s answers f g h =
       effect_leads more (effect_of p.slots.now around s op) answers (λ s' rest. run_ops p around ops end s' rest f) (λ s' rest. run_ops p around ops end s' rest g) (λ s' rest. ops_lead ops end s' rest f g h)
 

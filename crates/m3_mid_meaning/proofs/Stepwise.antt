@@ -8,7 +8,7 @@ use Rattle.m3_mid_meaning.specs.States.{State, Waiting, Undefined, Next, Goes, E
 use Rattle.m3_mid_meaning.specs.Points.{Event, Answer, Effect, Plain, Acts, Outcome}
 use Rattle.m3_mid_meaning.specs.Meaning.{effect_of, Exit, To, Over, exit_of}
 use Rattle.m3_mid_meaning.specs.Machinery.{Progress, behind, go_on, carry_out, leave, run_ops, run_block, run_blocks}
-use Rattle.m3_mid_meaning.specs.Runs.{Code}
+use Rattle.m3_mid_meaning.specs.Stops.{Code}
 use Rattle.m3_mid_meaning.specs.Laws.{ended, preceded, FollowsNext, FollowsEffect, FollowsExit, FollowsBlock, IsStepwise}
 
 -- the run that an event precedes
@@ -17,7 +17,7 @@ later_of event None o e = absurd (let bad : None ≡ Some o = e in cc)
 later_of event (Some later) o e =
     (later, refl, let all : Some (preceded event later) ≡ Some o = e in let back : preceded event later ≡ o = cc in sym back)
 
-is_some : (o o' : Outcome) → Some o ≡ Some o' → o' ≡ o
+pub is_some : (o o' : Outcome) → Some o ≡ Some o' → o' ≡ o
 is_some o o' e = let back : o ≡ o' = cc in sym back
 
 module _ (p : Proc) (around : Around) where
@@ -25,7 +25,7 @@ module _ (p : Proc) (around : Around) where
   next_there code (Goes s) answers o n e = record { blocks = n; is = e }
   next_there code (Ends ending) answers o n e = is_some (ended ending) o e
 
-  effect_there : (code : Code) (x : Effect) (answers : List Answer) (o : Outcome) (n : ℕ) → carry_out x answers (λ s rest. run_ops p around code.ops code.end s rest (run_blocks n p around)) ≡ Some o → FollowsEffect p around code x answers o
+  pub effect_there : (code : Code) (x : Effect) (answers : List Answer) (o : Outcome) (n : ℕ) → carry_out x answers (λ s rest. run_ops p around code.ops code.end s rest (run_blocks n p around)) ≡ Some o → FollowsEffect p around code x answers o
   effect_there code (Plain next) answers o n e = next_there code next answers o n e
   effect_there code (Acts event reply) [] o n e = is_some (preceded event (ended Waiting)) o e
   effect_there code (Acts event reply) (answer ∷ answers) o n e =
@@ -36,7 +36,7 @@ module _ (p : Proc) (around : Around) where
   next_back code (Goes s) answers o h = (h.blocks, h.is)
   next_back code (Ends ending) answers o h = (0, ap (λ x. Some x) (sym h))
 
-  effect_back : (code : Code) (x : Effect) (answers : List Answer) (o : Outcome) → FollowsEffect p around code x answers o → (n : ℕ) × (carry_out x answers (λ s rest. run_ops p around code.ops code.end s rest (run_blocks n p around)) ≡ Some o)
+  pub effect_back : (code : Code) (x : Effect) (answers : List Answer) (o : Outcome) → FollowsEffect p around code x answers o → (n : ℕ) × (carry_out x answers (λ s rest. run_ops p around code.ops code.end s rest (run_blocks n p around)) ≡ Some o)
   effect_back code (Plain next) answers o h = next_back code next answers o h
   effect_back code (Acts event reply) [] o h = (0, ap (λ x. Some x) (sym h))
   effect_back code (Acts event reply) (answer ∷ answers) o h =
@@ -71,7 +71,7 @@ module _ (p : Proc) (around : Around) where
           λ h. let r = effect_back rest effect answers o h in record { blocks = r.0; is = r.1 },
         );
     end = λ end.
-        let exit = exit_of p.slots.now around s end in (
+        let exit = exit_of s end in (
           λ h. exit_there exit s answers o h.blocks h.is,
           λ h. let r = exit_back exit s answers o h in record { blocks = r.0; is = r.1 },
         );

@@ -1,6 +1,5 @@
--- Laws of words, of points and of runs.
+-- Laws of points and of runs.
 use Rattle.std.specs.Prelude.{◌≡◌, ◌≢◌, ◌↔◌, ℕ, ◌<◌, ◌^◌, List, [], ◌∷◌, ◌++◌, Bool, true, false, if◌then◌else◌, Option, Some, None, slice_get}
-use Rattle.m3_base.specs.Words.{add_words, sub_words}
 use Rattle.m3_base.specs.declared.outcomes.FaultKind.{FaultKind}
 use Rattle.m3_base.specs.declared.places.Pos.{Pos}
 use Rattle.m3_mid.specs.declared.procs.Proc.{Proc}
@@ -12,14 +11,14 @@ use Rattle.m3_mid.specs.declared.ops.MidOp.{MidOp}
 use Rattle.m3_mid.specs.declared.ops.MidOp.TheVariants as ops
 use Rattle.m3_mid.specs.declared.ops.Operand.{Operand}
 use Rattle.m3_mid.specs.declared.ops.Relation.{Relation}
-use Rattle.m3_mid_meaning.specs.Words.{Word, sum_of, difference_of, further, Place, Outside, place_of}
-use Rattle.m3_mid_meaning.specs.Layouts.{machine_word, machine_address}
-use Rattle.m3_mid_meaning.specs.Memory.{Memory, Around, slot_address}
+use Rattle.m3_mid_meaning.specs.Words.{IsNormal, Place, Outside}
+use Rattle.m3_mid_meaning.specs.Memory.{Memory, Around, slot_address, is_own}
 use Rattle.m3_mid_meaning.specs.States.{State, Ending, Faulted, Waiting, Undefined, Next, Goes, Ends, operand}
 use Rattle.m3_mid_meaning.specs.Operations.{is_true}
 use Rattle.m3_mid_meaning.specs.Points.{Event, Answer, Effect, Plain, Acts, Outcome, state_after}
 use Rattle.m3_mid_meaning.specs.Meaning.{effect_of, Exit, To, Over, exit_of}
-use Rattle.m3_mid_meaning.specs.Runs.{Code, code_of, bare, before, Runs, RunsFrom, IsRun}
+use Rattle.m3_mid_meaning.specs.Stops.{Code, code_of, bare, before, Stop, AtPoint, AtEnd}
+use Rattle.m3_mid_meaning.specs.Runs.{Runs, RunsFrom, start_of, IsRun, FollowsRun, IsStop}
 
 -- ---- runs
 
@@ -47,6 +46,22 @@ GoesOnBehind =
     (p : Proc) (around : Around) (memory : Memory) (answers : List Answer) (o : Outcome) →
     IsRun p around memory answers o → GoesOn p around memory answers o
 
+-- What follows what follows a procedure follows it.
+pub record Composes (p q r : Proc) : Type 0 where
+  pub itself : FollowsRun p p
+  pub chained : FollowsRun p q → FollowsRun q r → FollowsRun p r
+
+abbrev pub FollowingComposes : Type 0
+FollowingComposes = (p q r : Proc) → Composes p q r
+
+-- Where one procedure follows another, they have the same runs wherever runs are defined.
+abbrev pub SameWhereDefined : Type 0
+SameWhereDefined =
+    (p q : Proc) → FollowsRun p q →
+    (around : Around) (memory : Memory) (answers : List Answer) (o : Outcome) →
+    o.ending ≢ Undefined → IsRun p around memory answers o →
+    (o' : Outcome) → IsRun p around memory answers o' ↔ IsRun q around memory answers o'
+
 -- a run that ends at once
 abbrev pub ended : Ending → Outcome
 ended ending = record { events = []; ending = ending }
@@ -70,44 +85,53 @@ KeepsFault =
     Runs p around (before (ops.Check relation left right kind place) rest) s answers o
     ↔ (o ≡ ended (Faulted kind place))
 
--- ---- words
-
--- Wherever the cells lie, sums and differences of words are those of the machine's words, and a
--- word that is the address of a place is the machine's address of it.
-pub record AgreesWithMachine (lies : ℕ → ℕ) (v w : Word) : Type 0 where
-  pub sum : machine_word lies (sum_of v w) ≡ add_words (machine_word lies v) (machine_word lies w)
-  pub difference :
-      machine_word lies (difference_of v w) ≡ sub_words (machine_word lies v) (machine_word lies w)
-  pub distance : (n : ℕ) → machine_word lies (further w n) ≡ add_words (machine_word lies w) n
-  pub address : (place : Place) → place_of w ≡ Some place → machine_word lies w ≡ machine_address lies place
-
-abbrev pub HoldsInLayouts : Type 0
-HoldsInLayouts =
-    (lies : ℕ → ℕ) (v w : Word) → v.offset < 2 ^ 64 → w.offset < 2 ^ 64 →
-    AgreesWithMachine lies v w
-
 -- ---- points
 
--- the word of a slot
-abbrev pub slot_word : Around → Memory → ℕ → Option Word
-slot_word around memory n = memory.words (Outside (slot_address around n))
-
--- Behind a point each temporary is what it was, and so is a slot that isn't shared; one that is
--- shared is as the answer has it.
+-- Behind a point each temporary is what it was, and so are the environment and the slots that aren't
+-- shared; whatever an address may lead to is as the answer has it.
 pub record KeepsOwn (slots : List Slot) (around : Around)
     (s after : State) (answer : Answer) : Type 0 where
   pub temps : (t : ℕ) → after.temps t ≡ s.temps t
-  pub unshared :
-      (n : ℕ) (slot : Slot) → n < 2 ^ 32 → slice_get slots n ≡ Some slot → slot.is_shared ≡ false →
-      slot_word around after.memory n ≡ slot_word around s.memory n
+  pub environment : after.environment ≡ s.environment
+  pub own : (n : ℕ) → after.own n ≡ s.own n
+  pub others :
+      (place : Place) → is_own slots around place ≡ false →
+      after.memory.words place ≡ answer.memory.words place
   pub shared :
       (n : ℕ) (slot : Slot) → n < 2 ^ 32 → slice_get slots n ≡ Some slot → slot.is_shared ≡ true →
-      slot_word around after.memory n ≡ slot_word around answer.memory n
+      after.memory.words (Outside (slot_address around n))
+      ≡ answer.memory.words (Outside (slot_address around n))
 
 abbrev pub KeepsOwnWords : Type 0
 KeepsOwnWords =
     (slots : List Slot) (around : Around) (s : State) (answer : Answer) →
     KeepsOwn slots around s (state_after slots around s answer) answer
+
+-- ---- states
+
+-- What holds wherever an activation stands: each temporary is in normal form, and memory has none of
+-- the own words, so that no address leads to them.
+pub record IsProper (slots : List Slot) (around : Around) (s : State) : Type 0 where
+  pub temps : (t : ℕ) → IsNormal (s.temps t)
+  pub hidden : (place : Place) → is_own slots around place ≡ true → s.memory.words place ≡ None
+
+abbrev pub GoesProperly : List Slot → Around → Next → Type 0
+GoesProperly slots around (Goes s) = IsProper slots around s
+GoesProperly slots around (Ends ending) = Unit {0}
+
+abbrev pub ActsProperly : List Slot → Around → Effect → Type 0
+ActsProperly slots around (Plain next) = GoesProperly slots around next
+ActsProperly slots around (Acts event reply) =
+    (answer : Answer) → GoesProperly slots around (reply answer)
+
+pub record StaysProper (p : Proc) (around : Around) : Type 0 where
+  pub start : (memory : Memory) → IsProper p.slots.now around (start_of p around memory)
+  pub goes_on :
+      (s : State) (op : MidOp) → IsProper p.slots.now around s →
+      ActsProperly p.slots.now around (effect_of p.slots.now around s op)
+
+abbrev pub AreProper : Type 0
+AreProper = (p : Proc) (around : Around) → StaysProper p around
 
 -- ---- steps
 
@@ -147,7 +171,7 @@ pub record IsStepwise (p : Proc) (around : Around)
   pub end :
       (end : End) →
       Runs p around (bare end) s answers o
-      ↔ FollowsExit p around (exit_of p.slots.now around s end) s answers o
+      ↔ FollowsExit p around (exit_of s end) s answers o
   pub block :
       (b : ℕ) →
       RunsFrom p around b s answers o ↔ FollowsBlock p around (slice_get p.blocks.now b) s answers o
@@ -156,3 +180,24 @@ abbrev pub GoesStepwise : Type 0
 GoesStepwise =
     (p : Proc) (around : Around) (s : State) (answers : List Answer) (o : Outcome) →
     IsStepwise p around s answers o
+
+-- ---- stops
+
+-- the run from a stop on: a point takes an answer, and where none is left the run waits there
+abbrev pub FollowsStop : Proc → Around → Stop → List Answer → Outcome → Type 0
+FollowsStop p around (AtPoint event reply code) answers o =
+    FollowsEffect p around code (Acts event reply) answers o
+FollowsStop p around (AtEnd ending) answers o = o ≡ ended ending
+
+-- A run is the chain of its stops. Where an activation goes on, it has one next stop at most.
+pub record IsChain (p : Proc) (around : Around) (code : Code) (s : State) : Type 0 where
+  pub run :
+      (answers : List Answer) (o : Outcome) →
+      Runs p around code s answers o
+      ↔ ((stop : Stop) × IsStop p around code s stop × FollowsStop p around stop answers o)
+  pub one :
+      (stop stop' : Stop) → IsStop p around code s stop → IsStop p around code s stop' →
+      stop ≡ stop'
+
+abbrev pub GoesByStops : Type 0
+GoesByStops = (p : Proc) (around : Around) (code : Code) (s : State) → IsChain p around code s

@@ -1,6 +1,8 @@
 pub mod Meaning
 pub mod Runs
 pub mod Laws
+pub mod WordLaws
+pub mod Stops
 pub mod Points
 pub mod Actions
 pub mod Operations

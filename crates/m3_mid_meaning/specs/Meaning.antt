@@ -12,11 +12,11 @@ use Rattle.m3_mid.specs.declared.ops.MidOp.{MidOp}
 use Rattle.m3_mid.specs.declared.ops.MidOp.TheVariants as ops
 use Rattle.m3_mid_meaning.specs.Numbers.{checked_value}
 use Rattle.m3_mid_meaning.specs.Words.{Word, number, number_of, of_numbers}
-use Rattle.m3_mid_meaning.specs.Memory.{Memory, Around, slot_address, load, store}
-use Rattle.m3_mid_meaning.specs.States.{State, Ending, Returned, Escaped, Faulted, Undefined, operand, address_of, sets, stores, goes_or_faults, sets_or_faults}
+use Rattle.m3_mid_meaning.specs.Memory.{Memory, Around, slot_address}
+use Rattle.m3_mid_meaning.specs.States.{State, Ending, Returned, Escaped, Faulted, Undefined, operand, loaded, stored, with_memory, sets, goes_to, goes_or_faults, sets_or_faults}
 use Rattle.m3_mid_meaning.specs.Operations.{operated, is_true, flag_word, copied, filled, are_equal, element_address, is_of_type, method_of, text_byte, are_equal_texts}
 use Rattle.m3_mid_meaning.specs.Actions.{Passes, call_action, make_action, serve_action}
-use Rattle.m3_mid_meaning.specs.Points.{Effect, Plain, seen, passes, after_call, after_make, after_service, after_nothing}
+use Rattle.m3_mid_meaning.specs.Points.{Effect, Plain, passes, after_call, after_make, after_service, after_nothing}
 
 -- an operation, in a frame with these slots
 abbrev pub effect_of : List Slot → Around → State → MidOp → Effect
@@ -30,9 +30,9 @@ effect_of slots around s (ops.Checked to operator left right place) =
 effect_of slots around s (ops.Compare to relation left right) =
     Plain (sets s to (flag_word (is_true relation (operand s left) (operand s right))))
 effect_of slots around s (ops.Load to from) =
-    Plain (sets s to (load around s.memory (address_of around s from)))
+    Plain (sets s to (loaded slots around s from))
 effect_of slots around s (ops.Store at from) =
-    Plain (stores s (store s.memory (address_of around s at) (operand s from)))
+    Plain (goes_to (stored slots around s at (operand s from)))
 effect_of slots around s (ops.SlotAddress to slot) =
     Plain (sets s to (Some (number (slot_address around slot))))
 effect_of slots around s (ops.FrameAddress to) = Plain (sets s to (Some (number around.frame)))
@@ -43,11 +43,14 @@ effect_of slots around s (ops.TextCell to text) =
 effect_of slots around s (ops.ConstantAddress to constant) =
     Plain (sets s to (Some (number (around.constants constant))))
 effect_of slots around s (ops.Index to array index words offset) =
-    Plain (sets s to (element_address (s.temps array) words (operand s index) (word_of offset)))
+    let address = element_address (s.temps array) words (operand s index) (word_of offset) in
+    Plain (sets s to (Some address))
 effect_of slots around s (ops.Copy to from words) =
-    Plain (stores s (copied around s.memory (s.temps to) (s.temps from) (operand s words)))
+    let after = copied around s.memory (s.temps to) (s.temps from) (operand s words) in
+    Plain (goes_to (option_map (with_memory s) after))
 effect_of slots around s (ops.Fill at words distance) =
-    Plain (stores s (filled around s.memory (s.temps at) (operand s words) (operand s distance)))
+    let after = filled around s.memory (s.temps at) (operand s words) (operand s distance) in
+    Plain (goes_to (option_map (with_memory s) after))
 effect_of slots around s (ops.EqualWords to left right words) =
     let test = are_equal around s.memory (s.temps left) (s.temps right) (operand s words) in
     Plain (sets s to (flag_word test))
@@ -63,10 +66,11 @@ effect_of slots around s (ops.TextByte to text index) =
 effect_of slots around s (ops.EqualTexts to left right) =
     Plain (sets s to (flag_word (are_equal_texts around s.memory (s.temps left) (s.temps right))))
 effect_of slots around s (ops.Call callee passed result raised shown) =
-    let action = call_action around s callee passed.now in
+    let action = call_action slots around s callee passed.now in
     passes slots around s shown.now action (after_call result raised)
 effect_of slots around s (ops.Make to cell sizes shown) =
-    passes slots around s shown.now (make_action around s cell sizes) (after_make to)
+    let action = make_action slots around s cell sizes in
+    passes slots around s shown.now action (after_make to)
 effect_of slots around s (ops.Service service row to raised place shown) =
     passes slots around s shown.now (serve_action s service row.now) (after_service to raised place)
 effect_of slots around s (ops.Point shown) =
@@ -88,13 +92,12 @@ raised_by number tidy memory None = Over Undefined
 raised_by number tidy memory (Some zero) = Over Undefined
 raised_by number tidy memory (Some (suc n)) = Over (Escaped (suc n) number tidy memory)
 
-abbrev pub exit_of : List Slot → Around → State → End → Exit
-exit_of slots around s (ends.Goto to) = To to
-exit_of slots around s (ends.If relation left right target other) =
+abbrev pub exit_of : State → End → Exit
+exit_of s (ends.Goto to) = To to
+exit_of s (ends.If relation left right target other) =
     arm_of target other (is_true relation (operand s left) (operand s right))
-exit_of slots around s (ends.Return value) =
-    Over (Returned (option_map (operand s) value) (seen slots around s.memory))
-exit_of slots around s (ends.FaultAt kind place) = Over (Faulted kind place)
-exit_of slots around s (ends.Raise exception number tidy) =
-    let memory = seen slots around s.memory in
-    raised_by (operand s number) (operand s tidy) memory (number_of (operand s exception))
+exit_of s (ends.Return value) =
+    Over (Returned (option_map (operand s) value) s.memory)
+exit_of s (ends.FaultAt kind place) = Over (Faulted kind place)
+exit_of s (ends.Raise exception number tidy) =
+    raised_by (operand s number) (operand s tidy) s.memory (number_of (operand s exception))

@@ -1,8 +1,9 @@
 -- Memory: the words of cells, globals, frames and constants, each seen by its address.
-use Rattle.std.specs.Prelude.{ℕ, zero, suc, ◌+◌, ◌/◌, ◌%◌, List, [], ◌∷◌, ◌++◌, Bool, Option, Some, None, if◌then◌else◌}
+use Rattle.std.specs.Prelude.{ℕ, zero, suc, ◌+◌, ◌/◌, ◌%◌, ◌==◌, List, [], ◌∷◌, ◌++◌, Bool, true, false, not, Option, Some, None, if◌then◌else◌, slice_get}
 use Rattle.std.specs.Option.{option_map, option_or}
-use Rattle.m3_base.specs.Words.{add_words}
+use Rattle.m3_base.specs.Words.{add_words, sub_words}
 use Rattle.m3_isa.specs.Arithmetic.{byte_in}
+use Rattle.m3_mid.specs.declared.procs.Slot.{Slot}
 use Rattle.m3_mid_meaning.specs.Words.{Word, number, further, ◌>>=◌, Place, InCell, Outside, place_of, number_of, is_same_place}
 
 -- The word at each place where one is, and the number of the type of the cell that begins at a
@@ -31,6 +32,26 @@ environment_address around = add_words around.frame 2
 
 abbrev pub slot_address : Around → ℕ → ℕ
 slot_address around slot = add_words around.frame (3 + slot)
+
+-- ---- the words of the own frame that no address leads to: the environment, and the slots that
+-- aren't shared
+
+abbrev pub is_unshared : Option Slot → Bool
+is_unshared None = false
+is_unshared (Some slot) = not slot.is_shared
+
+abbrev pub is_own : List Slot → Around → Place → Bool
+is_own slots around (InCell c n) = false
+is_own slots around (Outside address) =
+    if address == environment_address around then true
+    else is_unshared (slice_get slots (sub_words address (slot_address around 0)))
+
+-- memory without them
+abbrev pub seen : List Slot → Around → Memory → Memory
+seen slots around memory =
+    record memory { words = λ p. if is_own slots around p then None else memory.words p }
+
+-- ---- words at addresses
 
 abbrev pub constant_at : Around → Place → Option Word
 constant_at around (Outside address) = option_map number (around.constant_words address)

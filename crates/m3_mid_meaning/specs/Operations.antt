@@ -1,14 +1,13 @@
 -- What operations without a point compute.
 use Rattle.std.specs.Prelude.{ℕ, Bool, not, Option, Some, slice_get, bytes_eq}
 use Rattle.std.specs.Option.{option_map}
-use Rattle.m3_base.specs.Words.{add_words, mul_words}
 use Rattle.m3_isa.specs.Arithmetic.{flag}
 use Rattle.m3_mid.specs.declared.ops.WordOperator.{WordOperator}
 use Rattle.m3_mid.specs.declared.ops.WordOperator.TheVariants as words
 use Rattle.m3_mid.specs.declared.ops.Relation.{Relation}
 use Rattle.m3_mid.specs.declared.ops.Relation.TheVariants as relations
 use Rattle.m3_mid_meaning.specs.Numbers.{operator_value, is_related}
-use Rattle.m3_mid_meaning.specs.Words.{Word, number, further, sum_of, difference_of, ◌>>=◌, number_of, of_numbers, is_one_word, are_one_row}
+use Rattle.m3_mid_meaning.specs.Words.{Word, number, times_of, sum_of, difference_of, ◌>>=◌, number_of, of_numbers, is_one_word, are_one_row}
 use Rattle.m3_mid_meaning.specs.Memory.{Memory, Around, row_at, store_row, fill, type_at, text_at}
 
 -- Sums and differences are defined for all words, and everything else for numbers.
@@ -44,9 +43,9 @@ are_equal around memory left right count =
     are_one_row vs ws
 
 -- the address of an element of so many words, and an offset
-abbrev pub element_address : Word → ℕ → Word → ℕ → Option Word
+abbrev pub element_address : Word → ℕ → Word → ℕ → Word
 element_address array words index offset =
-    option_map (λ i. further array (add_words (mul_words words i) offset)) (number_of index)
+    sum_of (sum_of array (times_of words index)) (number offset)
 
 abbrev pub is_of_type : Around → Memory → Word → ℕ → Option Bool
 is_of_type around memory cell tested =

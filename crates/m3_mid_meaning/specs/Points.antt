@@ -1,15 +1,14 @@
 -- What a point does: the environment is told the action, and answers; then the operation goes on.
-use Rattle.std.specs.Prelude.{ℕ, ◌==◌, not, List, Bool, true, false, Option, Some, None, if◌then◌else◌, slice_get}
-use Rattle.m3_base.specs.Words.{sub_words}
+use Rattle.std.specs.Prelude.{ℕ, ◌==◌, not, List, Option, Some, None}
 use Rattle.m3_base.specs.declared.outcomes.FaultKind.{FaultKind}
 use Rattle.m3_base.specs.declared.places.Pos.{Pos}
 use Rattle.m3_isa.specs.Arithmetic.{flag}
 use Rattle.m3_mid.specs.declared.procs.Slot.{Slot}
 use Rattle.m3_mid.specs.declared.calls.Raised.{Raised}
 use Rattle.m3_mid.specs.declared.marks.Shown.{Shown}
-use Rattle.m3_mid_meaning.specs.Words.{Word, number, ◌>>=◌, Place, InCell, Outside}
-use Rattle.m3_mid_meaning.specs.Memory.{Memory, Around, environment_address, slot_address}
-use Rattle.m3_mid_meaning.specs.States.{State, Ending, Next, Goes, Ends, Undefined, Faulted, state_with}
+use Rattle.m3_mid_meaning.specs.Words.{Word, number, ◌>>=◌}
+use Rattle.m3_mid_meaning.specs.Memory.{Memory, Around, seen}
+use Rattle.m3_mid_meaning.specs.States.{State, Ending, Next, Goes, Ends, Undefined, Faulted, state_with, with_memory}
 use Rattle.m3_mid_meaning.specs.Actions.{Action, each_of, shown_word}
 
 -- what the environment learns at a point: the action, the values of the variables that are shown,
@@ -36,42 +35,18 @@ pub data Effect : Type 0 where
   Plain : Next → Effect
   Acts : Event → (Answer → Next) → Effect
 
--- ---- what a point leaves as it is, and hides
-
-abbrev pub is_unshared : Option Slot → Bool
-is_unshared None = false
-is_unshared (Some slot) = not slot.is_shared
-
--- the words of the own frame that no address leads to: the environment, and the slots that aren't
--- shared
-abbrev pub is_own : List Slot → Around → Place → Bool
-is_own slots around (InCell c n) = false
-is_own slots around (Outside address) =
-    if address == environment_address around then true
-    else is_unshared (slice_get slots (sub_words address (slot_address around 0)))
-
--- memory without them
-abbrev pub seen : List Slot → Around → Memory → Memory
-seen slots around memory =
-    record memory { words = λ p. if is_own slots around p then None else memory.words p }
-
--- memory as an answer has it, but for these words, which stay
-abbrev pub memory_after : List Slot → Around → Memory → Memory → Memory
-memory_after slots around old answered =
-    record answered { words = λ p. if is_own slots around p then old.words p else answered.words p }
-
--- the state after a point: temporaries stay
+-- The state after a point: memory is as the answer has it, but for the own words, which no answer
+-- changes; they stay, and so do temporaries.
 abbrev pub state_after : List Slot → Around → State → Answer → State
-state_after slots around s answer =
-    record s { memory = memory_after slots around s.memory answer.memory }
+state_after slots around s answer = with_memory s (seen slots around answer.memory)
 
 -- ---- points
 
 abbrev pub event_of : List Slot → Around → State → List Shown → Option Action → Option Event
 event_of slots around s shown action =
     action >>= λ a.
-    each_of (shown_word around s) shown >>= λ values.
-    Some (record { action = a; shown = values; memory = seen slots around s.memory })
+    each_of (shown_word slots around s) shown >>= λ values.
+    Some (record { action = a; shown = values; memory = s.memory })
 
 abbrev pub effect_at : Option Event → (Answer → Next) → Effect
 effect_at None go = Plain (Ends Undefined)

@@ -1,40 +1,76 @@
 -- Words as middle code knows them: where a cell of the heap lies is never known.
-use Rattle.std.specs.Prelude.{ℕ, zero, List, [], ◌∷◌, ◌++◌, ◌==◌, ◌&&◌, Bool, true, false, Option, Some, None, if◌then◌else◌}
+use Rattle.std.specs.Prelude.{ℕ, zero, suc, ◌+◌, ◌-◌, ◌*◌, ◌%◌, ◌^◌, ◌<◌, ◌≤◌, nat_lt, List, [], ◌∷◌, ◌==◌, ◌&&◌, Bool, true, false, Option, Some, None, if◌then◌else◌}
 use Rattle.std.specs.Option.{option_map}
-use Rattle.m3_base.specs.Words.{add_words, sub_words}
+use Rattle.m3_base.specs.Words.{add_words, mul_words}
 
--- The sum of the first addresses of some cells, less those of others, and of a number below 2 ^
--- 64; all modulo 2 ^ 64. A cell has a number for a name, and may stand in a list more than once.
+-- a cell of the heap, and how many times its first address is meant
+pub record Multiple : Type 0 where
+  pub cell : ℕ
+  pub times : ℕ
+
+-- A word: the sum of such multiples and of a number, modulo 2 ^ 64. A cell has a number for a name.
 pub record Word : Type 0 where
-  pub plus : List ℕ
-  pub minus : List ℕ
+  pub cells : List Multiple
   pub offset : ℕ
 
--- a number; an address outside of the heap, in a frame, the globals or the constants, is one
-abbrev pub number : ℕ → Word
-number n = record { plus = []; minus = []; offset = n }
+-- Each cell stands there once, by rising names from one on, with a factor above 0 and below 2 ^ 64.
+abbrev pub AreFrom : ℕ → List Multiple → Type 0
+AreFrom n [] = Unit {0}
+AreFrom n (x ∷ xs) =
+    (n ≤ x.cell) × (0 < x.times) × (x.times < 2 ^ 64) × AreFrom (suc x.cell) xs
 
--- the pointer to a cell
-abbrev pub pointer : ℕ → Word
-pointer c = record { plus = c ∷ []; minus = []; offset = 0 }
+-- The normal form: two words in it that stand for the same sum are one.
+pub record IsNormal (w : Word) : Type 0 where
+  pub cells : AreFrom 0 w.cells
+  pub offset : w.offset < 2 ^ 64
+
+-- ---- sums, which are always in normal form
+
+-- so many times a cell in front of others, where that is any
+abbrev pub put : ℕ → ℕ → List Multiple → List Multiple
+put c n xs = if n % 2 ^ 64 == 0 then xs else record { cell = c; times = n % 2 ^ 64 } ∷ xs
+
+-- so many times a cell more
+abbrev pub with_cell : ℕ → ℕ → List Multiple → List Multiple
+with_cell c n [] = put c n []
+with_cell c n (x ∷ xs) =
+    if c == x.cell then put c (n + x.times) xs
+    else if nat_lt c x.cell then put c n (x ∷ xs) else x ∷ with_cell c n xs
+
+-- so many times some cells more
+abbrev pub with_cells : ℕ → List Multiple → List Multiple → List Multiple
+with_cells n [] ys = ys
+with_cells n (x ∷ xs) ys = with_cell x.cell (n * x.times) (with_cells n xs ys)
+
+-- so many times a word
+abbrev pub times_of : ℕ → Word → Word
+times_of n w = record { cells = with_cells n w.cells []; offset = mul_words n w.offset }
+
+-- the same word in normal form
+abbrev pub normal : Word → Word
+normal w = times_of 1 w
 
 abbrev pub sum_of : Word → Word → Word
 sum_of v w = record {
-  plus = v.plus ++ w.plus;
-  minus = v.minus ++ w.minus;
+  cells = with_cells 1 v.cells (with_cells 1 w.cells []);
   offset = add_words v.offset w.offset;
 }
 
+-- a word less is that word 2 ^ 64 - 1 times more
 abbrev pub difference_of : Word → Word → Word
-difference_of v w = record {
-  plus = v.plus ++ w.minus;
-  minus = v.minus ++ w.plus;
-  offset = sub_words v.offset w.offset;
-}
+difference_of v w = sum_of v (times_of (2 ^ 64 - 1) w)
+
+-- a number; an address outside of the heap, in a frame, the globals or the constants, is one
+abbrev pub number : ℕ → Word
+number n = record { cells = []; offset = n % 2 ^ 64 }
+
+-- the pointer to a cell
+abbrev pub pointer : ℕ → Word
+pointer c = record { cells = record { cell = c; times = 1 } ∷ []; offset = 0 }
 
 -- a word and a number
 abbrev pub further : Word → ℕ → Word
-further w n = record w { offset = add_words w.offset n }
+further w n = sum_of w (number n)
 
 infixl 10 ◌>>=◌
 -- what the value gives, where there is one
@@ -44,31 +80,19 @@ None >>= f = None
 
 -- ---- what a word says without a cell's address
 
--- cells without one of them, where it is among them
-abbrev pub cells_without : ℕ → List ℕ → Option (List ℕ)
-cells_without c [] = None
-cells_without c (d ∷ ds) =
-    if c == d then Some ds else option_map (λ rest. d ∷ rest) (cells_without c ds)
-
--- what is left of cells that are added when others are subtracted; none where one of these wasn't
--- added
-abbrev pub cells_left : List ℕ → List ℕ → Option (List ℕ)
-cells_left plus [] = Some plus
-cells_left plus (c ∷ minus) = cells_without c plus >>= λ rest. cells_left rest minus
-
 -- a place in memory: so many words behind the start of a cell, or at an address outside of the heap
 pub data Place : Type 0 where
   InCell : (cell distance : ℕ) → Place
   Outside : (address : ℕ) → Place
 
-abbrev pub place_in : List ℕ → ℕ → Option Place
+abbrev pub place_in : List Multiple → ℕ → Option Place
 place_in [] n = Some (Outside n)
-place_in (c ∷ []) n = Some (InCell c n)
+place_in (x ∷ []) n = if x.times == 1 then Some (InCell x.cell n) else None
 place_in _ n = None
 
 -- the place that a word is the address of
 abbrev pub place_of : Word → Option Place
-place_of w = cells_left w.plus w.minus >>= λ cells. place_in cells w.offset
+place_of w = place_in (normal w).cells (normal w).offset
 
 abbrev pub number_at : Place → Option ℕ
 number_at (Outside n) = Some n

@@ -8,6 +8,8 @@ mod laws;
 mod numbers;
 
 pub use laws::{
-    every_layout, fault_in_place, more_answers, one_arm, one_run, own_words, step_by_step,
+    elements_of_arrays, every_layout, fault_in_place, more_answers, one_after_the_other, one_arm,
+    one_run, own_words, proper_states, same_where_defined, step_by_step, stop_by_stop,
+    sums_of_words, times_of_words, words_of_numbers,
 };
 pub use numbers::{checked_value, is_related, operator_value};

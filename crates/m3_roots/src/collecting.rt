@@ -4,6 +4,7 @@ ghost use Rattle.std.specs.Prelude.{IfNone, IsSome, Some};
 ghost use Rattle.std.specs.Bool.{OnTrue, OnFalse};
 ghost use Rattle.m3_heap.specs.Cells.{Cell};
 ghost use Rattle.m3_heap.specs.Moves.{Move};
+ghost use Rattle.m3_heap.specs.Heap.{SameSizes};
 ghost use Rattle.m3_heap.specs.Shapes.{Shape};
 ghost use Rattle.m3_threads.specs.declared.status.Thread.{Thread};
 ghost use Rattle.m3_threads.specs.All.{Everyone, thread_named, words_of};
@@ -253,6 +254,7 @@ pub fn collect<S: Store, L: Ledger>(
         → OnFalse result (StopsCollection (image_of image.now).program
         (record { all = threads.old; globals = globals.old; heap = S.heap store.old })) }
     ensures closed { (S.heap store.new).is_open ≡ false }
+    ensures sizes { SameSizes (S.heap store.old) (S.heap store.new) }
     ensures fitting { result ≡ true → S.fits store.new
         (map shape_of (image_of image.now).program.types) }
     ensures words { length globals.new ≡ length globals.old }

@@ -4,7 +4,7 @@ use Rattle.m3_image_decoded.specs.Ready.{image_of}
 use Rattle.m3_roots.specs.RoomSizes.{IsRoomFor}
 use Rattle.m3_roots.specs.Collected.{Parts, shapes_of, StopsCollection}
 use Rattle.m3_roots.proofs.GoodLemmas.{IsGood, good_of}
-use Rattle.m3_roots.proofs.CollectedLemmas.{collected, offsets_kept, nothing_stops, pointer_stops, middle_goes, visited_stack, finishes, finely, on_true, it_is, it_is_not, off_true}
+use Rattle.m3_roots.proofs.CollectedLemmas.{collected, offsets_kept, nothing_stops, pointer_stops, middle_goes, visited_stack, finishes, sizes_on, finely, on_true, it_is, it_is_not, off_true}
 use Rattle.m3_roots.proofs.collecting.collect.Goals as goal
 use Rattle.m3_roots.proofs.collecting.collect.Goals.{then-not-visited-via-then-not-visited, then-not-visited-via-else-not-visited+then-not-traced}
 
@@ -40,7 +40,7 @@ returns-clause-collected g c = λ room.
     let stack = visited_stack p old now globals h3.moves v in
     let room_now = subst (λ (n : ℕ). IsRoomFor n c.visit_roots-visited.new.room) (sym stack) (c.visit_roots-visited.ensures.room old.all.stack room) in
     let m = c.mend_threads.ensures.mended old.heap.cells old.all (staying old.heap.tenured) v.middle heap.moves v.threads (middle_goes p good old now globals h3.moves heap.moves count v reached.goes_on) room_now in
-    let done = finishes (shapes_of p) old.heap h3 heap begins reached c.if-not-traced.ensures.moved c.if-not-traced.ensures.room c.if-not-traced.ensures.counted c.finish-traced.ensures.closed c.finish-traced.ensures.asked c.finish-traced.ensures.size in
+    let done = finishes (shapes_of p) old.heap h3 heap begins reached c.if-not-traced.ensures.moved c.if-not-traced.ensures.room c.if-not-traced.ensures.counted c.if-not-traced.ensures.halves c.finish-traced.ensures.closed c.finish-traced.ensures.asked c.finish-traced.ensures.sizes (g.met.S.Store.sound c.finish-traced.new.self).laws in
     on_true c.mend_threads.result m.0 (collected p good old now c.mend_threads.new.threads globals h3.moves heap count high v done m.1))
 
 pub returns-clause-offsets : goal.returns-clause-offsets
@@ -102,3 +102,11 @@ returns-clause-stopped g c = λ room.
 
 pub returns-clause-room : goal.returns-clause-room
 returns-clause-room g c = λ stack h. c.mend_threads.ensures.room stack (c.visit_roots-visited.ensures.room stack h)
+
+pub returns-then-not-visited-clause-sizes : goal.returns-then-not-visited-clause-sizes
+returns-then-not-visited-clause-sizes g c =
+    sizes_on (g.S.Store.heap c.args.store.now) (g.S.Store.heap c.visit_roots-visited.new.store) (g.S.Store.heap c.finish-traced.new.self) c.visit_roots-visited.ensures.heap c.finish-traced.ensures.sizes
+
+pub returns-clause-sizes : goal.returns-clause-sizes
+returns-clause-sizes g c =
+    sizes_on (g.S.Store.heap c.args.store.now) (g.S.Store.heap c.visit_roots-visited.new.store) (g.S.Store.heap c.finish-traced.new.self) c.visit_roots-visited.ensures.heap c.finish-traced.ensures.sizes

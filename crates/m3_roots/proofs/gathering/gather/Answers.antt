@@ -11,7 +11,6 @@ use Rattle.m3_roots.specs.RowMeaning.{AreFramesAt}
 use Rattle.m3_roots.specs.Gathering.{Gathers, StopsGathering, lists, path}
 use Rattle.m3_roots.proofs.GoodLemmas.{IsGood, good_of}
 use Rattle.m3_roots.proofs.GatherLemmas.{rows_of, gathers_if, stops_if}
-use Rattle.m3_roots.proofs.gathering.gather.Given as given
 use Rattle.m3_roots.proofs.gathering.gather.Goals as goal
 
 -- marks that are as many as they were leave the room that there was

@@ -17,4 +17,5 @@ pub returns-else-done-clause-bad : goal.returns-else-done-clause-bad
 returns-else-done-clause-bad g c = λ e going.
     let m = c.args.self.now in
     let room = subst (λ (n : ℕ). IsRoomFor n m.room) (sym going.depth) m.roomy in
-    spoils (image_of m.image).program (program_of m) (state_of m) _ c.collect_by-done.result (image_program m m.loaded) c.if-done.false (c.collect_by-done.ensures.stopped room) refl
+    spoils (image_of m.image).program (program_of m) (state_of m) _ c.collect_by-done.result (image_program m m.loaded) c.if-done.false (c.collect_by-done.ensures.stopped room)
+    (g.met.S.Store.sound c.collect_by-done.new.outside.heap.store).laws c.collect_by-done.ensures.sizes c.collect_by-done.new.outside.heap.closed refl
