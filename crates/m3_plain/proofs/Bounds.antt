@@ -1,5 +1,5 @@
 -- What the grammar says of the terms that are put: how many values there are at once, and that numbers are integers.
-use Rattle.std.proofs.Common.{◌≡◌, ℕ, ◌≤◌, ◌<◌, ◌^◌, ℤ, pos, List, [], ◌∷◌, ◌++◌, length, true, refl, sym, ap, ◌∙◌, subst, arith}
+use Rattle.std.proofs.Common.{◌≡◌, ℕ, ◌+◌, ◌≤◌, ◌<◌, ◌^◌, ℤ, pos, List, [], ◌∷◌, ◌++◌, length, true, refl, sym, ap, ◌∙◌, subst, arith}
 use Rattle.std.specs.Prelude.{IsTrue, max}
 use Rattle.std.proofs.lemmas.Bool.Decides.{nat_tests}
 use Rattle.m3_base.specs.Integers.{is_integer}
@@ -7,7 +7,7 @@ use Rattle.m3_plain.specs.declared.plain.Arith.TheVariants.{Add, Sub, Mul}
 use Rattle.m3_plain.specs.declared.tokens.Kind.{Kind}
 use Rattle.m3_plain.specs.declared.tokens.Kind.TheVariants.{Literal}
 use Rattle.m3_plain.specs.declared.tokens.Token.{Token}
-use Rattle.m3_plain.specs.Terms.{Term, Number, Apply, AreIntegers, AllIntegers, values_at_once, all_nodes, AreShallow}
+use Rattle.m3_plain.specs.Terms.{Term, Number, Apply, Value, Gives, Overflows, AreIntegers, AllIntegers, values_at_once, nodes, all_nodes, AreShallow, value_of, put_first, values_of, points_of}
 use Rattle.m3_plain.specs.PlainForm.{number_of, IsLiteral, IsSpelled, Spells, IsProduct, IsSum, IsStatement, IsBody, IsModule, IsPlain}
 use Rattle.m3_plain.proofs.Grammar.{one_kind, sign, module_nodes}
 
@@ -117,3 +117,19 @@ plain_shallow text puts p = module_shallow puts p.tokens p.grammar
 
 pub plain_few : (text : List ℕ) (puts : List Term) → IsPlain text puts → all_nodes puts ≤ 2000
 plain_few text puts p = let few = p.few in omega (arith, module_nodes puts p.tokens p.grammar)
+
+one_node : (t : Term) → 1 ≤ nodes t
+one_node (Number n) = omega arith
+one_node (Apply op line a b) = omega arith
+
+one_more : (v : Value) (own more : ℕ) (values : List ℤ) → 1 ≤ own → length values ≤ more → length (put_first v values) ≤ own + more
+one_more (Overflows line) own more values h k = omega arith
+one_more (Gives z) own more values h k = omega arith
+
+values_few : (puts : List Term) → length (values_of puts) ≤ all_nodes puts
+values_few [] = omega arith
+values_few (put ∷ puts) = one_more (value_of put) (nodes put) (all_nodes puts) (values_of puts) (one_node put) (values_few puts)
+
+-- a text passes few points
+pub plain_points : (text : List ℕ) (puts : List Term) → IsPlain text puts → points_of puts ≤ 2001
+plain_points text puts p = omega (arith, values_few puts, plain_few text puts p)

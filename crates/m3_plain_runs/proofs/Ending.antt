@@ -26,8 +26,8 @@ begins-alone : (name : List ℕ) (puts : List Term) (heap : Heap) (threads stack
 begins-alone name puts heap threads stack =
     record { thread = started 0 0 0; only = refl; number = refl; running = refl; ready = refl; regs = refl; output = refl; instructions = refl }
 
-begins-at : (name : List ℕ) (puts : List Term) (heap : Heap) (threads stack : ℕ) (from final : State) → Begins (plain_program name puts) heap threads stack from → from ≡ stands (alone Point) (start (plain_program name puts) heap threads stack)
-begins-at name puts heap threads stack from final (begins i there) =
+begins-at : (name : List ℕ) (puts : List Term) (heap : Heap) (threads stack : ℕ) (from : State) → Begins (plain_program name puts) heap threads stack from → from ≡ stands (alone Point) (start (plain_program name puts) heap threads stack)
+begins-at name puts heap threads stack from (begins i there) =
     ap (λ (x : Instr). stands x (start (plain_program name puts) heap threads stack)) (first-instr i (alone Point) (sym there))
 
 ends-by : (name : List ℕ) (puts : List Term) (done : Puts puts (plain_code puts) (puts_lines puts)) (place : Place) (put : List ℕ) → OnCourse (plain_program name puts) (puts_lines puts) done.last (outcome_of puts) place put → IfOver puts place put
@@ -35,9 +35,9 @@ ends-by name puts done (In_turn s k) put on = tt
 ends-by name puts done (At_point s) put on = tt
 ends-by name puts done (Over s outcome) put on = record { output = on.output ∙ done.output; points = on.points ∙ done.points; ended = on.ended }
 
-pub runs-end : (text name : List ℕ) (puts : List Term) (heap : Heap) (threads stack allowed : ℕ) (input : List ℕ) (from : State) (c : Config) → IsPlain text puts → points_of puts ≤ allowed → allowed < 2 ^ 64
+ends-within : (text name : List ℕ) (puts : List Term) (heap : Heap) (threads stack allowed : ℕ) (input : List ℕ) (from : State) (c : Config) → IsPlain text puts → points_of puts ≤ allowed → allowed < 2 ^ 64
     → Begins (plain_program name puts) heap threads stack from → Leads (plain_program name puts) input allowed (starting from []) c → IfOver puts c.place c.output
-runs-end text name puts heap threads stack allowed input from c plain enough small begun leads =
+ends-within text name puts heap threads stack allowed input from c plain enough small begun leads =
     let p = plain_program name puts in
     let lines = puts_lines puts in
     let done = plain_puts puts (plain_integers text puts plain) (plain_shallow text puts plain) (plain_few text puts plain) in
@@ -46,6 +46,16 @@ runs-end text name puts heap threads stack allowed input from c plain enough sma
       entries = refl;
       course = record { stage = first_stage; alone = begins-alone name puts heap threads stack; points = refl; instruction = alone Point; there = refl; kind = refl; rest = rest };
     } in
-    let on = subst (λ (s : State). On p lines done.last (outcome_of puts) (starting s [])) (sym (begins-at name puts heap threads stack from from begun)) first in
+    let on = subst (λ (s : State). On p lines done.last (outcome_of puts) (starting s [])) (sym (begins-at name puts heap threads stack from begun)) first in
     let last = leads-on p lines done.last (outcome_of puts) input allowed (starting from []) c refl (omega (arith, done.points, enough)) small on leads in
     ends-by name puts done c.place c.output last.course
+
+-- no point was passed at the start
+none-passed : (name : List ℕ) (puts : List Term) (heap : Heap) (threads stack : ℕ) (from : State) → Begins (plain_program name puts) heap threads stack from → from.points ≡ 0
+none-passed name puts heap threads stack from (begins i there) = refl
+
+pub runs-end : (text name : List ℕ) (puts : List Term) (heap : Heap) (threads stack points : ℕ) (input : List ℕ) (from : State) (c : Config) → IsPlain text puts → points_of puts ≤ points → points < 2 ^ 64
+    → Begins (plain_program name puts) heap threads stack from → Leads (plain_program name puts) input (from.points + points) (starting from []) c → IfOver puts c.place c.output
+runs-end text name puts heap threads stack points input from c plain enough small begun leads =
+    let none = none-passed name puts heap threads stack from begun in
+    ends-within text name puts heap threads stack (from.points + points) input from c plain (omega (arith, none, enough)) (omega (arith, none, small)) begun leads

@@ -1,7 +1,7 @@
 //! What every run of the image of a module of the plain form puts.
 #![tactic(auto)]
 
-ghost use Rattle.std.specs.Prelude.{ℕ, ◌≤◌, ◌<◌, ◌^◌, [], List};
+ghost use Rattle.std.specs.Prelude.{ℕ, ◌+◌, ◌≤◌, ◌<◌, ◌^◌, [], List};
 ghost use Rattle.m3_heap.specs.Heap.{Heap};
 ghost use Rattle.m3_plain.specs.Terms.{Term, points_of};
 ghost use Rattle.m3_plain.specs.PlainForm.{IsPlain};
@@ -14,10 +14,10 @@ ghost use Rattle.m3_plain_runs.specs.EndsAs.{IfOver};
 /// points for its puts, ends as the puts say, whatever the heap, the threads, the stacks and the
 /// input are.
 pub fn plain_runs()
-    ensures { (text name : List ℕ) (puts : List Term) (heap : Heap) (threads stack allowed : ℕ)
+    ensures { (text name : List ℕ) (puts : List Term) (heap : Heap) (threads stack points : ℕ)
         (input : List ℕ) (from : State) (c : Config) → IsPlain text puts
-        → points_of puts ≤ allowed → allowed < 2 ^ 64
+        → points_of puts ≤ points → points < 2 ^ 64
         → Begins (plain_program name puts) heap threads stack from
-        → Leads (plain_program name puts) input allowed (starting from []) c
+        → Leads (plain_program name puts) input (from.points + points) (starting from []) c
         → IfOver puts c.place c.output }
 {}
