@@ -239,7 +239,7 @@ visited_globals : (p : Program) → IsGood p → (old : Parts) (now : Everyone) 
 visited_globals p good old now globals moves count v =
     visits_forward old.heap.cells p.globals.pointers old.globals v.middle globals moves (globals_once p good) (λ n h. (let lt = globals_within p good n h in omega arith)) v.globals_visited
 
-visited_grew : (p : Program) → IsGood p → (old : Parts) (now : Everyone) (globals : List ℕ) (moves : List Move) → length old.globals ≡ p.globals.words → Visited p old now globals moves → Grew (staying old.heap.tenured) moves
+pub visited_grew : (p : Program) → IsGood p → (old : Parts) (now : Everyone) (globals : List ℕ) (moves : List Move) → length old.globals ≡ p.globals.words → Visited p old now globals moves → Grew (staying old.heap.tenured) moves
 visited_grew p good old now globals moves count v =
     let f = visited_globals p good old now globals moves count v in
     grew_twice (staying old.heap.tenured) v.middle moves (grew_if (staying old.heap.tenured) v.middle v.threads.gathered.grew) f.grew

@@ -1,15 +1,14 @@
 -- Two collections of one state keep the same cells, and so many words are free; a request has one answer.
-use Rattle.std.specs.Prelude.{ℕ, ◌≡◌, ◌≢◌, ◌+◌, ◌-◌, ◌<◌, ◌≤◌, ◌==◌, ◌↔◌, IsNone, min, if◌then◌else◌, Bool, true, false, List, [], ◌∷◌, length, Option, None, Some, is_some}
+use Rattle.std.specs.Prelude.{ℕ, suc, ◌≡◌, ◌≢◌, ◌+◌, ◌-◌, ◌<◌, ◌==◌, ◌↔◌, IsNone, min, Bool, true, false, List, [], ◌∷◌, length, Option, None, Some, is_some}
 use Rattle.std.specs.List.{AllByRecursion}
 use Rattle.std.proofs.Common.{refl, sym, ap, subst, ◌∙◌, arith, cond, ⊎_elim, true≢false}
-use Rattle.std.proofs.lemmas.Bool.{cases_Bool, cases_eq, cond-true, cond-false, eq-eqb, ne_eqb, false≢true}
+use Rattle.std.proofs.lemmas.Bool.{cases_eq, cond-true, cond-false, eq-eqb, ne_eqb, false≢true}
 use Rattle.m3_heap.specs.Cells.{Cell, words_from, total_words}
 use Rattle.m3_heap.specs.Shapes.{Shape, is_pointer_word}
-use Rattle.m3_heap.specs.Moves.{Move, new_start, is_kept, DiffersFrom, AreOneToOne, forwarded, mapped_from, mapped, moved_cells}
-use Rattle.m3_heap.specs.Heap.{Heap, words_free, with_asked, with_cell, next_start, Allots}
+use Rattle.m3_heap.specs.Moves.{Move, new_start, is_kept, DiffersFrom, AreOneToOne, mapped_from, mapped, moved_cells}
+use Rattle.m3_heap.specs.Heap.{Heap, words_free, with_asked, with_cell, Allots}
 use Rattle.m3_image_sections.specs.Parts.{Program}
 use Rattle.m3_image.specs.Programs.{fault_of}
-use Rattle.m3_run_frames.specs.declared.frame.Frame.{Frame}
 use Rattle.m3_roots.specs.Collected.{shapes_of, roots_of}
 use Rattle.m3_roots.proofs.CollectedLemmas.{walks_once}
 use Rattle.m3_heap.specs.Reach.{IsReachable}
@@ -111,7 +110,7 @@ same-sum f (m ∷ ms) ks h k same =
 
 mapped-length : (p : ℕ → Bool) (ms : List Move) (at : ℕ) (ws : List ℕ) → length (mapped_from p ms at ws) ≡ length ws
 mapped-length p ms at [] = refl
-mapped-length p ms at (w ∷ ws) = ap (λ n. 1 + n) (mapped-length p ms (at + 1) ws)
+mapped-length p ms at (w ∷ ws) = ap suc (mapped-length p ms (at + 1) ws)
 
 total-moved : (shapes : List Shape) (cells : List Cell) (all ms : List Move) → total_words (moved_cells shapes cells all ms) ≡ sum_from (λ x. length (words_from cells x)) ms
 total-moved shapes cells all [] = refl
@@ -137,7 +136,7 @@ same_kept p s t u good one other =
     let d = other.collected in
     let walks : d.walks ≡ c.walks = walks_once p good s.all d.walks c.walks d.framed c.framed in
     let told : (x : ℕ) → (is_kept u.heap.moves x ≡ true) ↔ IsReachable (shapes_of p) s.heap.cells (roots_of p (parts_of s) c.walks) x =
-    λ x. subst (λ (ws : List (List Frame)). (is_kept u.heap.moves x ≡ true) ↔ IsReachable (shapes_of p) s.heap.cells (roots_of p (parts_of s) ws) x) walks (d.kept x) in
+    λ x. subst (λ ws. (is_kept u.heap.moves x ≡ true) ↔ IsReachable (shapes_of p) s.heap.cells (roots_of p (parts_of s) ws) x) walks (d.kept x) in
     let kept : (x : ℕ) → is_kept u.heap.moves x ≡ is_kept t.heap.moves x =
     λ x. same-test (is_kept u.heap.moves x) (is_kept t.heap.moves x) (λ e. (c.kept x).1 ((told x).0 e)) (λ e. (told x).1 ((c.kept x).0 e)) in
     let f : ℕ → ℕ = λ x. length (words_from s.heap.cells x) in

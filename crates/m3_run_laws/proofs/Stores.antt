@@ -1,10 +1,10 @@
 -- A store keeps its laws while words are set, cells are made and the heap is collected.
-use Rattle.std.specs.Prelude.{ℕ, ◌≡◌, ◌+◌, ◌-◌, ◌<◌, ◌≤◌, ◌==◌, ◌&&◌, ◌||◌, nat_lt, nat_le, min, true, false, List, [], ◌∷◌, length, Option, None, Some}
+use Rattle.std.specs.Prelude.{ℕ, ◌≡◌, ◌+◌, ◌-◌, ◌==◌, ◌&&◌, ◌||◌, nat_lt, nat_le, min, true, false, List, [], ◌∷◌, length, Option, None, Some}
 use Rattle.std.specs.List.{AllByRecursion}
 use Rattle.std.proofs.Common.{refl, sym, ap, subst, ◌∙◌, arith, cond}
 use Rattle.m3_heap.specs.Cells.{Cell, layout, total_words, AreApart, AllApart}
 use Rattle.m3_heap.specs.Heap.{Heap, nursery_base, lies_in, old_starts, KeepsLaws, SameSizes, Allots, HasOtherWords as KeepsHeap}
-use Rattle.m3_run_laws.specs.Stores.{IsLawful, StaysLawful}
+use Rattle.m3_run_laws.specs.Stores.{StaysLawful}
 
 -- ---- where cells lie tells these
 
@@ -82,12 +82,12 @@ laws-with h cs w same watched k =
 pub words_lawful : (h k : Heap) → KeepsHeap h k → StaysLawful h k
 unfolding with-words
 words_lawful h k o = λ x. (
-      record {
-        laws = subst KeepsLaws (sym o.rest) (laws-with h k.cells k.watched o.same_layout o.watched x.laws);
-        closed = ap (λ (y : Heap). y.is_open) o.rest ∙ x.closed;
-      },
-      record { size = ap (λ (y : Heap). y.size) o.rest; nursery = ap (λ (y : Heap). y.nursery) o.rest },
-    )
+  record {
+    laws = subst KeepsLaws (sym o.rest) (laws-with h k.cells k.watched o.same_layout o.watched x.laws);
+    closed = ap (λ (y : Heap). y.is_open) o.rest ∙ x.closed;
+  },
+  record { size = ap (λ (y : Heap). y.size) o.rest; nursery = ap (λ (y : Heap). y.nursery) o.rest },
+)
 
 -- ---- one after another
 
@@ -103,13 +103,13 @@ lawful_on a b c p q = λ x.
 -- a request
 pub request_lawful : (h k : Heap) (kind words : ℕ) (o : Option ℕ) → Allots h kind words o k → KeepsLaws k → StaysLawful h k
 request_lawful h k kind words None a laws = λ x. (
-      record { laws = laws; closed = ap (λ (y : Heap). y.is_open) a.1 ∙ x.closed },
-      record { size = ap (λ (y : Heap). y.size) a.1; nursery = ap (λ (y : Heap). y.nursery) a.1 },
-    )
+  record { laws = laws; closed = ap (λ (y : Heap). y.is_open) a.1 ∙ x.closed },
+  record { size = ap (λ (y : Heap). y.size) a.1; nursery = ap (λ (y : Heap). y.nursery) a.1 },
+)
 request_lawful h k kind words (Some start) a laws = λ x. (
-      record { laws = laws; closed = ap (λ (y : Heap). y.is_open) a.2 ∙ x.closed },
-      record { size = ap (λ (y : Heap). y.size) a.2; nursery = ap (λ (y : Heap). y.nursery) a.2 },
-    )
+  record { laws = laws; closed = ap (λ (y : Heap). y.is_open) a.2 ∙ x.closed },
+  record { size = ap (λ (y : Heap). y.size) a.2; nursery = ap (λ (y : Heap). y.nursery) a.2 },
+)
 
 -- a collection
 pub collection_lawful : (h k : Heap) → KeepsLaws k → SameSizes h k → k.is_open ≡ false → StaysLawful h k

@@ -8,6 +8,6 @@ use Rattle.m3c_image_commands.proofs.running.read_image.Goals as goal
 
 pub returns-in-Err-clause-err : goal.returns-in-Err-clause-err
 returns-in-Err-clause-err c = (
-    refused_image c.args.bytes.now c.in-Err.refusal c.refuse.result (sym c.in-Err.ensures) (c.refuse.ensures (image_line c.in-Err.refusal) c.image_line.ensures),
-    subst (λ (r : Result Image ImageRefusal). IsErr r) c.in-Err.ensures refl,
+  refused_image c.args.bytes.now c.in-Err.refusal c.refuse.result (sym c.in-Err.ensures) (c.refuse.ensures (image_line c.in-Err.refusal) c.image_line.ensures),
+  subst (λ (r : Result Image ImageRefusal). IsErr r) c.in-Err.ensures refl,
 )
