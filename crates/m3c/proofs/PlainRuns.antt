@@ -51,14 +51,14 @@ ends-as text name puts bytes last outcome plain run =
 
 pub whole_run : (text name : List ℕ) (puts : List Term) (out : Putting) (status : ℕ) (line : List ℕ) → IsPlain text puts → Ended (plain_image name puts) usual_setting false out status line → Whole name puts out status line
 whole_run text name puts out status line plain e =
-    let as = ends-as text name puts e.bytes e.to e.outcome plain e.run in
+    let end = ends-as text name puts e.bytes e.to e.outcome plain e.run in
     record {
       last = e.to;
-      run = subst (λ (o : Outcome). UsualRun name puts (output_of puts) e.to o) as.ended (subst (λ (b : List ℕ). UsualRun name puts b e.to e.outcome) as.output e.run);
-      points = as.points;
-      output = subst (λ (b : List ℕ). Took out.taken b) as.output e.put;
-      by_status = e.by_status ∙ ap end_status as.ended;
-      by_line = e.by_line ∙ ap (λ (o : Outcome). report (plain_image name puts) false o e.to.points e.to.instructions e.to.collections) as.ended;
+      run = subst (λ (o : Outcome). UsualRun name puts (output_of puts) e.to o) end.ended (subst (λ (b : List ℕ). UsualRun name puts b e.to e.outcome) end.output e.run);
+      points = end.points;
+      output = subst (λ (b : List ℕ). Took out.taken b) end.output e.put;
+      by_status = e.by_status ∙ ap end_status end.ended;
+      by_line = e.by_line ∙ ap (λ (o : Outcome). report (plain_image name puts) false o e.to.points e.to.instructions e.to.collections) end.ended;
     }
 
 not-err : (i : Image) (refusal : ImageRefusal) → ◌≡◌ {A = Result Image ImageRefusal} (Ok i) (Err refusal) → ⊥
