@@ -78,9 +78,10 @@ module _ (p : Program) (n : ℕ) (rest : List ProcPart) (first : p.procs ≡ pro
       let behind = faults_code 0 (puts_operators puts) in
       let size = length-puts_code puts faults 0 in
       let count = length-faults_code 0 (puts_operators puts) in
-      let both = length-append main behind in
-      (record { valid = (refl, refl, refl, refl); named = λ pc h. refl; no_call = refl },
-      all_both Kept main behind (puts_kept puts faults 0 few (omega (arith, whole, size, count, both))) (faults_kept 0 (puts_operators puts) (omega (arith, places))))
+      let both = length-append main behind in (
+        record { valid = (refl, refl, refl, refl); named = λ pc h. refl; no_call = refl },
+        all_both Kept main behind (puts_kept puts faults 0 few (omega (arith, whole, size, count, both))) (faults_kept 0 (puts_operators puts) (omega (arith, places))),
+      )
 
 -- the body of a plain program
 abbrev pub InBody : List ℕ → List Term → Instr → Type 0

@@ -129,8 +129,23 @@ places_part name puts few short =
     let places = map in_first_file (puts_lines puts) in
     let tail = word_bytes (length places) ++ flat_map place_bytes places in
     let names = text_bytes name ++ [] in
-    omega (arith, few, short, length-text_bytes (places_view name places), length-append (word_bytes 1) (names ++ tail), length-word_bytes 1, length-append names tail, length-append (text_bytes name) [], length-text_bytes name,
-    length-append (word_bytes (length places)) (flat_map place_bytes places), length-word_bytes (length places), places_small places, lines_few (puts_lines puts), length-puts_lines puts, operators_le puts)
+    omega (
+      arith,
+      few,
+      short,
+      length-text_bytes (places_view name places),
+      length-append (word_bytes 1) (names ++ tail),
+      length-word_bytes 1,
+      length-append names tail,
+      length-append (text_bytes name) [],
+      length-text_bytes name,
+      length-append (word_bytes (length places)) (flat_map place_bytes places),
+      length-word_bytes (length places),
+      places_small places,
+      lines_few (puts_lines puts),
+      length-puts_lines puts,
+      operators_le puts,
+    )
 
 fixed_small : (name : List ℕ) (puts : List Term) → all_nodes puts ≤ 2000 → length name ≤ 2 ^ 31 → length (fixed_view (plain_program name puts)) ≤ 2 ^ 31 + 400000
 unfolding fixed_view
@@ -143,9 +158,25 @@ fixed_small name puts few short =
     let f = text_bytes (places_view name (map in_first_file (puts_lines puts))) in
     let g = text_bytes (exceptions_bytes []) in
     let h = text_bytes (table_bytes (plain_rows puts)) in
-    omega (arith, length-append a (b ++ (c ++ (d ++ (e ++ (f ++ (g ++ h)))))), length-append b (c ++ (d ++ (e ++ (f ++ (g ++ h))))), length-append c (d ++ (e ++ (f ++ (g ++ h)))), length-append d (e ++ (f ++ (g ++ h))),
-    length-append e (f ++ (g ++ h)), length-append f (g ++ h), length-append g h, code_part puts few, procs_part puts, types_part, globals_part, constants_part, places_part name puts few short, exceptions_part,
-    length-text_bytes (table_bytes (plain_rows puts)), rows_small (plain_code puts) (code_small puts few))
+    omega (
+      arith,
+      length-append a (b ++ (c ++ (d ++ (e ++ (f ++ (g ++ h)))))),
+      length-append b (c ++ (d ++ (e ++ (f ++ (g ++ h))))),
+      length-append c (d ++ (e ++ (f ++ (g ++ h)))),
+      length-append d (e ++ (f ++ (g ++ h))),
+      length-append e (f ++ (g ++ h)),
+      length-append f (g ++ h),
+      length-append g h,
+      code_part puts few,
+      procs_part puts,
+      types_part,
+      globals_part,
+      constants_part,
+      places_part name puts few short,
+      exceptions_part,
+      length-text_bytes (table_bytes (plain_rows puts)),
+      rows_small (plain_code puts) (code_small puts few),
+    )
 
 view_small : (name : List ℕ) (puts : List Term) → all_nodes puts ≤ 2000 → length name ≤ 2 ^ 31 → length (image_view (plain_image name puts)) ≤ 4294967295
 unfolding image_view

@@ -216,7 +216,7 @@ row_suited name puts said few row h =
     let home = contained name puts (row_instruction section row) (slice_get_within (plain_code puts) (row_instruction section row) there.0 there.1) in
     let inside = ap (λ o. option_map_or (λ (q : ProcPart). is_within section row q.frame) o false) home.1 ∙ within_any section row home.0.frame found.0 says in
     let spared = ap (λ o. option_map_or (λ (i : Instr). not (is_call i.op) || spares_registers section row) o false) there.1
-        ∙ ap (λ b. not b || spares_registers section row) (no_call_there name puts few (row_instruction section row) there.0 there.1) in
+    ∙ ap (λ b. not b || spares_registers section row) (no_call_there name puts few (row_instruction section row) there.0 there.1) in
     ap (λ b. b && option_map_or (λ (i : Instr). not (is_call i.op) || spares_registers section row) (slice_get (plain_code puts) (row_instruction section row)) false) inside ∙ spared
 
 tables_sound : (name : List ℕ) (puts : List Term) (said : Said puts) → AreShallow puts → tables_fault (plain_program name puts) ≡ None

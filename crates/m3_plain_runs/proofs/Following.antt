@@ -35,6 +35,7 @@ same-end a b x y e = (one a b x y e, two a b x y e)
   where
     one : (a b : Stage) (x y : Outcome) → Ends a x ≡ Ends b y → a ≡ b
     one a b x y e = cc
+
     two : (a b : Stage) (x y : Outcome) → Ends a x ≡ Ends b y → x ≡ y
     two a b x y e = cc
 

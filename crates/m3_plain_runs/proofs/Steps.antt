@@ -209,13 +209,15 @@ by-goes s u stage output after points progress e w = subst (λ (q : Progress). M
 by-ends : (s : State) (stage : Stage) (output bytes : List ℕ) (outcome : Outcome) (progress : Progress) → Alone s stage output → bytes ≡ [] → progress ≡ RunEnds (executed s) outcome
     → Matches s stage (output ++ bytes) 0 (Ends (counted stage) outcome) progress
 by-ends s stage output bytes outcome progress a none e =
-    subst (λ (q : Progress). Matches s stage (output ++ bytes) 0 (Ends (counted stage) outcome) q) (sym e)
-    (refl, record {
-      output = ap (λ b. output ++ b) none ∙ append-nil output ∙ a.output;
-      points = refl;
-      stage_points = omega arith;
-      instructions = ap (λ n. n + 1) a.instructions;
-    })
+    subst (λ (q : Progress). Matches s stage (output ++ bytes) 0 (Ends (counted stage) outcome) q) (sym e) (
+      refl,
+      record {
+        output = ap (λ b. output ++ b) none ∙ append-nil output ∙ a.output;
+        points = refl;
+        stage_points = omega arith;
+        instructions = ap (λ n. n + 1) a.instructions;
+      },
+    )
 
 same-place : (x y : ℕ × ℕ) → Some x ≡ Some y → x ≡ y
 same-place x y e = cc
