@@ -41,7 +41,7 @@ sum_at_from : (tokens : List Token) → sum_at tokens ≡ sum_from None tokens
 sum_at_from [] = refl
 sum_at_from (t ∷ ts) = refl
 
-one_kind : (k : Kind) (tokens : List Token) → kinds tokens ≡ k ∷ [] → (t : Token) × (tokens ≡ t ∷ []) × (t.kind ≡ k)
+pub one_kind : (k : Kind) (tokens : List Token) → kinds tokens ≡ k ∷ [] → (t : Token) × (tokens ≡ t ∷ []) × (t.kind ≡ k)
 one_kind k [] e = absurd (nil_cons e)
   where
     nil_cons : ◌≡◌ {A = List Kind} [] (k ∷ []) → ⊥
@@ -55,7 +55,7 @@ one_kind k (t ∷ u ∷ ts) e = absurd (long e)
     long : ◌≡◌ {A = List Kind} (t.kind ∷ u.kind ∷ kinds ts) (k ∷ []) → ⊥
     long e = cc
 
-abbrev sign : Arith → ℕ → Token
+abbrev pub sign : Arith → ℕ → Token
 sign op line = record { kind = Operator op; line = line }
 
 -- an operator of a Sum, and what follows it

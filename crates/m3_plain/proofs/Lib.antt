@@ -1,10 +1,7 @@
 pub mod Numbers
-pub mod CodeShape
-pub mod Runs
-pub mod Bodies
-pub mod Building
 pub mod Lexes
 pub mod Parsings
 pub mod Grammar
 pub mod Lexical
 pub mod PlainTexts
+pub mod Bounds

@@ -1,12 +1,13 @@
 -- The texts of the plain form are those that are read.
 use Rattle.std.proofs.Common.{◌≡◌, ℕ, ◌<◌, ◌≤◌, List, [], length, None, Some, sym, ◌∙◌, subst, arith}
 use Rattle.m3_plain.specs.declared.tokens.Token.{Token}
-use Rattle.m3_plain.specs.Terms.{Term, all_nodes}
+use Rattle.m3_plain.specs.Terms.{Term, all_nodes, AreShallow}
 use Rattle.m3_plain.specs.PlainForm.{IsModule, IsPlain}
 use Rattle.m3_plain.specs.Lexing.{lexed}
 use Rattle.m3_plain.specs.Parsing.{Parses}
 use Rattle.m3_plain.proofs.Parsings.{found_nothing, found_same}
 use Rattle.m3_plain.proofs.Grammar.{module_parses, parses_module, one_module, module_nodes}
+use Rattle.m3_plain.proofs.Bounds.{module_shallow}
 use Rattle.m3_plain.proofs.Lexical.{read_spelled, spelled_read}
 
 plain_tokens : (text : List ℕ) (puts : List Term) (p : IsPlain text puts) → lexed [] 1 [] text ≡ Some p.tokens
@@ -30,6 +31,9 @@ plain_few text tokens tokens' puts e same p =
     let s = read_spelled text tokens e in
     let n = module_nodes puts tokens (parses_module puts tokens (subst (λ t. Parses t puts) same p)) in
     omega (arith, s.1)
+
+pub plain_shallow : (text : List ℕ) (tokens tokens' : List Token) (puts : List Term) → lexed [] 1 [] text ≡ Some tokens → tokens' ≡ tokens → Parses tokens' puts → AreShallow puts
+plain_shallow text tokens tokens' puts e same p = module_shallow puts tokens (parses_module puts tokens (subst (λ t. Parses t puts) same p))
 
 pub not_lexed : (text : List ℕ) → lexed [] 1 [] text ≡ None → (puts : List Term) → IsPlain text puts → ⊥
 not_lexed text e puts p = found_nothing p.tokens (sym e ∙ plain_tokens text puts p)

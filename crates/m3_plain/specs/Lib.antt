@@ -2,5 +2,3 @@ pub mod Terms
 pub mod PlainForm
 pub mod Lexing
 pub mod Parsing
-pub mod Machine
-pub mod Code

@@ -1,6 +1,6 @@
 -- What the plain form puts: whole numbers joined by operators. Their values, in the order of
 -- evaluation, and what a list of puts gives.
-use Rattle.std.specs.Prelude.{ℕ, ℤ, ◌+◌, ◌+ℤ◌, ◌-ℤ◌, ◌*ℤ◌, if◌then◌else◌, List, [], ◌∷◌, length, map, IsTrue, flat_map}
+use Rattle.std.specs.Prelude.{ℕ, ℤ, ◌+◌, ◌≤◌, max, ◌+ℤ◌, ◌-ℤ◌, ◌*ℤ◌, if◌then◌else◌, List, [], ◌∷◌, length, map, IsTrue, flat_map}
 use Rattle.std.specs.Fmt.{signed_decimal}
 use Rattle.m3_base.specs.declared.outcomes.FaultKind.TheVariants.{Overflow}
 use Rattle.m3_base.specs.declared.outcomes.Outcome.{Outcome}
@@ -34,9 +34,23 @@ abbrev pub AreIntegers : Term → Type 0
 AreIntegers (Number n) = IsTrue (is_integer n)
 AreIntegers (Apply op line a b) = AreIntegers a × AreIntegers b
 
+abbrev pub AllIntegers : List Term → Type 0
+AllIntegers [] = Unit {0}
+AllIntegers (put ∷ puts) = AreIntegers put × AllIntegers puts
+
 abbrev pub all_nodes : List Term → ℕ
 all_nodes [] = 0
 all_nodes (put ∷ puts) = nodes put + all_nodes puts
+
+-- how many values there are at once while a term is worked out, the left operand first
+abbrev pub values_at_once : Term → ℕ
+values_at_once (Number n) = 1
+values_at_once (Apply op line a b) = max (values_at_once a) (1 + values_at_once b)
+
+-- there are never more values at once than registers
+abbrev pub AreShallow : List Term → Type 0
+AreShallow [] = Unit {0}
+AreShallow (put ∷ puts) = (values_at_once put ≤ 16) × AreShallow puts
 
 -- what a term gives: an integer, or the line of the first operation whose result is none
 pub data Value : Type 0 where

@@ -1,7 +1,7 @@
 // From a text to what its statements put.
 
 ghost use Rattle.std.specs.Prelude.{◌≡◌, ◌≤◌, List, IfOk, IsErrOf};
-ghost use Rattle.m3_plain.specs.Terms.{Term, terms_of, all_nodes};
+ghost use Rattle.m3_plain.specs.Terms.{Term, terms_of, all_nodes, AreShallow};
 ghost use Rattle.m3_plain.specs.PlainForm.{IsPlain};
 
 use crate::lexing::lex;
@@ -18,6 +18,7 @@ pub fn read_plain(alloc: Global, text: &[u8]) -> Result<Vec<Plain>, PlainRefused
     ensures only { IfOk result (λ puts. (others : List Term) → IsPlain text.now others
         → others ≡ terms_of puts.items) }
     ensures few { IfOk result (λ puts. all_nodes (terms_of puts.items) ≤ 2000) }
+    ensures shallow { IfOk result (λ puts. AreShallow (terms_of puts.items)) }
     ensures not_built { IsErrOf result PlainRefused.NotBuilt → (puts : List Term)
         → IsPlain text.now puts → ⊥ }
 {

@@ -16,9 +16,10 @@ use Rattle.m3c_words.specs.Asked.{usual_options}
 use Rattle.m3c_image_commands.specs.declared.answers.Answer.{Answer}
 use Rattle.m3c_image_commands.specs.declared.answers.Refusal.{Refusal}
 use Rattle.m3c_image_commands.specs.Statuses.{CountRose, Tells, Took}
+use Rattle.m3c_image_commands.specs.Reports.{end_status}
 use Rattle.m3c_source_commands.specs.Orders.{Commands, Fulfils}
 use Rattle.m3c_source_commands.proofs.UsageLemmas.{never_usage}
-use Rattle.m3c.specs.Command.{Call, IsSilent, IsRead, Ran, Answers, AnswersOther, IsComplete, NotPlainText, of_words, of_text, IsOther, end_status, file_of, Promises, file_cap}
+use Rattle.m3c.specs.Command.{Call, IsSilent, IsRead, Ran, Answers, AnswersOther, IsComplete, NotPlainText, of_words, of_text, IsOther, file_of, Promises, file_cap}
 use Rattle.m3c.proofs.Rows.{row_no_memory, row_write_fault}
 use Rattle.m3c.proofs.ByWords.{dump_of, exec_dumps_none, exec_runs_none, exec_words, run_of, usage_never, usage_of}
 

@@ -1,7 +1,4 @@
-pub mod FirstWords
-pub mod Turns
-pub mod Loops
-pub mod Ends
+pub mod PlainRuns
 pub mod Rows
 pub mod ByWords
 pub mod Completes

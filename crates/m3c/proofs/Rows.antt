@@ -1,55 +1,24 @@
 -- The rows of the table of statuses.
-use Rattle.std.proofs.Common.{◌≡◌, ℕ, ◌≤◌, List, [], ◌∷◌, ◌++◌, length, Option, Some, refl, sym, ap, ◌∙◌, subst, inl, inr, ◌⊎◌, arith, append_assoc}
-use Rattle.std.specs.Prelude.{IfSome, codes}
+use Rattle.std.proofs.Common.{◌≡◌, ℕ, ◌≤◌, List, [], ◌∷◌, ◌++◌, length, Option, Some, refl, sym, ap, ◌∙◌, subst, inl, inr, ◌⊎◌, arith}
+use Rattle.std.specs.Prelude.{IfSome, codes, false, Result, Ok, Err}
+use Rattle.std.specs.FinMap.{get}
 use Rattle.m3_base.specs.declared.outcomes.FaultKind.TheVariants.{Overflow}
 use Rattle.m3_base.specs.declared.outcomes.Outcome.{Outcome}
 use Rattle.m3_base.specs.declared.outcomes.Outcome.TheVariants.{Done, Fault}
-use Rattle.std.specs.FinMap.{get}
-use Rattle.m3_ports.specs.Counts.{Rose}
-use Rattle.m3_ports.specs.Files.{Files}
+use Rattle.m3_ports.specs.Files.{Files, IsNotHeld, IsHeldOver}
+use Rattle.m3_plain.specs.Terms.{Term, outcome_of}
 use Rattle.m3_plain.specs.PlainForm.{IsPlain}
-use Rattle.m3_isa.specs.declared.instructions.Instr.{Instr}
-use Rattle.m3_plain.specs.Terms.{Term, Value, Gives, Overflows, value_of, ended_by, outcome_of, output_of, points_of}
-use Rattle.m3_plain.specs.Machine.{State, Ends, run, start}
-use Rattle.m3c.specs.declared.machine.Ended.{Ended}
-use Rattle.m3c_image_commands.specs.Statuses.{Putting, CountRose, Took}
-use Rattle.m3c.specs.Command.{Call, IsSilent, Says, IsRead, report, Ran, Refuses, NotPlainText, Answers}
+use Rattle.m3c_image_commands.specs.declared.answers.Answer.{Answer}
+use Rattle.m3c_image_commands.specs.declared.answers.Refusal.{Refusal}
+use Rattle.m3c_image_commands.specs.Statuses.{Putting, CountRose, Took, Only, Unfetched, read_fault, no_memory, absent, too_long, Says as SaysLine, Tells}
+use Rattle.m3c_image_commands.specs.Reports.{end_status}
+use Rattle.m3c_image_commands.specs.ImageCommands.{RunsImage}
+use Rattle.m3c_source_commands.specs.Orders.{usual_setting}
+use Rattle.m3c.specs.Command.{Call, IsSilent, Says, IsRead, Ran, Refuses, NotPlainText, Answers, file_cap}
 use Rattle.m3c.specs.Compiled.{Compiles}
-use Rattle.m3c.proofs.Loops.{same_end}
+use Rattle.m3c.proofs.PlainRuns.{Whole, plain_end, whole_answer}
 
--- ---- outcomes
-
-abbrev pub IsPlainEnd : Outcome → Type 0
-IsPlainEnd outcome = (outcome ≡ Done) ⊎ ((at : ℕ) × (outcome ≡ Fault Overflow 0 at))
-
--- puts end with Done or with an overflow
-pub plain_end : (puts : List Term) → IsPlainEnd (outcome_of puts)
-plain_end [] = inl refl
-plain_end (put ∷ puts) = end_by (value_of put) (outcome_of puts) (plain_end puts)
-  where
-    end_by : (v : Value) (o : Outcome) → IsPlainEnd o → IsPlainEnd (ended_by v o)
-    end_by (Gives z) o h = h
-    end_by (Overflows line) o h = inr (line, refl)
-
-abbrev pub Finished : List Instr → List ℕ → Outcome → ℕ → ℕ → Option (List ℕ) × Option (List ℕ) → Type 0
-Finished code lines outcome points instructions out =
-    (last : State) × (run code lines (length code) start ≡ Ends last outcome) × (points ≡ last.points) × (instructions ≡ last.instructions) × Took out last.output
-
-pub ended_plainly : (text : List ℕ) (code : List Instr) (lines : List ℕ) (outcome : Outcome) (points instructions : ℕ) (out : Option (List ℕ) × Option (List ℕ)) → Compiles text code lines → Finished code lines outcome points instructions out → IsPlainEnd outcome
-ended_plainly text code lines outcome points instructions out b f =
-    let same = same_end b.built.last f.0 (outcome_of b.puts) outcome (sym b.built.ends ∙ f.1) in
-    subst IsPlainEnd same.1 (plain_end b.puts)
-
--- ---- rows of one file
-
-pub read_text : (call : Call) (name text before after bytes : List ℕ) → call.file ≡ Some name → after ≡ before ++ bytes → before ≡ [] → text ≡ after → length bytes ≤ 1048576 → IfSome call.shelf.held.0 (λ files. get files name ≡ Some bytes) → IsRead call name text
-read_text call name text before after bytes named e empty same short held =
-    let t : bytes ≡ text = sym (same ∙ e ∙ ap (λ b. b ++ bytes) empty) in
-    record {
-      named = named;
-      short = subst (λ b. length b ≤ 1048576) t short;
-      held = subst (λ b. IfSome call.shelf.held.0 (λ files. get files name ≡ Some b)) t held;
-    }
+-- ---- one row
 
 pub row_write_fault : (call : Call) → CountRose call.out.faults ⊎ CountRose call.err.faults → Answers call 4
 row_write_fault call row = record {
@@ -99,114 +68,106 @@ row_fault call row = record {
   fault = λ e. row;
 }
 
--- a text that was read and isn't in the plain form
-pub not_plain_text : (held : Option Files) (name text before after bytes : List ℕ) → after ≡ before ++ bytes → before ≡ [] → text ≡ after → length bytes ≤ 1048576 → IfSome held (λ files. get files name ≡ Some bytes) → ((puts : List Term) → IsPlain text puts → ⊥) → NotPlainText (Some name) held
-not_plain_text held name text before after bytes e empty same short told other =
+-- ---- a file that can't be fetched
+
+row_read_fault : (call : Call) → Refuses call (codes "read fault") (λ name. CountRose call.shelf.faults) → Answers call 3
+row_read_fault call row = record {
+  known = refl;
+  done = λ e. absurd (omega arith);
+  read_fault = λ e. row;
+  write_fault = λ e. absurd (omega arith);
+  no_memory = λ e. absurd (omega arith);
+  absent = λ e. absurd (omega arith);
+  too_long = λ e. absurd (omega arith);
+  fault = λ e. absurd (omega arith);
+}
+
+row_absent : (call : Call) → Refuses call (codes "absent") (λ name. CountRose call.shelf.absences × IfSome call.shelf.held.0 (λ files. IsNotHeld files name)) → Answers call 6
+row_absent call row = record {
+  known = refl;
+  done = λ e. absurd (omega arith);
+  read_fault = λ e. absurd (omega arith);
+  write_fault = λ e. absurd (omega arith);
+  no_memory = λ e. absurd (omega arith);
+  absent = λ e. row;
+  too_long = λ e. absurd (omega arith);
+  fault = λ e. absurd (omega arith);
+}
+
+row_too_long : (call : Call) → Refuses call (codes "too long") (λ name. CountRose call.shelf.excesses × IfSome call.shelf.held.0 (λ files. IsHeldOver files name file_cap)) → Answers call 7
+row_too_long call row = record {
+  known = refl;
+  done = λ e. absurd (omega arith);
+  read_fault = λ e. absurd (omega arith);
+  write_fault = λ e. absurd (omega arith);
+  no_memory = λ e. absurd (omega arith);
+  absent = λ e. absurd (omega arith);
+  too_long = λ e. row;
+  fault = λ e. absurd (omega arith);
+}
+
+row_unfetched : (call : Call) (file : List ℕ) (status : ℕ) (front name : List ℕ) → call.file ≡ Some file → IsSilent call → Unfetched call.shelf (Only file file_cap) status front name → Took call.err.taken (front ++ name ++ codes "\n") → Answers call status
+row_unfetched call file status front name named silent (read_fault n c only rose) said =
+    row_read_fault call (record { name = n; named = named ∙ ap Some (sym only.0); holds = rose; silent = silent; says = said })
+row_unfetched call file status front name named silent no_memory said = row_no_memory call (silent, said)
+row_unfetched call file status front name named silent (absent n c only rose none) said =
+    row_absent call (record { name = n; named = named ∙ ap Some (sym only.0); holds = (rose, none); silent = silent; says = said })
+row_unfetched call file status front name named silent (too_long n c only rose over) said =
+    row_too_long call (record {
+      name = n;
+      named = named ∙ ap Some (sym only.0);
+      holds = (rose, subst (λ (cap : ℕ). IfSome call.shelf.held.0 (λ files. IsHeldOver files n cap)) only.1 over);
+      silent = silent;
+      says = said;
+    })
+
+pub fetch_refused : (call : Call) (file : List ℕ) (status told : ℕ) (front name : List ℕ) → call.file ≡ Some file → IsSilent call → Unfetched call.shelf (Only file file_cap) status front name → SaysLine call.err status (front ++ name ++ codes "\n") told → Answers call told
+fetch_refused call file status told front name named silent u (inl t) = subst (λ (s : ℕ). Answers call s) (sym t.0) (row_unfetched call file status front name named silent u t.1)
+fetch_refused call file status told front name named silent u (inr t) = subst (λ (s : ℕ). Answers call s) (sym t.0) (row_write_fault call (inr t.1))
+
+-- ---- a file that was read
+
+-- the bytes that were read
+pub read_text : (held : Option Files) (name text before after bytes : List ℕ) → after ≡ before ++ bytes → before ≡ [] → text ≡ after → length bytes ≤ 1048576 → IfSome held (λ files. get files name ≡ Some bytes) → (length text ≤ file_cap) × IfSome held (λ files. get files name ≡ Some text)
+read_text held name text before after bytes e empty same short told =
     let t : bytes ≡ text = sym (same ∙ e ∙ ap (λ b. b ++ bytes) empty) in
-    record {
-      name = name;
-      text = text;
-      named = refl;
-      short = subst (λ b. length b ≤ 1048576) t short;
-      told = subst (λ b. IfSome held (λ files. get files name ≡ Some b)) t told;
-      other = other;
-    }
+    (subst (λ b. length b ≤ 1048576) t short, subst (λ b. IfSome held (λ files. get files name ≡ Some b)) t told)
 
--- ---- a run
+-- a text that was read and isn't in the plain form
+pub not_plain_text : (held : Option Files) (name text : List ℕ) → (length text ≤ file_cap) × IfSome held (λ files. get files name ≡ Some text) → ((puts : List Term) → IsPlain text puts → ⊥) → NotPlainText (Some name) held
+not_plain_text held name text read other = record { name = name; text = text; named = refl; short = read.0; told = read.1; other = other }
 
-ran : (call : Call) (name text line : List ℕ) (code : List Instr) (lines : List ℕ) (ended : Ended) → IsRead call name text → Compiles text code lines → Finished code lines ended.outcome ended.points ended.instructions call.out.taken → Says call (report name ended.outcome ended.points ended.instructions) → Ran call ended.outcome
-ran call name text line code lines ended read b f says =
-    let same = same_end b.built.last f.0 (outcome_of b.puts) ended.outcome (sym b.built.ends ∙ f.1) in
-    let points : ended.points ≡ points_of b.puts = f.2 ∙ ap (λ (s : State). s.points) (sym same.0) ∙ b.built.points in
-    let instructions : ended.instructions ≡ b.built.last.instructions = f.3 ∙ ap (λ (s : State). s.instructions) (sym same.0) in
-    let output : f.0.output ≡ output_of b.puts = ap (λ (s : State). s.output) (sym same.0) ∙ b.built.output in
-    record {
-      name = name;
-      text = text;
-      read = read;
-      puts = b.puts;
-      plain = b.plain;
-      only = b.only;
-      ends = same.1;
-      code = code;
-      lines = lines;
-      built = b.built;
-      output = subst (λ o. Took call.out.taken o) output f.4;
-      says = subst (λ n. Says call (report name ended.outcome (points_of b.puts) n)) instructions (subst (λ n. Says call (report name ended.outcome n ended.instructions)) points says);
-    }
+ran : (call : Call) (name text : List ℕ) (b : Compiles name text call.image) (status : ℕ) (line : List ℕ) → IsRead call name text → Whole name b.puts call.out status line → Took call.err.taken line → Ran call (outcome_of b.puts)
+ran call name text b status line read w said = record {
+  name = name;
+  text = text;
+  read = read;
+  puts = b.puts;
+  plain = b.plain;
+  only = b.only;
+  ends = refl;
+  image = b.image;
+  last = w.last;
+  run = w.run;
+  points = w.points;
+  output = w.output;
+  says = subst (λ (l : List ℕ). Took call.err.taken l) w.by_line said;
+}
 
-pub row_ran : (call : Call) (name text : List ℕ) (code : List Instr) (lines : List ℕ) (ended : Ended) (status : ℕ) → IsRead call name text → Compiles text code lines → Finished code lines ended.outcome ended.points ended.instructions call.out.taken → Says call (report name ended.outcome ended.points ended.instructions)
-    → (ended.outcome ≡ Done → status ≡ 0) → ((at : ℕ) → ended.outcome ≡ Fault Overflow 0 at → status ≡ 10) → Answers call status
-row_ran call name text code lines ended status read b f says done fault =
-    let row = ran call name text [] code lines ended read b f says in
-    elim (ended_plainly text code lines ended.outcome ended.points ended.instructions call.out.taken b f) [
-      | inl e ↦ subst (λ s. Answers call s) (sym (done e)) (row_done call (subst (λ o. Ran call o) e row))
-      | inr e ↦ subst (λ s. Answers call s) (sym (fault e.0 e.1)) (row_fault call (e.0, subst (λ o. Ran call o) e.1 row))
-    ]
+-- the status of an end
+row_ran : (call : Call) (outcome : Outcome) (status : ℕ) → (outcome ≡ Done) ⊎ ((at : ℕ) × (outcome ≡ Fault Overflow 0 at)) → status ≡ end_status outcome → Ran call outcome → Answers call status
+row_ran call outcome status (inl e) s row = subst (λ (n : ℕ). Answers call n) (sym (s ∙ ap end_status e)) (row_done call (subst (λ (o : Outcome). Ran call o) e row))
+row_ran call outcome status (inr e) s row = subst (λ (n : ℕ). Answers call n) (sym (s ∙ ap end_status e.1)) (row_fault call (e.0, subst (λ (o : Outcome). Ran call o) e.1 row))
 
--- ---- the line goes to err
-
-says_on : (line text : List ℕ) (err : Option (List ℕ) × Option (List ℕ)) → Took (Some [], Some line) text → Took err line → Took err text
-says_on line text err e t = subst (λ l. Took err l) (same_line line text e) t
+pub row_run : (call : Call) (name text : List ℕ) (b : Compiles name text call.image) (answer : Result Answer Refusal) (told : ℕ) → IsRead call name text → RunsImage call.image usual_setting false call.out answer → Tells call.err answer told → Answers call told
+row_run call name text b (Ok a) told read h (inl t) =
+    let w = whole_answer text name call.image b.puts call.out a.status a.line.items b.plain b.image h in
+    row_ran call (outcome_of b.puts) told (plain_end b.puts) (t.0 ∙ w.by_status) (ran call name text b a.status a.line.items read w t.1)
+row_run call name text b (Ok a) told read h (inr t) = subst (λ (s : ℕ). Answers call s) (sym t.0) (row_write_fault call (inr t.1))
+row_run call name text b (Err r) told read (inl lacks) (inl t) =
+    subst (λ (s : ℕ). Answers call s) (sym (t.0 ∙ lacks.0.status)) (row_no_memory call (lacks.1, said (lacks.0.front) (lacks.0.name) t.1))
   where
-    same_line : (line text : List ℕ) → Some line ≡ Some ([] ++ text) → line ≡ text
-    same_line line text e = cc
-
-abbrev pub told : Call → List (List ℕ) → Option (List ℕ) → Option (List ℕ) × Option (List ℕ) → ℕ × ℕ → List ℕ → Call
-told a words file err err_faults image = record a { words = words; file = file; err = record { taken = err; faults = err_faults }; image = image }
-
-module _ (a : Call) (line : List ℕ) (words : List (List ℕ)) (file : Option (List ℕ)) (err : Option (List ℕ) × Option (List ℕ)) (err_faults : ℕ × ℕ) (image : List ℕ) (same : file ≡ a.file) (from : a.err.taken ≡ (Some [], Some line)) (none : a.err.faults ≡ (0, 0)) (took : Took err line) where
-  say : (text : List ℕ) → Took a.err.taken text → Took err text
-  say text t = says_on line text err (subst (λ e. Took e text) from t) took
-
-  refuse_on : (cause : List ℕ) (Holds : List ℕ → Type 0) → Refuses a cause Holds → Refuses (told a words file err err_faults image) cause Holds
-  refuse_on cause Holds r = record { name = r.name; named = same ∙ r.named; holds = r.holds; silent = r.silent; says = say _ r.says }
-
-  read_on : (name text : List ℕ) → IsRead a name text → IsRead (told a words file err err_faults image) name text
-  read_on name text r = record { named = same ∙ r.named; short = r.short; held = r.held }
-
-  ran_on : (outcome : Outcome) → Ran a outcome → Ran (told a words file err err_faults image) outcome
-  ran_on outcome r = record {
-    name = r.name;
-    text = r.text;
-    read = read_on r.name r.text r.read;
-    puts = r.puts;
-    plain = r.plain;
-    only = r.only;
-    ends = r.ends;
-    code = r.code;
-    lines = r.lines;
-    built = r.built;
-    output = r.output;
-    says = say _ r.says;
-  }
-
-  none_rose : CountRose a.err.faults → ⊥
-  none_rose r = zero_rose (subst CountRose none r)
-    where
-      zero_rose : Rose 0 0 → ⊥
-      zero_rose (inl h) = omega arith
-      zero_rose (inr h) = omega arith
-
-  out_rose : CountRose a.out.faults ⊎ CountRose a.err.faults → CountRose a.out.faults
-  out_rose (inl r) = r
-  out_rose (inr r) = absurd (none_rose r)
-
-  pub answers_on : (status : ℕ) → Answers a status → Answers (told a words file err err_faults image) status
-  answers_on status r = record {
-    known = r.known;
-    done = λ e. ran_on Done (r.done e);
-    read_fault = λ e. refuse_on _ _ (r.read_fault e);
-    write_fault = λ e. inl (out_rose (r.write_fault e));
-    no_memory = λ e. let n = r.no_memory e in (n.0, say _ n.1);
-    absent = λ e. refuse_on _ _ (r.absent e);
-    too_long = λ e. refuse_on _ _ (r.too_long e);
-    fault = λ e. let f = r.fault e in (f.0, ran_on _ f.1);
-  }
-
--- the command's last step: the line goes to err, or the put fails
-pub told_or_failed : (a : Call) (line : List ℕ) (words : List (List ℕ)) (file : Option (List ℕ)) (err : Option (List ℕ) × Option (List ℕ)) (err_faults : ℕ × ℕ) (image : List ℕ) (status result : ℕ) (line' : List ℕ) → file ≡ a.file → a.err.taken ≡ (Some [], Some line) → a.err.faults ≡ (0, 0) → line' ≡ line → Answers a status → ((result ≡ status) × Took err line') ⊎ ((result ≡ 4) × CountRose err_faults) → Answers (told a words file err err_faults image) result
-told_or_failed a line words file err err_faults image status result line' same from none l answers (inl t) =
-    subst (λ s. Answers (told a words file err err_faults image) s) (sym t.0) (answers_on a line words file err err_faults image same from none (subst (λ x. Took err x) l t.1) status answers)
-told_or_failed a line words file err err_faults image status result line' same from none l answers (inr f) =
-    subst (λ s. Answers (told a words file err err_faults image) s) (sym f.0) (row_write_fault (told a words file err err_faults image) (inr f.1))
+    said : r.front.now ≡ codes "out of memory" → r.name.now ≡ [] → Took call.err.taken (r.front.now ++ r.name.now ++ codes "\n") → Took call.err.taken (codes "out of memory" ++ codes "\n")
+    said f n took = subst (λ (l : List ℕ). Took call.err.taken (codes "out of memory" ++ l ++ codes "\n")) n (subst (λ (l : List ℕ). Took call.err.taken (l ++ r.name.now ++ codes "\n")) f took)
+row_run call name text b (Err r) told read (inr lacks) (inl t) = subst (λ (s : ℕ). Answers call s) (sym (t.0 ∙ lacks.0.status)) (row_write_fault call (inl lacks.1))
+row_run call name text b (Err r) told read h (inr t) = subst (λ (s : ℕ). Answers call s) (sym t.0) (row_write_fault call (inr t.1))

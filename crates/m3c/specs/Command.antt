@@ -7,26 +7,27 @@ use Rattle.std.specs.FinMap.{get}
 use Rattle.m3_base.specs.declared.outcomes.FaultKind.TheVariants.{Overflow}
 use Rattle.m3_base.specs.declared.outcomes.Outcome.{Outcome}
 use Rattle.m3_base.specs.declared.outcomes.Outcome.TheVariants.{Done, Fault}
-use Rattle.m3_base.specs.Faults.{name_of_fault}
 use Rattle.m3_ports.specs.Files.{Files, IsNotHeld, IsHeldOver}
 use Rattle.m3_base.specs.declared.outcomes.Entry.{Entry}
 use Rattle.m3_image.specs.Images.{read_of}
 use Rattle.m3_image_sections.specs.Parts.{Image}
 use Rattle.m3_image_dump.specs.Texts.{IsDump}
-use Rattle.m3_isa.specs.declared.instructions.Instr.{Instr}
 use Rattle.m3_plain.specs.Terms.{Term, output_of, points_of, outcome_of}
 use Rattle.m3_plain.specs.PlainForm.{IsPlain}
-use Rattle.m3_plain.specs.Machine.{Puts}
+use Rattle.m3_plain_image.specs.Image.{plain_program, plain_image}
+use Rattle.m3_heap.specs.Semi.{new_heap}
+use Rattle.m3_run_meaning.specs.State.{State}
+use Rattle.m3_machine.specs.RunCalls.{RunOf}
 use Rattle.m3c_image_commands.specs.declared.answers.Answer.{Answer}
 use Rattle.m3c_image_commands.specs.declared.answers.Refusal.{Refusal}
 use Rattle.m3c_image_commands.specs.Statuses.{Shelving, Putting, Tells, image_cap}
 pub use Rattle.m3c_image_commands.specs.Statuses.{CountRose, Took}
-use Rattle.m3c_image_commands.specs.Reports.{Setting, Ended, within}
+use Rattle.m3c_image_commands.specs.Reports.{Setting, Ended, within, end_status, report}
 use Rattle.m3c_image_commands.specs.ImageCommands.{by_schedule, on_input}
 use Rattle.m3c_image_commands.specs.Complete.{IsHeld, HoldsAll}
 use Rattle.m3c_words.specs.Orders.{Options, run, exec, dump}
 use Rattle.m3c_words.specs.Asked.{asked, usual_options}
-use Rattle.m3c_source_commands.specs.Orders.{Fulfils, Commands}
+use Rattle.m3c_source_commands.specs.Orders.{Fulfils, Commands, usual_setting}
 
 -- ---- the words
 
@@ -77,19 +78,13 @@ pub record IsRead (call : Call) (name text : List ℕ) : Type 0 where
 
 -- ---- a run
 
--- the words of an outcome in the report, where a fault names its file; no other outcome comes yet
-abbrev pub ending : List ℕ → Outcome → List ℕ
-ending name Done = codes "done"
-ending name (Fault kind file line) = codes "fault " ++ name_of_fault kind ++ codes " " ++ name ++ codes ":" ++ decimal line
-ending name _ = []
+-- a run of the image of some puts within the usual limits, without switches and without input
+abbrev pub UsualRun : List ℕ → List Term → List ℕ → State → Outcome → Type 0
+UsualRun name puts bytes last outcome =
+    RunOf (plain_program name puts) (new_heap usual_setting.heap) usual_setting.threads usual_setting.stack usual_setting.points [] [] bytes last outcome
 
--- the report of a run: how it ended, the points passed and the instructions executed
-abbrev pub report : List ℕ → Outcome → ℕ → ℕ → List ℕ
-report name outcome points instructions =
-    ending name outcome ++ codes " points " ++ decimal points ++ codes " instructions " ++ decimal instructions
-
--- the file is in the plain form, and its puts end so: out took the values in decimal, and the report has
--- the counts of the run of a code that does what the puts say
+-- the file is in the plain form: the image that the command leaves is that of its puts, the run of just this image put
+-- the values in decimal, which out took, and ended as the puts do; and the line has the counts of this run
 pub record Ran (call : Call) (outcome : Outcome) : Type 0 where
   pub name : List ℕ
   pub text : List ℕ
@@ -98,11 +93,12 @@ pub record Ran (call : Call) (outcome : Outcome) : Type 0 where
   pub plain : IsPlain text puts
   pub only : (others : List Term) → IsPlain text others → others ≡ puts
   pub ends : outcome_of puts ≡ outcome
-  pub code : List Instr
-  pub lines : List ℕ
-  pub built : Puts puts code lines
+  pub image : read_of call.image ≡ Ok (plain_image name puts)
+  pub last : State
+  pub run : UsualRun name puts (output_of puts) last outcome
+  pub points : last.points ≡ points_of puts
   pub output : Took call.out.taken (output_of puts)
-  pub says : Says call (report name outcome (points_of puts) built.last.instructions)
+  pub says : Took call.err.taken (report (plain_image name puts) false outcome last.points last.instructions last.collections)
 
 -- ---- the table
 
@@ -137,11 +133,6 @@ pub record Answers (call : Call) (status : ℕ) : Type 0 where
   pub absent : status ≡ 6 → Refuses call (codes "absent") (λ name. CountRose call.shelf.absences × IfSome call.shelf.held.0 (λ files. IsNotHeld files name))
   pub too_long : status ≡ 7 → Refuses call (codes "too long") (λ name. CountRose call.shelf.excesses × IfSome call.shelf.held.0 (λ files. IsHeldOver files name file_cap))
   pub fault : status ≡ 10 → (line : ℕ) × Ran call (Fault Overflow 0 line)
-
--- the status of an end that the plain form has: Done, or a fault
-abbrev pub end_status : Outcome → ℕ
-end_status Done = 0
-end_status _ = 10
 
 -- completeness: a file that is held within its cap and is in the plain form, where no count of faults
 -- rises, is run to the end of its puts, or memory ran out before any output

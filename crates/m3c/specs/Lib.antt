@@ -1,4 +1,2 @@
-pub mod Stacks
 pub mod Command
-pub mod Running
 pub mod Compiled

@@ -2,8 +2,5 @@
 #![tactic(auto)]
 
 mod command;
-mod machine;
-mod report;
-mod stack;
 
 pub use command::m3c;

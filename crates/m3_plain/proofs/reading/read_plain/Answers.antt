@@ -1,6 +1,6 @@
 use Rattle.std.proofs.Common.{arith}
 use Rattle.std.proofs.lemmas.Result.{err_from_is_err_and, IfOk-weaker}
-use Rattle.m3_plain.proofs.PlainTexts.{plain_text, plain_only, plain_few, not_lexed, not_parsed}
+use Rattle.m3_plain.proofs.PlainTexts.{plain_text, plain_only, plain_few, plain_shallow, not_lexed, not_parsed}
 use Rattle.m3_plain.proofs.reading.read_plain.Goals as goal
 
 pub returns-in_err-tokens-clause-not_built : goal.returns-in_err-tokens-clause-not_built
@@ -19,6 +19,10 @@ returns-clause-only c =
 pub returns-clause-few : goal.returns-clause-few
 returns-clause-few c =
     IfOk-weaker c.parse.result _ _ (λ puts. plain_few c.args.text.now c.in_ok-tokens.tokens.items c.as_slice.result.now _ c.in_ok-tokens.ensures.lexed c.as_slice.ensures.value) c.parse.ensures.ok
+
+pub returns-clause-shallow : goal.returns-clause-shallow
+returns-clause-shallow c =
+    IfOk-weaker c.parse.result _ _ (λ puts. plain_shallow c.args.text.now c.in_ok-tokens.tokens.items c.as_slice.result.now _ c.in_ok-tokens.ensures.lexed c.as_slice.ensures.value) c.parse.ensures.ok
 
 pub returns-clause-not_built : goal.returns-clause-not_built
 returns-clause-not_built c = λ h.

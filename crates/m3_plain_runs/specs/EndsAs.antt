@@ -1,0 +1,19 @@
+-- What it is that a run has put what the puts of a module say.
+use Rattle.std.specs.Prelude.{ℕ, ◌≡◌, List}
+use Rattle.m3_base.specs.declared.outcomes.Outcome.{Outcome}
+use Rattle.m3_run_meaning.specs.State.{State}
+use Rattle.m3_run_meaning.specs.Runs.{Place, In_turn, At_point, Over, Config}
+use Rattle.m3_plain.specs.Terms.{Term, output_of, points_of, outcome_of}
+
+-- the decimals of the values were put, up to the first overflow; the run ended Done, or as the fault of that overflow;
+-- and it passed one point more than it put values
+pub record EndsAs (puts : List Term) (last : State) (outcome : Outcome) (put : List ℕ) : Type 0 where
+  pub output : put ≡ output_of puts
+  pub points : last.points ≡ points_of puts
+  pub ended : outcome ≡ outcome_of puts
+
+-- of a run that is over
+abbrev pub IfOver : List Term → Place → List ℕ → Type 0
+IfOver puts (Over last outcome) put = EndsAs puts last outcome put
+IfOver puts (In_turn s k) put = Unit {0}
+IfOver puts (At_point s) put = Unit {0}
