@@ -42,10 +42,14 @@ on_err (Err _) f h = f h
 -- ---- the sink
 
 -- all bytes were put in one piece
-pub cut_at_once : {O : Type 0} (g : SinkGhosts O) (before after : O) (bytes : List ℕ)
+cut_at_once : {O : Type 0} (g : SinkGhosts O) (before after : O) (bytes : List ℕ)
     → IfSome (g.taken before) (λ taken. (all : List ℕ) × LeavesAtFault (g.waiting before) taken bytes all × (g.taken after ≡ Some all)) → CutsOff g before after [] bytes
 cut_at_once g before after bytes failed =
     record { at = before; part = []; piece = bytes; took = took_nothing (g.taken before); next = ([], sym (append-nil bytes)); left = failed }
+
+pub cut_as_told : {O : Type 0} (g : SinkGhosts O) (before after : O) (piece bytes : List ℕ) → piece ≡ bytes
+    → IfSome (g.taken before) (λ taken. (all : List ℕ) × LeavesAtFault (g.waiting before) taken piece all × (g.taken after ≡ Some all)) → CutsOff g before after [] bytes
+cut_as_told g before after piece bytes same failed = subst (λ (b : List ℕ). CutsOff g before after [] b) same (cut_at_once g before after piece failed)
 
 -- other bytes were taken before
 cut_later : {O : Type 0} (g : SinkGhosts O) (before mid after : O) (x earlier bytes : List ℕ) → Took (g.taken before) (g.taken mid) x → CutsOff g mid after earlier bytes → CutsOff g before after (x ++ earlier) bytes

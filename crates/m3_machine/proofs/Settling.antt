@@ -8,6 +8,7 @@ use Rattle.m3_isa.specs.declared.instructions.Op.{Op}
 use Rattle.m3_isa.specs.declared.instructions.Op.TheVariants as op
 use Rattle.m3_isa.specs.declared.instructions.Instr.{Instr}
 use Rattle.m3_heap.specs.declared.store.Store.{Ghosts}
+use Rattle.m3_threads.specs.declared.status.Thread.{Thread}
 use Rattle.m3_threads.specs.declared.status.Status.TheVariants.{Ready}
 use Rattle.m3_threads.specs.Going.{status_at, status_at_of, with_status}
 use Rattle.m3_threads.proofs.Places.{find-updated}

@@ -18,7 +18,6 @@ use m3_run_meaning::near::truth;
 use m3_run_state::Parts;
 
 /// PUTN: a signed number in decimal.
-#[tactic(auto, using(crate::proofs::Cutting::cut_at_once))]
 pub(crate) fn put_number<S: Store, O: Sink>(
     parts: &mut Parts<'_, S>,
     i: Instr,
@@ -43,7 +42,6 @@ pub(crate) fn put_number<S: Store, O: Sink>(
 }
 
 /// PUTC: the low byte.
-#[tactic(auto, using(crate::proofs::Cutting::cut_at_once))]
 pub(crate) fn put_byte<S: Store, O: Sink>(
     parts: &mut Parts<'_, S>,
     i: Instr,

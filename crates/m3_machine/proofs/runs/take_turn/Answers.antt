@@ -53,7 +53,7 @@ acts-preserved g c =
     }
 
 pub returns-in_err-progress-2-clause-cut : goal.returns-in_err-progress-2-clause-cut
-returns-in_err-progress-2-clause-cut g c = at_any _ c.from_residual-in-acts.result (λ p start k others known h.
+returns-in_err-progress-2-clause-cut g c = at_any _ c.from_residual-in_err-progress-2.result (λ p start k others known h.
     let a = c.acts.parts in
     let mid = c.go_to_act-progress.new.parts in
     let inv = c.acts.invariant in
