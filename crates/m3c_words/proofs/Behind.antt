@@ -150,18 +150,18 @@ unfolding walked
 stops_with h waiting p t name acc [] = ap (λ (xs : List Text). Some (name, xs)) (sym (append-nil acc))
 stops_with h waiting p t name acc (word ∷ words) = stops_with h waiting p t name (acc ++ word ∷ []) words ∙ ap (λ (xs : List Text). Some (name, xs)) (then_all acc word words)
 
-exec_entered : (words : List Text) → subcommand_of grammar (codes "exec" ∷ words) ≡ Some (rows_at (leaf exec_command) words)
+pub exec_entered : (words : List Text) → subcommand_of grammar (codes "exec" ∷ words) ≡ Some (rows_at (leaf exec_command) words)
 unfolding grammar walked
 exec_entered words = ap (entered (built grammar)) (stops_with nothing_held idle 1 false (codes "exec") [] words)
 
-run_entered : (words : List Text) → subcommand_of grammar (codes "run" ∷ words) ≡ Some (rows_at (leaf run_command) words)
+pub run_entered : (words : List Text) → subcommand_of grammar (codes "run" ∷ words) ≡ Some (rows_at (leaf run_command) words)
 unfolding grammar walked
 run_entered words = ap (entered (built grammar)) (stops_with nothing_held idle 1 false (codes "run") [] words)
 
 abbrev pub rows_by : Shape → List Text → List Row
 rows_by s words = rows_after (leaf s).rules [] words
 
-parsed_order : (b : Bool) (found : Option (Text × List Row)) (name : Text) (rows : List Row) (order : Order) → found ≡ Some (name, rows)
+pub parsed_order : (b : Bool) (found : Option (Text × List Row)) (name : Text) (rows : List Row) (order : Order) → found ≡ Some (name, rows)
     → option_and_then (λ p. order_in p.0 p.1) (cond b found None) ≡ Some order → order_in name rows ≡ Some order
 parsed_order true found name rows order e asks = sym (ap (option_and_then (λ p. order_in p.0 p.1)) e) ∙ asks
 parsed_order false found name rows order e asks = cc

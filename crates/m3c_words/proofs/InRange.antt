@@ -13,15 +13,15 @@ use Rattle.m3c_words.specs.Asked.{as_files, asked, bench_in, bounds_in, build_in
 use Rattle.m3c_words.specs.Sentences.{AreFiles, AreInRange, AreOptions, IsInRange, IsName}
 
 module _ {X Y : Type 0} where
-  then_any : (o : Option X) (f : X → Option Y) (P : Y → Type 0) → ((x : X) → IfSome (f x) P) → IfSome (option_and_then f o) P
+  pub then_any : (o : Option X) (f : X → Option Y) (P : Y → Type 0) → ((x : X) → IfSome (f x) P) → IfSome (option_and_then f o) P
   then_any None f P k = tt
   then_any (Some x) f P k = k x
 
-  then_with : (o : Option X) (f : X → Option Y) (Q : X → Type 0) (P : Y → Type 0) → IfSome o Q → ((x : X) → Q x → IfSome (f x) P) → IfSome (option_and_then f o) P
+  pub then_with : (o : Option X) (f : X → Option Y) (Q : X → Type 0) (P : Y → Type 0) → IfSome o Q → ((x : X) → Q x → IfSome (f x) P) → IfSome (option_and_then f o) P
   then_with None f Q P q k = tt
   then_with (Some x) f Q P q k = k x q
 
-  map_with : (o : Option X) (f : X → Y) (Q : X → Type 0) (P : Y → Type 0) → IfSome o Q → ((x : X) → Q x → P (f x)) → IfSome (option_map f o) P
+  pub map_with : (o : Option X) (f : X → Y) (Q : X → Type 0) (P : Y → Type 0) → IfSome o Q → ((x : X) → Q x → P (f x)) → IfSome (option_map f o) P
   map_with None f Q P q k = tt
   map_with (Some x) f Q P q k = k x q
 

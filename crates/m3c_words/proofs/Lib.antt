@@ -5,3 +5,4 @@ pub mod PlainExec
 pub mod Behind
 pub mod Named
 pub mod InRange
+pub mod First

@@ -23,7 +23,7 @@ use Rattle.m3c_words.proofs.Behind.{behind, exec_order, fold_append, leaf, no_de
 
 -- ---- no fault
 
-first_none : (a b : Kinds) → or_else a b ≡ [] → a ≡ []
+pub first_none : (a b : Kinds) → or_else a b ≡ [] → a ≡ []
 first_none [] b e = refl
 first_none (k ∷ ks) b e = e
 
@@ -61,7 +61,7 @@ parsed_none kinds found f order e = go (is_empty kinds) refl e
     go true is asks = empty_none kinds is
     go false is asks = cc
 
-asked_none : (words : List Text) (order : Order) → asked words ≡ Some order → fault_of grammar words ≡ []
+pub asked_none : (words : List Text) (order : Order) → asked words ≡ Some order → fault_of grammar words ≡ []
 unfolding parsed
 asked_none words order e = parsed_none (fault_of grammar words) (subcommand_of grammar words) _ order e
 

@@ -5,6 +5,18 @@ use Rattle.clap.specs.Walk.{Text}
 use Rattle.m3c_words.specs.Orders.{Bounds, Options, Order, build, run, exec, dump, bench}
 use Rattle.m3c_words.specs.Asked.{asked}
 
+-- ---- the first word is the command
+
+abbrev pub command_asked : Order → Text
+command_asked (build image files) = codes "build"
+command_asked (run image options) = codes "run"
+command_asked (exec files options) = codes "exec"
+command_asked (dump image) = codes "dump"
+command_asked (bench number) = codes "bench"
+
+abbrev pub BeginsWithCommand : List Text → Order → Type 0
+BeginsWithCommand words order = (rest : List Text) × (words ≡ command_asked order ∷ rest)
+
 -- ---- the word `--` ends the options
 
 -- a command with some words, the word `--`, and the words behind it

@@ -1,9 +1,11 @@
 //! The command line of `m3c`: what its words ask for.
 #![tactic(auto)]
 
-ghost use Rattle.std.specs.Prelude.{List, ℕ, IfSome, codes};
+ghost use Rattle.std.specs.Prelude.{◌≡◌, ℕ, List, Some, IfSome, codes};
 ghost use Rattle.m3c_words.specs.Asked.{asked};
-ghost use Rattle.m3c_words.specs.Sentences.{HasNamesBehind, HasOptionsBefore, IsInRange};
+ghost use Rattle.m3c_words.specs.Orders.{Order};
+ghost use Rattle.m3c_words.specs.Sentences.{BeginsWithCommand, HasNamesBehind, HasOptionsBefore};
+ghost use Rattle.m3c_words.specs.Sentences.{IsInRange};
 
 mod defaults;
 mod grammar;
@@ -13,6 +15,13 @@ mod words;
 
 pub use limits::Limits;
 pub use words::{MOST_FILES, Request, RunOptions, read_words};
+
+/// Words ask for something only where the first of them is the name of the command: no option, no
+/// `--` and no other word stands before it.
+pub fn first_word_is_the_command()
+    ensures { (words : List (List ℕ)) (order : Order) → asked words ≡ Some order
+        → BeginsWithCommand words order }
+{}
 
 /// A word behind `--` is never an option: whatever stands there, the options of `run` and `exec` are
 /// those of the words before it. For `exec` each word behind it, also one as `--heap=64` or another
