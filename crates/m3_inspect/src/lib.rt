@@ -1,0 +1,11 @@
+//! What a machine shows that has stopped: its globals, and the activations of its threads with the
+//! variables that are in scope there.
+#![tactic(auto)]
+
+mod texts;
+mod values;
+mod views;
+
+pub use texts::text;
+pub use values::{FrameView, ThreadView, Value, VarValue, View};
+pub use views::ViewRefused;
