@@ -1,5 +1,5 @@
 -- The number of a cell that is known, and of one that isn't; variables one list after another.
-use Rattle.std.proofs.Common.{◌≡◌, ℕ, zero, suc, ◌+◌, ◌<◌, ◌==◌, true, false, List, [], ◌∷◌, ◌++◌, length, get_or, refl, sym, ap, ◌∙◌, arith, eq-eqb, ne_eqb}
+use Rattle.std.proofs.Common.{◌≡◌, ℕ, zero, suc, ◌+◌, ◌<◌, ◌==◌, true, false, List, [], ◌∷◌, ◌++◌, length, get_or, refl, sym, ap, ◌∙◌, arith, eq-eqb, ne_eqb, append_assoc}
 use Rattle.m3_inspect.specs.declared.values.VarValue.{VarValue}
 use Rattle.m3_inspect.specs.Standing.{Holding}
 use Rattle.m3_inspect.specs.Shown.{with_cell, cell_number, cells_with, shown_var, shown_vars, cells_after}
@@ -43,3 +43,12 @@ shown_append cells (h ∷ hs) gs = ap (λ (vs : List VarValue). shown_var cells 
 pub after_append : (cells : List ℕ) (hs gs : List Holding) → cells_after cells (hs ++ gs) ≡ cells_after (cells_after cells hs) gs
 after_append cells [] gs = refl
 after_append cells (h ∷ hs) gs = after_append (cells_with cells h.form h.word) hs gs
+
+-- some variables are shown, and the rest is left
+pub vars_more : (vars new total : List VarValue) (cells known : List ℕ) (hs gs : List Holding) → vars ++ shown_vars cells (hs ++ gs) ≡ total → new ≡ vars ++ shown_vars cells hs → known ≡ cells_after cells hs → new ++ shown_vars known gs ≡ total
+vars_more vars new total cells known hs gs so_far one more =
+    ap (λ (vs : List VarValue). vs ++ shown_vars known gs) one ∙ ap (λ (ks : List ℕ). (vars ++ shown_vars cells hs) ++ shown_vars ks gs) more ∙ append_assoc vars (shown_vars cells hs) (shown_vars (cells_after cells hs) gs)
+    ∙ sym (ap (λ (vs : List VarValue). vars ++ vs) (shown_append cells hs gs)) ∙ so_far
+
+pub cells_more : (cells known total : List ℕ) (hs gs : List Holding) → cells_after cells (hs ++ gs) ≡ total → known ≡ cells_after cells hs → cells_after known gs ≡ total
+cells_more cells known total hs gs so_far more = ap (λ (ks : List ℕ). cells_after ks gs) more ∙ sym (after_append cells hs gs) ∙ so_far

@@ -89,7 +89,6 @@ fn put_local(
 }
 
 /// The variables in scope where a frame stands.
-#[tactic(auto, using(crate::proofs::CellLemmas::shown_append, crate::proofs::CellLemmas::after_append))]
 pub(crate) fn locals(
     alloc: Global,
     image: &ImageView<'_>,
@@ -145,7 +144,6 @@ fn put_global(
 }
 
 /// The globals.
-#[tactic(auto, using(crate::proofs::CellLemmas::shown_append, crate::proofs::CellLemmas::after_append))]
 pub(crate) fn globals(
     alloc: Global,
     image: &ImageView<'_>,

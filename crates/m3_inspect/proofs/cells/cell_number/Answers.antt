@@ -1,4 +1,5 @@
 use Rattle.std.proofs.Common.{◌≡◌, ℕ, ◌+◌, ◌<◌, List, ◌∷◌, ◌++◌, [], length, get_or, subst, sym, ap, ◌∙◌, arith, rules}
+use Rattle.std.proofs.lemmas.List.{get_or_read}
 use Rattle.m3_inspect.specs.Shown.{with_cell, cell_number}
 use Rattle.m3_inspect.proofs.CellLemmas.{number_found, known_found, number_next, known_next}
 use Rattle.m3_inspect.proofs.cells.cell_number.Goals as goal
@@ -8,7 +9,7 @@ returns-then-index-at-clause-number c =
     let cells = c.args.cells.now.items in
     let k = c.loop-place.place in
     let lt : k < length cells = search rules in
-    let same : get_or cells k 0 ≡ c.args.at = search rules in
+    let same : get_or cells k 0 ≡ c.args.at = sym (get_or_read cells k c.index.result.now lt c.index.ensures 0) ∙ c.if-index-at.true in
     number_found cells c.args.at k lt c.loop-place.invariant same
 
 pub returns-then-index-at-clause-cells : goal.returns-then-index-at-clause-cells
@@ -16,7 +17,7 @@ returns-then-index-at-clause-cells c =
     let cells = c.args.cells.now.items in
     let k = c.loop-place.place in
     let lt : k < length cells = search rules in
-    let same : get_or cells k 0 ≡ c.args.at = search rules in
+    let same : get_or cells k 0 ≡ c.args.at = sym (get_or_read cells k c.index.result.now lt c.index.ensures 0) ∙ c.if-index-at.true in
     known_found cells c.args.at k lt c.loop-place.invariant same
 
 pub returns-clause-number : goal.returns-clause-number
