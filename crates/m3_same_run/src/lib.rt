@@ -1,0 +1,19 @@
+//! Whether each defined run of a procedure of middle code is a run of another, by a proof that is
+//! checked: pairs of blocks, and what holds where the two procedures come to them.
+#![tactic(auto)]
+
+mod forms;
+mod going;
+mod check;
+mod facts;
+mod law;
+mod points;
+mod same;
+mod see;
+mod seen;
+mod side;
+mod standing;
+
+pub use check::have_same_run;
+pub use law::check_is_sound;
+pub use forms::{Form, Known, Pair, Query, Setting, Symbol, Tag, Term};
