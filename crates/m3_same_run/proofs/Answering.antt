@@ -1,5 +1,5 @@
 -- What an answer sets in both procedures fits.
-use Rattle.std.proofs.Common.{◌≡◌, ℕ, suc, ◌+◌, Bool, true, false, List, [], ◌∷◌, refl, sym, ap, ◌∙◌, subst}
+use Rattle.std.proofs.Common.{◌≡◌, ℕ, suc, sym, ◌∙◌, subst}
 use Rattle.std.specs.Prelude.{◌==◌, not, Option, Some, None}
 use Rattle.m3_isa.specs.Arithmetic.{flag}
 use Rattle.m3_mid.specs.declared.calls.Raised.{Raised}
@@ -9,8 +9,8 @@ use Rattle.m3_mid_meaning.specs.States.{State, state_with, with_memory}
 use Rattle.m3_mid_meaning.specs.Points.{Answer, state_with_any, state_with_raised}
 use Rattle.m3_mid_meaning.proofs.WordSums.{normal_is, times_normal, number_normal}
 use Rattle.m3_same_run.specs.declared.forms.Symbol.{Symbol}
-use Rattle.m3_same_run.specs.Forms.{Form, Setting}
-use Rattle.m3_same_run.specs.Check.{Standing, lasts, forget, new_word, newest, setting, set_left, set_right, told, told_raised}
+use Rattle.m3_same_run.specs.Forms.{Form}
+use Rattle.m3_same_run.specs.Check.{Standing, lasts, forget, new_word, newest, set_left, set_right, told, told_raised}
 use Rattle.m3_same_run.specs.Fits.{Means, with_new, Fits}
 use Rattle.m3_same_run.proofs.Sums.{new_is, means_still}
 use Rattle.m3_same_run.proofs.Fitting.{fits_left, fits_right, fits_new, fits_memory, newest_old}
@@ -23,12 +23,16 @@ module _ (around : Around) (limit : ℕ) where
 
   abbrev pub v1 : (Symbol → Word) → ℕ → Answer → Symbol → Word
   v1 v n answer = with_new v n (normal answer.result)
+
   abbrev pub v2 : (Symbol → Word) → ℕ → Answer → Symbol → Word
   v2 v n answer = with_new (v1 v n answer) (suc n) (number answer.exception)
+
   abbrev pub v3 : (Symbol → Word) → ℕ → Answer → Symbol → Word
   v3 v n answer = with_new (v2 v n answer) (suc (suc n)) (normal answer.number)
+
   abbrev pub v4 : (Symbol → Word) → ℕ → Answer → Symbol → Word
   v4 v n answer = with_new (v3 v n answer) (suc (suc (suc n))) (normal answer.tidy)
+
   abbrev pub v5 : (Symbol → Word) → ℕ → Answer → Symbol → Word
   v5 v n answer = with_new (v4 v n answer) (suc (suc (suc (suc n)))) (alerted answer)
 

@@ -1,5 +1,5 @@
 -- Blocks, jumps, and the whole run.
-use Rattle.std.proofs.Common.{◌≡◌, ◌≢◌, ℕ, zero, suc, ◌⊎◌, inl, inr, ⊎_elim, Bool, true, false, List, [], ◌∷◌, refl, sym, ap, ◌∙◌, subst, arith}
+use Rattle.std.proofs.Common.{◌≡◌, ℕ, zero, suc, ◌⊎◌, inl, inr, ⊎_elim, Bool, true, false, List, [], ◌∷◌, refl, sym, ap, ◌∙◌, subst, arith}
 use Rattle.std.specs.Prelude.{◌==◌, ◌&&◌, nat_lt, nat_le, length, if◌then◌else◌, Option, Some, None, slice_get}
 use Rattle.std.specs.Option.{option_map}
 use Rattle.std.proofs.lemmas.Bool.Decides.{nat_tests}
@@ -15,26 +15,24 @@ use Rattle.m3_mid.specs.declared.ops.MidOp.{MidOp}
 use Rattle.m3_mid_meaning.specs.Words.{Word, IsNormal, number, normal, sum_of, times_of, number_of, Place, InCell, Outside}
 use Rattle.m3_mid_meaning.specs.Memory.{Memory, Around, environment_address, slot_address, seen}
 use Rattle.m3_mid_meaning.specs.Operations.{is_true}
-use Rattle.m3_mid_meaning.specs.States.{State, Ending, Undefined, Returned, Faulted, operand}
+use Rattle.m3_mid_meaning.specs.States.{State, Returned, Faulted, operand}
 use Rattle.m3_mid_meaning.specs.Points.{Answer, Outcome}
 use Rattle.m3_mid_meaning.specs.Meaning.{arm_of, raised_by}
-use Rattle.m3_mid_meaning.specs.Machinery.{Following, over, leave, run_ops, run_block, run_blocks}
-use Rattle.m3_mid_meaning.specs.Runs.{start_of, IsRun, FollowsRun}
+use Rattle.m3_mid_meaning.specs.Machinery.{over, leave, run_ops, run_block, run_blocks}
+use Rattle.m3_mid_meaning.specs.Runs.{start_of, FollowsRun}
 use Rattle.m3_mid_meaning.proofs.WordSums.{normal_is, number_normal}
 use Rattle.m3_same_run.specs.declared.forms.Symbol.{Symbol}
 use Rattle.m3_same_run.specs.declared.forms.Symbol.TheVariants as symbols
-use Rattle.m3_same_run.specs.declared.forms.Term.{Term}
-use Rattle.m3_same_run.specs.Forms.{Form, Query, Known, Setting, Pair, merge, scaled, same_form, of_symbol}
+use Rattle.m3_same_run.specs.Forms.{Form, Query, Known, Setting, Pair, merge, scaled, of_symbol}
 use Rattle.m3_same_run.specs.Seen.{operand_form}
-use Rattle.m3_same_run.specs.Check.{Standing, form_at, left_form, right_form, value_at, learn, advance, steps, symbol_form, now_onto, form_now, query_now, fits_at, all_fit, is_form, known, all_known, enters, goes_to, same_words, same_value, learn_test, end_with, no_ops, ended, ends_so, is_old, old_form, old_settings, old_query, old_knowns, standing_at, blocks_so, pair_so, pairs_so, no_settings, no_knowns, starts, same_frame, same_run}
-use Rattle.m3_same_run.specs.Same.{same_relation, same_fault, same_place}
-use Rattle.m3_same_run.specs.Fits.{OldSymbol, Old, OldQuery, eval, Means, IsWords, given, answer_to, Says, AllTrue, Fits}
+use Rattle.m3_same_run.specs.Check.{Standing, form_at, left_form, right_form, value_at, advance, steps, symbol_form, now_onto, form_now, query_now, fits_at, all_fit, is_form, known, all_known, enters, goes_to, same_words, same_value, learn_test, end_with, no_ops, ended, ends_so, is_old, old_form, old_settings, old_query, old_knowns, standing_at, blocks_so, pair_so, pairs_so, no_settings, no_knowns, starts, same_run}
+use Rattle.m3_same_run.specs.Fits.{OldSymbol, Old, OldQuery, eval, Means, IsWords, given, Says, AllTrue, Fits}
 use Rattle.m3_same_run.proofs.Codes.{both, same_number, is_relation, is_fault, is_place, are_slots}
 use Rattle.m3_same_run.proofs.Sums.{merge_eval, scaled_eval, same_eval, symbol_eval, eval_normal, commutes, associates, nothing, zero_add}
 use Rattle.m3_same_run.proofs.Seeing.{operand_means}
 use Rattle.m3_same_run.proofs.Knowing.{is_answer}
 use Rattle.m3_same_run.proofs.RightGoes.{Ends, advance_so}
-use Rattle.m3_same_run.proofs.Steps.{Defined, undefined_so, Later, fits_true, fits_false}
+use Rattle.m3_same_run.proofs.Steps.{Defined, undefined_so, fits_true, fits_false}
 use Rattle.m3_same_run.proofs.Together.{steps_so}
 
 no : {P : Type 0} → false ≡ true → P
@@ -167,11 +165,11 @@ module _ (slots : List Slot) (around : Around) (p q : Proc) (here : p.slots.now 
         let h3 = both _ _ h2.0 in
         let default = of_symbol (if nat_lt t limit then symbols.Left t else symbols.Right t) in
         ⊎_elim (by_fit pair.settings t) (λ no.
-          ⊎_elim (by_fit pair.settings t) (λ no_left.
-            ⊎_elim (by_fit pair.settings t) (λ no_right.
-              untouched t (nat_lt t limit) (no_right default) (no_left (of_symbol (symbols.Left t))) ∙ ap (eval (entry s s')) (sym (no default)))
-            (fits_or pair.settings st.right h2.1 t))
-          (fits_or pair.settings st.left h3.1 t))
+        ⊎_elim (by_fit pair.settings t) (λ no_left.
+        ⊎_elim (by_fit pair.settings t) (λ no_right.
+        untouched t (nat_lt t limit) (no_right default) (no_left (of_symbol (symbols.Left t))) ∙ ap (eval (entry s s')) (sym (no default)))
+        (fits_or pair.settings st.right h2.1 t))
+        (fits_or pair.settings st.left h3.1 t))
         (fits_or pair.settings pair.settings h3.0 t)
 
     -- ---- what the pair knows
@@ -301,12 +299,14 @@ module _ (slots : List Slot) (around : Around) (p q : Proc) (here : p.slots.now 
       end_so (ends.Raise x y z) (ends.Raise x' y' z') e run =
           let h = both _ _ e in
           let h2 = both _ _ h.0 in
-          let go : ℕ → Option Outcome = λ i. run_blocks 0 q around i s' answers in
-          (0, ap (λ w. leave (raised_by (operand s' y') (operand s' z') s'.memory (number_of w)) go) (word_same x x' h2.0)
-          ∙ ap (λ w. leave (raised_by w (operand s' z') s'.memory (number_of (operand s x))) go) (word_same y y' h2.1)
-          ∙ ap (λ w. leave (raised_by (operand s y) w s'.memory (number_of (operand s x))) go) (word_same z z' h.1)
-          ∙ ap (λ m. leave (raised_by (operand s y) (operand s z) m (number_of (operand s x))) go) memory_same
-          ∙ raise_over (operand s y) (operand s z) s.memory (number_of (operand s x)) go (λ i. run_blocks n p around i s answers) ∙ run)
+          let go : ℕ → Option Outcome = λ i. run_blocks 0 q around i s' answers in (
+            0,
+            ap (λ w. leave (raised_by (operand s' y') (operand s' z') s'.memory (number_of w)) go) (word_same x x' h2.0)
+                ∙ ap (λ w. leave (raised_by w (operand s' z') s'.memory (number_of (operand s x))) go) (word_same y y' h2.1)
+                ∙ ap (λ w. leave (raised_by (operand s y) w s'.memory (number_of (operand s x))) go) (word_same z z' h.1)
+                ∙ ap (λ m. leave (raised_by (operand s y) (operand s z) m (number_of (operand s x))) go) memory_same
+                ∙ raise_over (operand s y) (operand s z) s.memory (number_of (operand s x)) go (λ i. run_blocks n p around i s answers) ∙ run,
+          )
       end_so (ends.Goto x0) (ends.If y0 y1 y2 y3 y4) e run = no e
       end_so (ends.Goto x0) (ends.Return y0) e run = no e
       end_so (ends.Goto x0) (ends.FaultAt y0 y1) e run = no e

@@ -1,6 +1,6 @@
 -- Points that are the same have the same events.
-use Rattle.std.proofs.Common.{◌≡◌, ℕ, zero, suc, Bool, true, false, List, [], ◌∷◌, refl, sym, ap, ◌∙◌, subst}
-use Rattle.std.specs.Prelude.{◌==◌, ◌&&◌, map, if◌then◌else◌, Option, Some, None, slice_get}
+use Rattle.std.proofs.Common.{◌≡◌, ℕ, zero, suc, true, false, List, [], ◌∷◌, refl, sym, ap, ◌∙◌}
+use Rattle.std.specs.Prelude.{map, if◌then◌else◌, Option, Some, None}
 use Rattle.std.specs.Option.{option_map}
 use Rattle.m3_mid.specs.declared.calls.Actual.{Actual}
 use Rattle.m3_mid.specs.declared.calls.Actual.TheVariants as actuals
@@ -12,18 +12,18 @@ use Rattle.m3_mid.specs.declared.marks.Held.TheVariants as held
 use Rattle.m3_mid.specs.declared.marks.Shown.{Shown}
 use Rattle.m3_mid.specs.declared.procs.Slot.{Slot}
 use Rattle.m3_mid.specs.declared.ops.Operand.{Operand}
-use Rattle.m3_mid_meaning.specs.Words.{Word, number, ◌>>=◌, number_of}
+use Rattle.m3_mid_meaning.specs.Words.{Word, ◌>>=◌, number_of}
 use Rattle.m3_mid_meaning.specs.Memory.{Memory, Around}
 use Rattle.m3_mid_meaning.specs.Operations.{method_of}
 use Rattle.m3_mid_meaning.specs.States.{State, operand, slot_word, slot_words}
 use Rattle.m3_mid_meaning.specs.Actions.{Action, Calls, Makes, Serves, each_of, joined, actual_words, formal_words, call_of, method_call, called, call_action, are_sizes, sizes_in, make_action, serve_action, held_word, shown_word}
 use Rattle.m3_mid_meaning.specs.Points.{Event, event_of}
 use Rattle.m3_same_run.specs.declared.forms.Symbol.{Symbol}
-use Rattle.m3_same_run.specs.Forms.{Form, same_form}
+use Rattle.m3_same_run.specs.Forms.{Form}
 use Rattle.m3_same_run.specs.Seen.{operand_form}
-use Rattle.m3_same_run.specs.Same.{same_temps, same_operand, same_operands, same_actual, same_actuals, same_callee, same_held, same_shown, same_showns, same_choice}
-use Rattle.m3_same_run.specs.Fits.{eval, AllMean, IsWords}
-use Rattle.m3_same_run.proofs.Codes.{both, same_number, is_choice}
+use Rattle.m3_same_run.specs.Same.{same_temps, same_operand, same_operands, same_actual, same_actuals, same_callee, same_held, same_shown, same_showns}
+use Rattle.m3_same_run.specs.Fits.{AllMean, IsWords}
+use Rattle.m3_same_run.proofs.Codes.{both, same_number}
 use Rattle.m3_same_run.proofs.Sums.{same_eval}
 use Rattle.m3_same_run.proofs.Seeing.{operand_means}
 use Rattle.m3_same_run.proofs.Fitting.{with_temps}

@@ -1,22 +1,22 @@
 -- States that are set fit.
-use Rattle.std.proofs.Common.{◌≡◌, ℕ, suc, ◌+◌, ◌<◌, Bool, true, false, List, [], ◌∷◌, refl, sym, ap, ◌∙◌, subst, arith}
+use Rattle.std.proofs.Common.{◌≡◌, ℕ, suc, Bool, true, false, List, [], ap, arith}
 use Rattle.std.specs.Prelude.{◌==◌, if◌then◌else◌, Option, Some, None}
 use Rattle.std.specs.Option.{option_map}
 use Rattle.std.proofs.lemmas.Bool.Decides.{nat_tests}
 use Rattle.m3_mid.specs.declared.procs.End.{End}
 use Rattle.m3_mid.specs.declared.ops.MidOp.{MidOp}
-use Rattle.m3_mid_meaning.specs.Words.{Word, IsNormal, number, normal}
+use Rattle.m3_mid_meaning.specs.Words.{Word, IsNormal, normal}
 use Rattle.m3_mid_meaning.specs.Memory.{Memory, Around}
 use Rattle.m3_mid_meaning.specs.States.{State, state_with, with_memory, with_own}
 use Rattle.m3_mid_meaning.proofs.WordSums.{normal_is}
 use Rattle.m3_same_run.specs.declared.forms.Symbol.{Symbol}
 use Rattle.m3_same_run.specs.declared.forms.Symbol.TheVariants as symbols
 use Rattle.m3_same_run.specs.declared.forms.Tag.TheVariants as tags
-use Rattle.m3_same_run.specs.Forms.{Form, Query, Setting, of_symbol, same_symbol}
+use Rattle.m3_same_run.specs.Forms.{Form, Query, Setting, same_symbol}
 use Rattle.m3_same_run.specs.Seen.{asks}
-use Rattle.m3_same_run.specs.Check.{Standing, form_at, left_form, right_form, setting, set_left, set_right, learn, lasts, is_other_slot, kept, forget, at_ops, new_word, newest}
-use Rattle.m3_same_run.specs.Fits.{Old, OldQuery, eval, Means, AllMean, with_new, IsWords, Says, AllTrue, Fits}
-use Rattle.m3_same_run.proofs.Sums.{older, eval_normal, stays, new_is, means_still}
+use Rattle.m3_same_run.specs.Check.{Standing, form_at, left_form, right_form, setting, set_left, set_right, learn, lasts, is_other_slot, forget, at_ops, new_word, newest}
+use Rattle.m3_same_run.specs.Fits.{Old, OldQuery, eval, Means, AllMean, with_new, IsWords, Says, Fits}
+use Rattle.m3_same_run.proofs.Sums.{eval_normal, means_still}
 use Rattle.m3_same_run.proofs.Knowing.{kept_true, lasting, other_slots, true_still}
 
 abbrev pub with_temps : State → (ℕ → Word) → State
@@ -110,7 +110,9 @@ module _ (around : Around) where
       right = fits.right;
       rest = ap (λ z. with_own z n (eval v a)) fits.rest;
       knowns = (
-        (tt, tt, tt), old, own_says n a (n == n) (itself n),
+        (tt, tt, tt),
+        old,
+        own_says n a (n == n) (itself n),
         kept_true around v st.fresh (is_other_slot n) s.own (λ m. if m == n then Some (eval v a) else s.own m) s.environment s.environment s.memory s.memory (other_slots around n (Some (eval v a)) s.own s.environment s.memory) st.knowns fits.knowns,
       );
     }

@@ -1,17 +1,16 @@
 -- What is known is true, and stays so.
-use Rattle.std.proofs.Common.{◌≡◌, ℕ, suc, ◌+◌, ◌<◌, Bool, true, false, List, [], ◌∷◌, refl, sym, ap, ◌∙◌, subst, arith}
-use Rattle.std.specs.Prelude.{◌==◌, ◌&&◌, not, if◌then◌else◌, Option, Some, None}
+use Rattle.std.proofs.Common.{◌≡◌, ℕ, suc, Bool, true, false, List, [], ◌∷◌, refl, sym, ap, ◌∙◌, subst, arith}
+use Rattle.std.specs.Prelude.{◌==◌, not, if◌then◌else◌, Option, Some, None}
 use Rattle.std.specs.Option.{option_map}
-use Rattle.m3_isa.specs.Arithmetic.{flag}
 use Rattle.m3_mid.specs.declared.ops.Relation.{Relation}
-use Rattle.m3_mid_meaning.specs.Words.{Word, IsNormal, number, normal}
+use Rattle.m3_mid_meaning.specs.Words.{Word, number, normal}
 use Rattle.m3_mid_meaning.specs.Memory.{Memory, Around}
 use Rattle.m3_mid_meaning.specs.Operations.{is_true, flag_word}
 use Rattle.m3_same_run.specs.declared.forms.Symbol.{Symbol}
 use Rattle.m3_same_run.specs.declared.forms.Symbol.TheVariants as symbols
 use Rattle.m3_same_run.specs.declared.forms.Tag.{Tag}
 use Rattle.m3_same_run.specs.declared.forms.Tag.TheVariants as tags
-use Rattle.m3_same_run.specs.Forms.{Form, Query, Known, same_form, of_symbol}
+use Rattle.m3_same_run.specs.Forms.{Form, Query, Known, of_symbol}
 use Rattle.m3_same_run.specs.Seen.{asks}
 use Rattle.m3_same_run.specs.Check.{same_query, known, is_form, holds, lasts, is_other_slot, kept}
 use Rattle.m3_same_run.specs.Fits.{Old, OldQuery, eval, with_new, IsWords, given, answer_to, Says, AllTrue}

@@ -1,6 +1,6 @@
 -- The two procedures pass a point together.
-use Rattle.std.proofs.Common.{◌≡◌, ◌≢◌, ℕ, zero, suc, Bool, true, false, List, [], ◌∷◌, refl, sym, ap, ◌∙◌, subst}
-use Rattle.std.specs.Prelude.{◌==◌, ◌&&◌, not, Option, Some, None}
+use Rattle.std.proofs.Common.{◌≡◌, ℕ, suc, true, false, List, [], ◌∷◌, refl, sym, ap, ◌∙◌}
+use Rattle.std.specs.Prelude.{Option, Some, None}
 use Rattle.m3_base.specs.declared.outcomes.FaultKind.{FaultKind}
 use Rattle.m3_base.specs.declared.places.Pos.{Pos}
 use Rattle.m3_mid.specs.declared.calls.Raised.{Raised}
@@ -10,9 +10,9 @@ use Rattle.m3_mid.specs.declared.ops.MidOp.{MidOp}
 use Rattle.m3_mid.specs.declared.ops.MidOp.TheVariants as ops
 use Rattle.m3_mid_meaning.specs.Words.{Word}
 use Rattle.m3_mid_meaning.specs.Memory.{Around, seen}
-use Rattle.m3_mid_meaning.specs.States.{State, Ending, Undefined, Waiting, Faulted, Next, Goes, Ends as Ends_with, state_with, with_memory}
+use Rattle.m3_mid_meaning.specs.States.{State, Ending, Faulted, Next, Goes, Ends as Ends_with, state_with}
 use Rattle.m3_mid_meaning.specs.Actions.{Action, Passes, call_action, make_action, serve_action}
-use Rattle.m3_mid_meaning.specs.Points.{Event, Answer, Outcome, Effect, Plain, Acts, Reply, event_of, effect_at, passes, state_after, state_with_any, state_with_raised, after_call, after_make, after_service, after_nothing, served}
+use Rattle.m3_mid_meaning.specs.Points.{Event, Answer, Outcome, event_of, effect_at, state_after, state_with_any, state_with_raised, after_call, after_make, after_service, after_nothing, served}
 use Rattle.m3_mid_meaning.specs.Meaning.{effect_of}
 use Rattle.m3_mid_meaning.specs.Machinery.{Progress, Following, over, behind, go_on, carry_out}
 use Rattle.m3_mid_meaning.specs.Laws.{preceded}

@@ -1,5 +1,5 @@
 -- The right procedure goes on by itself.
-use Rattle.std.proofs.Common.{◌≡◌, ℕ, zero, suc, Bool, true, false, List, [], ◌∷◌, refl, sym, ap, ◌∙◌, subst}
+use Rattle.std.proofs.Common.{◌≡◌, ℕ, zero, suc, Bool, true, false, List, [], ◌∷◌, refl, sym, ap, ◌∙◌}
 use Rattle.std.specs.Prelude.{if◌then◌else◌, Option, Some, None, Result, Ok, Err, slice_get}
 use Rattle.std.specs.Option.{option_map}
 use Rattle.m3_base.specs.declared.outcomes.FaultKind.{FaultKind}
@@ -15,7 +15,7 @@ use Rattle.m3_mid_meaning.specs.Numbers.{checked_value}
 use Rattle.m3_mid_meaning.specs.Words.{Word, number, normal, of_numbers}
 use Rattle.m3_mid_meaning.specs.Memory.{Around}
 use Rattle.m3_mid_meaning.specs.States.{State, Goes, sets, sets_or_faults, goes_or_faults, state_with}
-use Rattle.m3_mid_meaning.specs.Points.{Answer, Outcome, Effect, Plain}
+use Rattle.m3_mid_meaning.specs.Points.{Answer, Outcome, Plain}
 use Rattle.m3_mid_meaning.specs.Meaning.{effect_of}
 use Rattle.m3_mid_meaning.specs.Machinery.{carry_out, run_ops, run_block, run_blocks}
 use Rattle.m3_mid_meaning.proofs.WordSums.{normal_is}
@@ -26,7 +26,7 @@ use Rattle.m3_same_run.specs.declared.seen.Seen.TheVariants.{Sets, Computes, Tri
 use Rattle.m3_same_run.specs.Forms.{Form, Query}
 use Rattle.m3_same_run.specs.Seen.{asks, seen}
 use Rattle.m3_same_run.specs.Check.{Standing, right_form, set_right, known, holds, at_ops, set_known, go_right, advance, in_block, follow, resolve}
-use Rattle.m3_same_run.specs.Fits.{eval, checked_word, given, answer_to, AllTrue, Fits}
+use Rattle.m3_same_run.specs.Fits.{eval, checked_word, answer_to, Fits}
 use Rattle.m3_same_run.proofs.Sums.{eval_normal}
 use Rattle.m3_same_run.proofs.Seeing.{OldSeen, does, seen_so}
 use Rattle.m3_same_run.proofs.Knowing.{known_so, holds_so}
@@ -72,7 +72,7 @@ module _ (slots : List Slot) (around : Around) (limit : ℕ) (q : Proc) (frame :
                 let h = r.2 answers o there in (
                   h.0,
                   ap (λ z. carry_out z answers (λ after more. run_ops q around rest st.end after more (run_blocks h.0 q around))) (effect_here s' op ∙ e)
-                  ∙ ap (λ z. run_ops q around rest z s1 answers (run_blocks h.0 q around)) (sym same) ∙ h.1,
+                      ∙ ap (λ z. run_ops q around rest z s1 answers (run_blocks h.0 q around)) (sym same) ∙ h.1,
                 ),
           )
 
@@ -138,7 +138,7 @@ module _ (slots : List Slot) (around : Around) (limit : ℕ) (q : Proc) (frame :
               let h = r.2 answers o there in (
                 suc h.0,
                 ap (λ z. run_ops q around z st.end s' answers (run_blocks (suc h.0) q around)) eo ∙ ap (λ z. run_ops q around [] z s' answers (run_blocks (suc h.0) q around)) ee
-                ∙ ap (λ z. run_block q around z s' answers (run_blocks h.0 q around)) e ∙ h.1,
+                    ∙ ap (λ z. run_block q around z s' answers (run_blocks h.0 q around)) e ∙ h.1,
               ),
         )
 

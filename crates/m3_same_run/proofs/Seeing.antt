@@ -1,6 +1,6 @@
 -- An operation does what is seen of it.
-use Rattle.std.proofs.Common.{◌≡◌, ℕ, suc, ◌+◌, ◌-◌, ◌%◌, ◌^◌, Bool, true, false, List, [], ◌∷◌, refl, sym, ap, ◌∙◌, subst, arith}
-use Rattle.std.specs.Prelude.{◌==◌, ◌&&◌, if◌then◌else◌, Option, Some, None, slice_get}
+use Rattle.std.proofs.Common.{◌≡◌, ℕ, ◌+◌, ◌-◌, ◌%◌, ◌^◌, Bool, true, false, List, [], refl, sym, ap, ◌∙◌, arith}
+use Rattle.std.specs.Prelude.{if◌then◌else◌, Some, slice_get}
 use Rattle.std.specs.Option.{option_map}
 use Rattle.m3_base.specs.Words.{word_of, add_words}
 use Rattle.m3_mid.specs.declared.procs.Slot.{Slot}
@@ -10,17 +10,15 @@ use Rattle.m3_mid.specs.declared.ops.MemoryWord.{MemoryWord}
 use Rattle.m3_mid.specs.declared.ops.MemoryWord.TheVariants as places
 use Rattle.m3_mid.specs.declared.ops.WordOperator.{WordOperator}
 use Rattle.m3_mid.specs.declared.ops.WordOperator.TheVariants as words
-use Rattle.m3_mid.specs.declared.ops.Relation.{Relation}
 use Rattle.m3_mid.specs.declared.ops.MidOp.{MidOp}
 use Rattle.m3_mid.specs.declared.ops.MidOp.TheVariants as ops
 use Rattle.m3_mid_meaning.specs.Numbers.{checked_value}
-use Rattle.m3_mid_meaning.specs.Words.{Word, IsNormal, number, normal, sum_of, times_of, further, of_numbers}
-use Rattle.m3_mid_meaning.specs.Memory.{Memory, Around, is_unshared, slot_address, load}
-use Rattle.m3_mid_meaning.specs.Operations.{operated, is_true, flag_word, element_address, is_of_type, method_of, text_byte, are_equal, are_equal_texts}
-use Rattle.m3_mid_meaning.specs.States.{State, Next, Goes, Ends, state_with, with_memory, stored_own, stored_at, stored, loaded, slot_word, sets, goes_to, goes_or_faults, sets_or_faults, operand, global_address, address_behind}
-use Rattle.m3_mid_meaning.specs.Points.{Effect, Plain, Acts}
+use Rattle.m3_mid_meaning.specs.Words.{Word, number, sum_of, times_of, of_numbers}
+use Rattle.m3_mid_meaning.specs.Memory.{Around, is_unshared, slot_address, load}
+use Rattle.m3_mid_meaning.specs.Operations.{operated, is_true, element_address}
+use Rattle.m3_mid_meaning.specs.States.{State, with_memory, stored_own, stored_at, stored, loaded, sets, goes_to, goes_or_faults, sets_or_faults, operand, global_address, address_behind}
+use Rattle.m3_mid_meaning.specs.Points.{Effect, Plain}
 use Rattle.m3_mid_meaning.specs.Meaning.{effect_of}
-use Rattle.m3_mid_meaning.proofs.WordSums.{normal_is}
 use Rattle.m3_same_run.specs.declared.forms.Symbol.{Symbol}
 use Rattle.m3_same_run.specs.declared.forms.Symbol.TheVariants as symbols
 use Rattle.m3_same_run.specs.declared.forms.Tag.{Tag}
@@ -29,10 +27,10 @@ use Rattle.m3_same_run.specs.declared.seen.Deed.{Deed}
 use Rattle.m3_same_run.specs.declared.seen.Deed.TheVariants as deeds
 use Rattle.m3_same_run.specs.declared.seen.Seen.{Seen}
 use Rattle.m3_same_run.specs.declared.seen.Seen.TheVariants.{Sets, Computes, Tries, Checks, Keeps, Changes, Points}
-use Rattle.m3_same_run.specs.Forms.{Form, Query, merge, scaled, opposite, of_symbol, of_number, behind}
+use Rattle.m3_same_run.specs.Forms.{Form, merge, scaled, opposite, of_symbol, of_number, behind}
 use Rattle.m3_same_run.specs.Seen.{asks, slot_form, global_form, operand_form, seen_arith, seen_load, seen_store, seen}
 use Rattle.m3_same_run.specs.Fits.{Old, OldQuery, OldSymbol, eval, Means, AllMean, IsWords, given, answer_to, changed}
-use Rattle.m3_same_run.proofs.Sums.{put_old, insert_old, merge_old, scaled_old, merge_eval, scaled_eval, symbol_eval, number_eval, behind_eval}
+use Rattle.m3_same_run.proofs.Sums.{put_old, merge_old, scaled_old, merge_eval, scaled_eval, symbol_eval, number_eval, behind_eval}
 
 abbrev pub OldSeen : ℕ → Seen → Type 0
 OldSeen n (Sets to a) = Old n a
@@ -92,8 +90,8 @@ module _ (slots : List Slot) (around : Around) where
           Sees v n s op (Plain (sets s to (given around s.own s.environment s.memory tag x y z))) (Computes to (asks tag a b c))
       ask_seen op to tag a b c x y z p q r = (
         ap (λ i. Plain (sets s to (given around s.own s.environment s.memory tag i y z))) p.1
-        ∙ ap (λ i. Plain (sets s to (given around s.own s.environment s.memory tag (eval v a) i z))) q.1
-        ∙ ap (λ i. Plain (sets s to (given around s.own s.environment s.memory tag (eval v a) (eval v b) i))) r.1,
+            ∙ ap (λ i. Plain (sets s to (given around s.own s.environment s.memory tag (eval v a) i z))) q.1
+            ∙ ap (λ i. Plain (sets s to (given around s.own s.environment s.memory tag (eval v a) (eval v b) i))) r.1,
         (p.0, q.0, r.0),
       )
 
@@ -104,8 +102,8 @@ module _ (slots : List Slot) (around : Around) where
           Sees v n s op (Plain (goes_to (option_map (with_memory s) (changed around s.memory deed x y z)))) (Changes deed a b c)
       change_seen op deed a b c x y z p q r = (
         ap (λ i. Plain (goes_to (option_map (with_memory s) (changed around s.memory deed i y z)))) p.1
-        ∙ ap (λ i. Plain (goes_to (option_map (with_memory s) (changed around s.memory deed (eval v a) i z)))) q.1
-        ∙ ap (λ i. Plain (goes_to (option_map (with_memory s) (changed around s.memory deed (eval v a) (eval v b) i)))) r.1,
+            ∙ ap (λ i. Plain (goes_to (option_map (with_memory s) (changed around s.memory deed (eval v a) i z)))) q.1
+            ∙ ap (λ i. Plain (goes_to (option_map (with_memory s) (changed around s.memory deed (eval v a) (eval v b) i)))) r.1,
         (p.0, q.0, r.0),
       )
 
@@ -154,7 +152,7 @@ module _ (slots : List Slot) (around : Around) where
       seen_so (ops.Arith to o left right) = arith_seen (ops.Arith to o left right) to o (operand_form f left) (operand_form f right) (operand s left) (operand s right) (operand_means left) (operand_means right)
       seen_so (ops.Checked to o left right place) = (
         ap (λ z. Plain (sets_or_faults s to place (of_numbers (checked_value o) z (operand s right)))) (operand_means left).1
-        ∙ ap (λ z. Plain (sets_or_faults s to place (of_numbers (checked_value o) (eval v (operand_form f left)) z))) (operand_means right).1,
+            ∙ ap (λ z. Plain (sets_or_faults s to place (of_numbers (checked_value o) (eval v (operand_form f left)) z))) (operand_means right).1,
         ((operand_means left).0, (operand_means right).0),
       )
       seen_so (ops.Compare to r left right) =
@@ -178,7 +176,7 @@ module _ (slots : List Slot) (around : Around) where
           ask_seen (ops.EqualWords to left right count) to tags.EqualWords (f left) (f right) (operand_form f count) (s.temps left) (s.temps right) (operand s count) (h left) (h right) (operand_means count)
       seen_so (ops.Check r left right fault place) = (
         ap (λ z. Plain (goes_or_faults s fault place (is_true r z (operand s right)))) (operand_means left).1
-        ∙ ap (λ z. Plain (goes_or_faults s fault place (is_true r (eval v (operand_form f left)) z))) (operand_means right).1,
+            ∙ ap (λ z. Plain (goes_or_faults s fault place (is_true r (eval v (operand_form f left)) z))) (operand_means right).1,
         ((operand_means left).0, (operand_means right).0),
       )
       seen_so (ops.TypeTest to cell tested) = ask_seen (ops.TypeTest to cell tested) to (tags.TypeTest tested) (f cell) [] [] (s.temps cell) (number 0) (number 0) (h cell) none_means none_means

@@ -1,41 +1,35 @@
 -- The two procedures go on together.
-use Rattle.std.proofs.Common.{◌≡◌, ◌≢◌, ℕ, zero, suc, Bool, true, false, List, [], ◌∷◌, refl, sym, ap, ◌∙◌, subst, arith}
-use Rattle.std.specs.Prelude.{◌==◌, ◌&&◌, if◌then◌else◌, Option, Some, None, Result, Ok, Err, slice_get}
+use Rattle.std.proofs.Common.{◌≡◌, ◌≢◌, ℕ, suc, Bool, true, false, List, [], refl, sym, ap, ◌∙◌, subst}
+use Rattle.std.specs.Prelude.{◌==◌, ◌&&◌, Option, Some, None, Result, Ok, Err}
 use Rattle.std.specs.Option.{option_map}
 use Rattle.m3_base.specs.declared.outcomes.FaultKind.{FaultKind}
 use Rattle.m3_base.specs.declared.places.Pos.{Pos}
 use Rattle.m3_mid.specs.declared.procs.Slot.{Slot}
 use Rattle.m3_mid.specs.declared.procs.Proc.{Proc}
-use Rattle.m3_mid.specs.declared.procs.End.{End}
-use Rattle.m3_mid.specs.declared.ops.MidOp.{MidOp}
 use Rattle.m3_mid.specs.declared.ops.CheckedOperator.{CheckedOperator}
 use Rattle.m3_mid.specs.declared.ops.Relation.{Relation}
 use Rattle.m3_mid_meaning.specs.Numbers.{checked_value}
 use Rattle.m3_mid_meaning.specs.Words.{Word, IsNormal, number, normal, of_numbers}
 use Rattle.m3_mid_meaning.specs.Memory.{Memory, Around}
 use Rattle.m3_mid_meaning.specs.Operations.{is_true, flag_word}
-use Rattle.m3_mid_meaning.specs.States.{State, Ending, Undefined, Faulted, Next, Goes, Ends as Ends_with, sets, sets_or_faults, goes_or_faults, goes_to, stored_own, with_own, with_memory, state_with}
+use Rattle.m3_mid_meaning.specs.States.{State, Undefined, Goes, sets, sets_or_faults, goes_or_faults, goes_to, stored_own, with_own, with_memory, state_with}
 use Rattle.m3_mid_meaning.specs.Points.{Answer, Outcome, Effect, Plain}
-use Rattle.m3_mid_meaning.specs.Meaning.{effect_of}
-use Rattle.m3_mid_meaning.specs.Machinery.{Following, over, go_on, carry_out, run_ops, run_block, run_blocks}
+use Rattle.m3_mid_meaning.specs.Machinery.{Following, over, go_on, carry_out, run_ops, run_blocks}
 use Rattle.m3_mid_meaning.proofs.WordSums.{normal_is, number_normal, times_normal}
 use Rattle.m3_same_run.specs.declared.forms.Symbol.{Symbol}
 use Rattle.m3_same_run.specs.declared.forms.Symbol.TheVariants as symbols
 use Rattle.m3_same_run.specs.declared.forms.Tag.TheVariants as tags
 use Rattle.m3_same_run.specs.declared.seen.Deed.{Deed}
-use Rattle.m3_same_run.specs.declared.seen.Seen.{Seen}
-use Rattle.m3_same_run.specs.declared.seen.Seen.TheVariants.{Sets, Computes, Tries, Checks, Keeps, Changes, Points}
 use Rattle.m3_same_run.specs.Forms.{Form, Query, same_form, of_symbol}
-use Rattle.m3_same_run.specs.Seen.{asks, seen}
-use Rattle.m3_same_run.specs.Same.{same_checked, same_relation, same_deed, same_fault, same_place, same_point}
-use Rattle.m3_same_run.specs.Check.{Standing, left_form, right_form, set_left, set_right, learn, known, holds, lasts, is_other_slot, forget, at_ops, new_word, newest, passed, both_tried, when, matched, with_right}
-use Rattle.m3_same_run.specs.Fits.{Old, OldQuery, eval, with_new, Means, checked_word, given, answer_to, changed, Says, Fits}
+use Rattle.m3_same_run.specs.Seen.{asks}
+use Rattle.m3_same_run.specs.Same.{same_checked, same_relation, same_deed, same_fault, same_place}
+use Rattle.m3_same_run.specs.Check.{Standing, set_left, learn, known, holds, lasts, is_other_slot, forget, new_word, newest, both_tried, when}
+use Rattle.m3_same_run.specs.Fits.{Old, OldQuery, eval, with_new, Means, checked_word, given, answer_to, changed, Fits}
 use Rattle.m3_same_run.proofs.Codes.{both, same_number, is_checked, is_relation, is_deed, is_fault, is_place}
-use Rattle.m3_same_run.proofs.Sums.{older, eval_normal, same_eval, symbol_eval, stays, new_is}
-use Rattle.m3_same_run.proofs.Seeing.{OldSeen, does, seen_so}
+use Rattle.m3_same_run.proofs.Sums.{same_eval, symbol_eval, stays, new_is}
 use Rattle.m3_same_run.proofs.Knowing.{known_so, holds_so, older_query}
-use Rattle.m3_same_run.proofs.Fitting.{fits_left, fits_right, fits_learn, fits_new, fits_memory, fits_own, newest_old, fits_at as fits_ops_at}
-use Rattle.m3_same_run.proofs.RightGoes.{Ends, effect_here, some_word, checked_so}
+use Rattle.m3_same_run.proofs.Fitting.{fits_left, fits_right, fits_learn, fits_new, fits_memory, fits_own, newest_old}
+use Rattle.m3_same_run.proofs.RightGoes.{Ends, some_word, checked_so}
 
 module _ (slots : List Slot) (around : Around) (limit : ℕ) (q : Proc) (frame : q.slots.now ≡ slots) where
   abbrev pub Defined : Outcome → Type 0
@@ -144,9 +138,11 @@ module _ (slots : List Slot) (around : Around) (limit : ℕ) (q : Proc) (frame :
         let same : of_numbers (checked_value co) (eval v a) (eval v b) ≡ of_numbers (checked_value co') (eval v a') (eval v b') =
         ap (λ z. of_numbers (checked_value z) (eval v a) (eval v b)) (is_checked co co' p3.0) ∙ ap (λ z. of_numbers (checked_value co') z (eval v b)) (same_eval v a a' p2.1)
         ∙ ap (of_numbers (checked_value co') (eval v a')) (same_eval v b b' p.1) in
-        let h = try_at to to' co a b place (of_numbers (checked_value co) (eval v a) (eval v b)) (old.0, old.1, tt) refl run (subst (λ z. Later z go) (sym w.1) later) in
-        (h.0, ap (λ z. carry_out (Plain (sets_or_faults s' to' z (of_numbers (checked_value co') (eval v a') (eval v b')))) answers (Rest st h.0)) (sym (is_place place place' p3.1))
-        ∙ ap (λ z. carry_out (Plain (sets_or_faults s' to' place z)) answers (Rest st h.0)) (sym same) ∙ h.1)
+        let h = try_at to to' co a b place (of_numbers (checked_value co) (eval v a) (eval v b)) (old.0, old.1, tt) refl run (subst (λ z. Later z go) (sym w.1) later) in (
+          h.0,
+          ap (λ z. carry_out (Plain (sets_or_faults s' to' z (of_numbers (checked_value co') (eval v a') (eval v b')))) answers (Rest st h.0)) (sym (is_place place place' p3.1))
+              ∙ ap (λ z. carry_out (Plain (sets_or_faults s' to' place z)) answers (Rest st h.0)) (sym same) ∙ h.1,
+        )
 
     -- ---- checks
 
@@ -183,10 +179,12 @@ module _ (slots : List Slot) (around : Around) (limit : ℕ) (q : Proc) (frame :
         let p4 = both _ _ p3.0 in
         let same : is_true r (eval v a) (eval v b) ≡ is_true r' (eval v a') (eval v b') =
         ap (λ z. is_true z (eval v a) (eval v b)) (is_relation r r' p4.0) ∙ ap (λ z. is_true r' z (eval v b)) (same_eval v a a' p2.1) ∙ ap (is_true r' (eval v a')) (same_eval v b b' p.1) in
-        let h = check_at r a b fault place (is_true r (eval v a) (eval v b)) old refl run (subst (λ z. Later z go) (sym w.1) later) in
-        (h.0, ap (λ z. carry_out (Plain (goes_or_faults s' z place' (is_true r' (eval v a') (eval v b')))) answers (Rest st h.0)) (sym (is_fault fault fault' p4.1))
-        ∙ ap (λ z. carry_out (Plain (goes_or_faults s' fault z (is_true r' (eval v a') (eval v b')))) answers (Rest st h.0)) (sym (is_place place place' p3.1))
-        ∙ ap (λ z. carry_out (Plain (goes_or_faults s' fault place z)) answers (Rest st h.0)) (sym same) ∙ h.1)
+        let h = check_at r a b fault place (is_true r (eval v a) (eval v b)) old refl run (subst (λ z. Later z go) (sym w.1) later) in (
+          h.0,
+          ap (λ z. carry_out (Plain (goes_or_faults s' z place' (is_true r' (eval v a') (eval v b')))) answers (Rest st h.0)) (sym (is_fault fault fault' p4.1))
+              ∙ ap (λ z. carry_out (Plain (goes_or_faults s' fault z (is_true r' (eval v a') (eval v b')))) answers (Rest st h.0)) (sym (is_place place place' p3.1))
+              ∙ ap (λ z. carry_out (Plain (goes_or_faults s' fault place z)) answers (Rest st h.0)) (sym same) ∙ h.1,
+        )
 
     pub check_known : (r : Relation) (a b : Form) (fault : FaultKind) (place : Pos) → holds r a b st.knowns ≡ true → go_on (goes_or_faults s fault place (is_true r (eval v a) (eval v b))) answers go ≡ Some o → Later st go → Ends slots around limit q frame st.ops st.end s' answers o
     check_known r a b fault place e run later =
@@ -208,10 +206,12 @@ module _ (slots : List Slot) (around : Around) (limit : ℕ) (q : Proc) (frame :
     keeps_so n n' a a' st2 e old run later =
         let w = when_so _ (kept_here n a) st2 e in
         let p = both _ _ w.0 in
-        let h = keep_at n a (s.own n) old run (subst (λ z. Later z go) (sym w.1) later) in
-        (h.0, ap (λ z. carry_out (Plain (goes_to (stored_own s' z (eval v a')))) answers (Rest st h.0)) (sym (same_number n n' p.0))
-        ∙ ap (λ z. carry_out (Plain (goes_to (stored_own s' n z))) answers (Rest st h.0)) (sym (same_eval v a a' p.1))
-        ∙ ap (λ z. carry_out (Plain (goes_to (option_map (λ w. with_own s' n (eval v a)) (z.own n)))) answers (Rest st h.0)) fits.rest ∙ h.1)
+        let h = keep_at n a (s.own n) old run (subst (λ z. Later z go) (sym w.1) later) in (
+          h.0,
+          ap (λ z. carry_out (Plain (goes_to (stored_own s' z (eval v a')))) answers (Rest st h.0)) (sym (same_number n n' p.0))
+              ∙ ap (λ z. carry_out (Plain (goes_to (stored_own s' n z))) answers (Rest st h.0)) (sym (same_eval v a a' p.1))
+              ∙ ap (λ z. carry_out (Plain (goes_to (option_map (λ w. with_own s' n (eval v a)) (z.own n)))) answers (Rest st h.0)) fits.rest ∙ h.1,
+        )
 
     -- ---- memory
 

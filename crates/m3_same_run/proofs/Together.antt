@@ -1,5 +1,5 @@
 -- One operation of the left procedure, and a row of them.
-use Rattle.std.proofs.Common.{◌≡◌, ◌≢◌, ℕ, zero, suc, Bool, true, false, List, [], ◌∷◌, refl, sym, ap, ◌∙◌, subst}
+use Rattle.std.proofs.Common.{◌≡◌, ℕ, zero, suc, Bool, true, false, List, [], ◌∷◌, refl, sym, ap, ◌∙◌, subst}
 use Rattle.std.specs.Prelude.{if◌then◌else◌, Option, Some, None, slice_get}
 use Rattle.m3_base.specs.declared.outcomes.FaultKind.{FaultKind}
 use Rattle.m3_base.specs.declared.places.Pos.{Pos}
@@ -14,10 +14,10 @@ use Rattle.m3_mid.specs.declared.ops.Relation.{Relation}
 use Rattle.m3_mid_meaning.specs.Numbers.{checked_value}
 use Rattle.m3_mid_meaning.specs.Words.{Word, of_numbers}
 use Rattle.m3_mid_meaning.specs.Memory.{Around}
-use Rattle.m3_mid_meaning.specs.States.{State, Goes, sets, sets_or_faults, state_with}
-use Rattle.m3_mid_meaning.specs.Points.{Answer, Outcome, Effect, Plain}
+use Rattle.m3_mid_meaning.specs.States.{State, sets, sets_or_faults, state_with}
+use Rattle.m3_mid_meaning.specs.Points.{Answer, Outcome}
 use Rattle.m3_mid_meaning.specs.Meaning.{effect_of}
-use Rattle.m3_mid_meaning.specs.Machinery.{Following, go_on, carry_out, run_ops, run_blocks}
+use Rattle.m3_mid_meaning.specs.Machinery.{Following, go_on, carry_out, run_ops}
 use Rattle.m3_mid_meaning.proofs.WordSums.{normal_is}
 use Rattle.m3_same_run.specs.declared.forms.Symbol.{Symbol}
 use Rattle.m3_same_run.specs.declared.forms.Tag.TheVariants as tags
@@ -26,7 +26,7 @@ use Rattle.m3_same_run.specs.declared.seen.Seen.TheVariants.{Sets, Computes, Tri
 use Rattle.m3_same_run.specs.Forms.{Form, Query}
 use Rattle.m3_same_run.specs.Seen.{asks, seen}
 use Rattle.m3_same_run.specs.Same.{same_point}
-use Rattle.m3_same_run.specs.Check.{Standing, left_form, right_form, set_left, set_right, known, holds, at_ops, set_known, go_right, advance, in_block, follow, resolve, new_word, newest, passed, matched, with_right, compute_left, step_known, step_seen, step, and_then, steps}
+use Rattle.m3_same_run.specs.Check.{Standing, left_form, right_form, set_left, set_right, known, holds, at_ops, set_known, go_right, advance, in_block, follow, resolve, passed, matched, with_right, compute_left, step_known, step_seen, step, and_then, steps}
 use Rattle.m3_same_run.specs.Fits.{eval, answer_to, Fits}
 use Rattle.m3_same_run.proofs.Sums.{eval_normal}
 use Rattle.m3_same_run.proofs.Seeing.{OldSeen, does, seen_so}

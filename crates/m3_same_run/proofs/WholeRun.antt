@@ -1,11 +1,11 @@
 -- The check with what is given is the check.
-use Rattle.std.proofs.Common.{◌≡◌, ℕ, Bool, true, false, List, [], ◌∷◌, length, Option, Some, None, refl, sym, ap, ◌∙◌}
+use Rattle.std.proofs.Common.{◌≡◌, ℕ, true, List, [], ◌∷◌, length, Option, Some, None, refl, sym, ap, ◌∙◌}
 use Rattle.std.specs.Prelude.{◌&&◌, slice_get}
 use Rattle.m3_mid.specs.declared.procs.Proc.{Proc}
 use Rattle.m3_mid.specs.declared.procs.Block.{Block}
 use Rattle.m3_mid_meaning.specs.Runs.{FollowsRun}
 use Rattle.m3_same_run.specs.Forms.{Pair}
-use Rattle.m3_same_run.specs.Check.{blocks_so, pair_so, pairs_so, old_settings, old_knowns, starts, same_frame, same_run}
+use Rattle.m3_same_run.specs.Check.{blocks_so, pair_so, pairs_so, old_settings, old_knowns, starts, same_frame}
 use Rattle.m3_same_run.specs.Whole.{blocks_with, pair_with, pairs_with, run_with}
 use Rattle.m3_same_run.proofs.Blocks.{follows}
 
@@ -27,6 +27,6 @@ module _ (p q : Proc) (jumps : ℕ) (proof : List Pair) where
   pub whole : (limit : ℕ) → limit ≡ length p.temps.now → run_with p.slots.now limit p q jumps proof ≡ true → FollowsRun p q
   whole limit e h =
       follows p q jumps proof (
-        ap (λ b. same_frame p q && starts proof p.start q.start && b) (sym (pairs_same proof))
-        ∙ ap (λ n. run_with p.slots.now n p q jumps proof) (sym e) ∙ h
+      ap (λ b. same_frame p q && starts proof p.start q.start && b) (sym (pairs_same proof))
+      ∙ ap (λ n. run_with p.slots.now n p q jumps proof) (sym e) ∙ h
       )

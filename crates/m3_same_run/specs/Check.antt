@@ -1,6 +1,6 @@
 -- THE CHECK: two blocks are run side by side on forms. The left procedure leads. What it computes is
 -- known to the right one, which does nothing by itself that isn't known; all else both do together.
-use Rattle.std.specs.Prelude.{ℕ, zero, suc, ◌+◌, ◌==◌, ◌&&◌, not, nat_lt, Bool, true, false, List, [], ◌∷◌, length, Option, Some, None, if◌then◌else◌, slice_get}
+use Rattle.std.specs.Prelude.{ℕ, zero, suc, ◌==◌, ◌&&◌, not, nat_lt, Bool, true, false, List, [], ◌∷◌, length, Option, Some, None, if◌then◌else◌, slice_get}
 use Rattle.m3_mid.specs.declared.procs.Slot.{Slot}
 use Rattle.m3_mid.specs.declared.procs.Proc.{Proc}
 use Rattle.m3_mid.specs.declared.procs.Block.{Block}
@@ -13,7 +13,6 @@ use Rattle.m3_mid.specs.declared.ops.MidOp.{MidOp}
 use Rattle.m3_mid.specs.declared.ops.MidOp.TheVariants as ops
 use Rattle.m3_same_run.specs.declared.forms.Symbol.{Symbol}
 use Rattle.m3_same_run.specs.declared.forms.Symbol.TheVariants as symbols
-use Rattle.m3_same_run.specs.declared.forms.Term.{Term}
 use Rattle.m3_same_run.specs.declared.forms.Tag.{Tag}
 use Rattle.m3_same_run.specs.declared.forms.Tag.TheVariants as tags
 use Rattle.m3_same_run.specs.declared.seen.Seen.{Seen}
@@ -168,7 +167,7 @@ abbrev pub told_raised : Option Raised → (exception number tidy : ℕ) → Lis
 told_raised None e m t xs = xs
 told_raised (Some raised) e m t xs =
     setting raised.tidy (newest t)
-      (setting raised.number (newest m) (setting raised.exception (newest e) xs))
+    (setting raised.number (newest m) (setting raised.exception (newest e) xs))
 
 -- The temporaries that an answer sets, by the words of its result, of the exception with its number
 -- and its pointer, and of whether the exception is any.
@@ -209,17 +208,17 @@ points_matched op op' limit st =
 abbrev pub matched : MidOp → MidOp → (f f' : ℕ → Form) → Seen → Seen → Standing → Option Standing
 matched op op' f f' (Tries to o a b place) (Tries to' o' a' b' place') st =
     when (same_checked o o' && same_place place place' && same_form a a' && same_form b b')
-      (both_tried to to' (asks (tags.Checked o) a b []) st)
+    (both_tried to to' (asks (tags.Checked o) a b []) st)
 matched op op' f f' (Checks r a b fault place) (Checks r' a' b' fault' place') st =
     when (same_relation r r' && same_fault fault fault' && same_place place place'
-      && same_form a a' && same_form b b')
-      (learn st (asks (tags.Compared r) a b []) (of_symbol symbols.One))
+    && same_form a a' && same_form b b')
+    (learn st (asks (tags.Compared r) a b []) (of_symbol symbols.One))
 matched op op' f f' (Keeps n a) (Keeps n' a') st =
     when (n == n' && same_form a a')
-      (learn (forget (is_other_slot n) st) (asks (tags.OwnSlot n) [] [] []) a)
+    (learn (forget (is_other_slot n) st) (asks (tags.OwnSlot n) [] [] []) a)
 matched op op' f f' (Changes deed a b c) (Changes deed' a' b' c') st =
     when (same_deed deed deed' && same_form a a' && same_form b b' && same_form c c')
-      (forget lasts st)
+    (forget lasts st)
 matched op op' f f' Points Points st = when (same_point f f' op op') (passed op op' st)
 matched op op' f f' _ _ st = None
 

@@ -1,9 +1,9 @@
 -- What forms stand for, and when two states stand where a check says.
-use Rattle.std.specs.Prelude.{◌≡◌, ℕ, suc, ◌+◌, ◌<◌, Bool, true, List, [], ◌∷◌, Option, Some, None, Result, Ok, Err, if◌then◌else◌}
+use Rattle.std.specs.Prelude.{◌≡◌, ℕ, ◌<◌, List, [], ◌∷◌, Option, Some, None, Result, Ok, Err, if◌then◌else◌}
 use Rattle.std.specs.Option.{option_map}
 use Rattle.m3_base.specs.declared.outcomes.FaultKind.{FaultKind}
 use Rattle.m3_mid_meaning.specs.Numbers.{operator_value, checked_value}
-use Rattle.m3_mid_meaning.specs.Words.{Word, IsNormal, number, normal, sum_of, times_of, of_numbers, ◌>>=◌, number_of}
+use Rattle.m3_mid_meaning.specs.Words.{Word, IsNormal, number, normal, sum_of, times_of, of_numbers}
 use Rattle.m3_mid_meaning.specs.Memory.{Memory, Around, load, store}
 use Rattle.m3_mid_meaning.specs.Operations.{is_true, flag_word, is_of_type, method_of, text_byte, are_equal, are_equal_texts, copied, filled}
 use Rattle.m3_mid_meaning.specs.States.{State}
@@ -13,7 +13,7 @@ use Rattle.m3_same_run.specs.declared.forms.Tag.{Tag}
 use Rattle.m3_same_run.specs.declared.forms.Tag.TheVariants as tags
 use Rattle.m3_same_run.specs.declared.seen.Deed.{Deed}
 use Rattle.m3_same_run.specs.declared.seen.Deed.TheVariants as deeds
-use Rattle.m3_same_run.specs.Forms.{Form, Query, Known, Setting, same_symbol}
+use Rattle.m3_same_run.specs.Forms.{Form, Query, Known, same_symbol}
 use Rattle.m3_same_run.specs.Check.{Standing, form_at}
 
 -- a symbol made before the n-th new one

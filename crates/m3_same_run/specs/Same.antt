@@ -1,7 +1,6 @@
 -- When what two operations name is the same.
 use Rattle.std.specs.Prelude.{ℕ, ◌==◌, ◌&&◌, Bool, true, false, List, [], ◌∷◌, Option, Some, None}
 use Rattle.m3_base.specs.Faults.{number_of_fault}
-use Rattle.m3_base.specs.Words.{word_of}
 use Rattle.m3_base.specs.declared.outcomes.FaultKind.{FaultKind}
 use Rattle.m3_base.specs.declared.places.Pos.{Pos}
 use Rattle.m3_mid.specs.declared.calls.Actual.{Actual}

@@ -1,5 +1,5 @@
 -- What an operation does, by forms.
-use Rattle.std.specs.Prelude.{ℕ, ◌+◌, List, [], ◌∷◌, Bool, true, false, if◌then◌else◌, slice_get}
+use Rattle.std.specs.Prelude.{ℕ, ◌+◌, List, [], if◌then◌else◌, slice_get}
 use Rattle.m3_base.specs.Words.{word_of}
 use Rattle.m3_mid.specs.declared.procs.Slot.{Slot}
 use Rattle.m3_mid.specs.declared.ops.Operand.{Operand}

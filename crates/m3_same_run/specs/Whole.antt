@@ -1,6 +1,6 @@
 -- The check of two procedures, with the slots of the frames and the number of temporaries that the
 -- left one has as they are given.
-use Rattle.std.specs.Prelude.{ℕ, ◌&&◌, Bool, true, false, List, [], ◌∷◌, Option, Some, None, slice_get}
+use Rattle.std.specs.Prelude.{ℕ, ◌&&◌, Bool, true, false, List, [], ◌∷◌, Option, Some, slice_get}
 use Rattle.m3_mid.specs.declared.procs.Slot.{Slot}
 use Rattle.m3_mid.specs.declared.procs.Proc.{Proc}
 use Rattle.m3_mid.specs.declared.procs.Block.{Block}
@@ -10,7 +10,7 @@ use Rattle.m3_same_run.specs.Check.{steps, ends_so, old_settings, old_knowns, st
 abbrev pub blocks_with : List Slot → ℕ → Proc → ℕ → List Pair → Pair → Option Block → Option Block → Bool
 blocks_with slots limit q jumps proof pair (Some block) (Some block') =
     ends_so slots limit proof block.end
-      (steps slots limit q jumps block.ops.now (standing_at pair block'))
+    (steps slots limit q jumps block.ops.now (standing_at pair block'))
 blocks_with slots limit q jumps proof pair _ _ = false
 
 abbrev pub pair_with : List Slot → ℕ → Proc → Proc → ℕ → List Pair → Pair → Bool

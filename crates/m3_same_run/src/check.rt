@@ -33,11 +33,8 @@ impl<'a> Standing<'a> {
             }
             .temp(temp),
             Symbol::New(_) => Ok(Form::none(alloc)),
-            Symbol::One
-            | Symbol::Frame
-            | Symbol::Globals
-            | Symbol::Text(_)
-            | Symbol::Constant(_) => Form::of_symbol(alloc, symbol),
+            Symbol::One | Symbol::Frame | Symbol::Globals | Symbol::Text(_) | Symbol::Constant(_) =>
+                Form::of_symbol(alloc, symbol),
         }
     }
 
@@ -65,12 +62,7 @@ impl<'a> Standing<'a> {
         })
     }
 
-    fn fits_at(
-        &self,
-        judge: Judge<'_>,
-        settings: &[Setting],
-        temp: u32,
-    ) -> Result<bool, AllocError>
+    fn fits_at(&self, judge: Judge<'_>, settings: &[Setting], temp: u32) -> Result<bool, AllocError>
         ensures { IfOk result (λ b. b
             ≡ check.fits_at judge.entry.limit self.now settings.now temp) }
     {
@@ -322,7 +314,7 @@ impl<'a> Standing<'a> {
     fn ends(self, judge: Judge<'_>, proof: &[Pair], end: End) -> Result<bool, AllocError>
         ensures { IfOk result (λ b. b
             ≡ check.ended judge.entry.limit proof.now end
-                (check.advance judge.entry.slots.now judge.entry.limit self.entry.ops self.entry)) }
+            (check.advance judge.entry.slots.now judge.entry.limit self.entry.ops self.entry)) }
     {
         let there = self.advance(judge)?;
         if there.ops.is_empty() {
@@ -332,11 +324,7 @@ impl<'a> Standing<'a> {
         }
     }
 
-    fn steps(
-        self,
-        judge: Judge<'a>,
-        ops: &[MidOp<'_>],
-    ) -> Result<Option<Standing<'a>>, AllocError>
+    fn steps(self, judge: Judge<'a>, ops: &[MidOp<'_>]) -> Result<Option<Standing<'a>>, AllocError>
         ensures { IfOk result (λ o. o
             ≡ check.steps judge.entry.slots.now judge.entry.limit judge.entry.right 1 ops.now self.entry) }
     {

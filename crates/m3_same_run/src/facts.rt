@@ -65,11 +65,7 @@ pub(crate) fn known(
 }
 
 /// Whether an answer is there and is this form.
-pub(crate) fn is_form(
-    alloc: Global,
-    form: &Form,
-    found: &Option<Form>,
-) -> Result<bool, AllocError>
+pub(crate) fn is_form(alloc: Global, form: &Form, found: &Option<Form>) -> Result<bool, AllocError>
     ensures { IfOk result (λ b. b ≡ check.is_form form.now found.now) }
 {
     match found {

@@ -217,9 +217,7 @@ pub struct Query {
 impl Model for Query {
     ghost Value = { QueryValue };
 
-    ghost view = {
-        λ x. record { tag = x.tag; first = x.first; second = x.second; third = x.third }
-    };
+    ghost view = { λ x. record { tag = x.tag; first = x.first; second = x.second; third = x.third } };
 }
 
 /// A question whose answer is known.
@@ -261,12 +259,10 @@ pub struct Pair {
 impl Model for Pair {
     ghost Value = { PairValue };
 
-    ghost view = {
-        λ x. record {
-            left = x.left;
-            right = x.right;
-            settings = x.settings.items;
-            knowns = x.knowns.items
-        }
-    };
+    ghost view = { λ x. record {
+      left = x.left;
+      right = x.right;
+      settings = x.settings.items;
+      knowns = x.knowns.items;
+    } };
 }

@@ -189,7 +189,8 @@ impl<'a> Standing<'a> {
             ) => {
                 let is_left = left.is_same(alloc, other_left)?;
                 let is_right = right.is_same(alloc, other_right)?;
-                let is_same = same_checked(*operator, *other_operator) && same_place(*pos, *other_pos);
+                let is_same = same_checked(*operator, *other_operator)
+                    && same_place(*pos, *other_pos);
                 if is_same && is_left && is_right {
                     let query = asks(alloc, Tag::Checked(*operator), left, right)?;
                     self.try_both(alloc, *to, *other_to, query)?;
@@ -279,7 +280,7 @@ impl<'a> Standing<'a> {
     ) -> Result<bool, AllocError>
         ensures { IfOk result (λ b.
             check.matched op.now other.now (left_form self.old) (right_form judge.entry.limit self.old) x.now
-                (seen judge.entry.slots.now (right_form judge.entry.limit self.old) other.now) self.old
+            (seen judge.entry.slots.now (right_form judge.entry.limit self.old) other.now) self.old
             ≡ (if b then Some self.new else None)) }
     {
         let side = Side {
@@ -336,7 +337,7 @@ impl<'a> Standing<'a> {
     ) -> Result<Option<Standing<'a>>, AllocError>
         ensures { IfOk result (λ o. o
             ≡ check.step_seen x.now self.entry
-                (check.meeting judge.entry.slots.now judge.entry.limit judge.entry.right 1 op.now x.now self.entry)) }
+            (check.meeting judge.entry.slots.now judge.entry.limit judge.entry.right 1 op.now x.now self.entry)) }
     {
         let alloc = judge.alloc;
         let mut st = self;

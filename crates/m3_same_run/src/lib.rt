@@ -2,10 +2,10 @@
 //! checked: pairs of blocks, and what holds where the two procedures come to them.
 #![tactic(auto)]
 
-mod forms;
-mod going;
 mod check;
 mod facts;
+mod forms;
+mod going;
 mod law;
 mod points;
 mod same;
@@ -15,5 +15,5 @@ mod side;
 mod standing;
 
 pub use check::have_same_run;
-pub use law::check_is_sound;
 pub use forms::{Form, Known, Pair, Query, Setting, Symbol, Tag, Term};
+pub use law::check_is_sound;

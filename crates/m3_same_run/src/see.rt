@@ -11,13 +11,7 @@ use m3_mid::{MidOp, Operand, Slot};
 use std::alloc::AllocError;
 
 impl<'s> Side<'s> {
-    fn see_three(
-        self,
-        to: u32,
-        left: u32,
-        right: u32,
-        words: Operand,
-    ) -> Result<Seen, AllocError>
+    fn see_three(self, to: u32, left: u32, right: u32, words: Operand) -> Result<Seen, AllocError>
         ensures { IfOk result (λ s. s
             ≡ seen.computes_three (form_at self.entry.limit self.entry.settings.now) to left right words) }
     {
@@ -78,7 +72,13 @@ impl<'s> Side<'s> {
                 operator,
                 left,
                 right,
-            } => see_arith(alloc, *to, *operator, self.operand(*left)?, self.operand(*right)?),
+            } => see_arith(
+                alloc,
+                *to,
+                *operator,
+                self.operand(*left)?,
+                self.operand(*right)?,
+            ),
             MidOp::Checked {
                 to,
                 operator,
@@ -165,10 +165,8 @@ impl<'s> Side<'s> {
                 Operand::Temp(*left),
                 Operand::Temp(*right),
             ),
-            MidOp::Call { .. }
-            | MidOp::Make { .. }
-            | MidOp::Service { .. }
-            | MidOp::Point { .. } => Ok(Seen::Points),
+            MidOp::Call { .. } | MidOp::Make { .. } | MidOp::Service { .. } | MidOp::Point { .. } =>
+                Ok(Seen::Points),
         }
     }
 }

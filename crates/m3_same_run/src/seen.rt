@@ -168,7 +168,13 @@ impl<'s> Side<'s> {
         start.merge(self.alloc, Form::of_number(self.alloc, offset)?)
     }
 
-    pub(crate) fn see_two(self, to: u32, tag: Tag, left: Operand, right: Operand) -> Result<Seen, AllocError>
+    pub(crate) fn see_two(
+        self,
+        to: u32,
+        tag: Tag,
+        left: Operand,
+        right: Operand,
+    ) -> Result<Seen, AllocError>
         ensures { IfOk result (λ s. s
             ≡ seen.computes_two (form_at self.entry.limit self.entry.settings.now) to tag left right) }
     {
@@ -183,7 +189,12 @@ impl<'s> Side<'s> {
         })
     }
 
-    pub(crate) fn see_load(self, slots: &[Slot], to: u32, from: MemoryWord) -> Result<Seen, AllocError>
+    pub(crate) fn see_load(
+        self,
+        slots: &[Slot],
+        to: u32,
+        from: MemoryWord,
+    ) -> Result<Seen, AllocError>
         ensures { IfOk result (λ s. s
             ≡ seen.seen_load slots.now (form_at self.entry.limit self.entry.settings.now) to from) }
     {
@@ -209,7 +220,12 @@ impl<'s> Side<'s> {
         }
     }
 
-    pub(crate) fn see_store(self, slots: &[Slot], at: MemoryWord, value: Form) -> Result<Seen, AllocError>
+    pub(crate) fn see_store(
+        self,
+        slots: &[Slot],
+        at: MemoryWord,
+        value: Form,
+    ) -> Result<Seen, AllocError>
         ensures { IfOk result (λ s. s
             ≡ seen.seen_store slots.now (form_at self.entry.limit self.entry.settings.now) at value) }
     {

@@ -40,16 +40,14 @@ pub(crate) struct Standing<'a> {
 impl<'a> Model for Standing<'a> {
     ghost Value = { StandingValue };
 
-    ghost view = {
-        λ s. record {
-            left = s.left.items;
-            right = s.right.items;
-            knowns = s.knowns.items;
-            fresh = s.fresh;
-            ops = s.ops.now;
-            end = s.end
-        }
-    };
+    ghost view = { λ s. record {
+      left = s.left.items;
+      right = s.right.items;
+      knowns = s.knowns.items;
+      fresh = s.fresh;
+      ops = s.ops.now;
+      end = s.end;
+    } };
 }
 
 /// The new words of an answer.
@@ -166,7 +164,7 @@ impl<'a> Standing<'a> {
     ) -> Result<(), AllocError>
         ensures { IfOk result (λ u. self.new
             ≡ record self.old {
-                left = told_raised raised told.exception told.number told.tidy self.old.left
+              left = told_raised raised told.exception told.number told.tidy self.old.left;
             }) }
     {
         let Some(raised) = raised else {
@@ -185,7 +183,7 @@ impl<'a> Standing<'a> {
     ) -> Result<(), AllocError>
         ensures { IfOk result (λ u. self.new
             ≡ record self.old {
-                right = told_raised raised told.exception told.number told.tidy self.old.right
+              right = told_raised raised told.exception told.number told.tidy self.old.right;
             }) }
     {
         let Some(raised) = raised else {
@@ -196,15 +194,10 @@ impl<'a> Standing<'a> {
         self.tell_right(alloc, Some(raised.tidy), told.tidy)
     }
 
-    fn answer_left(
-        &mut self,
-        alloc: Global,
-        op: &MidOp<'_>,
-        told: Told,
-    ) -> Result<(), AllocError>
+    fn answer_left(&mut self, alloc: Global, op: &MidOp<'_>, told: Told) -> Result<(), AllocError>
         ensures { IfOk result (λ u. self.new
             ≡ record self.old {
-                left = answered_by op.now told.result told.exception told.number told.tidy told.any self.old.left
+              left = answered_by op.now told.result told.exception told.number told.tidy told.any self.old.left;
             }) }
     {
         match op {
@@ -221,15 +214,10 @@ impl<'a> Standing<'a> {
         }
     }
 
-    fn answer_right(
-        &mut self,
-        alloc: Global,
-        op: &MidOp<'_>,
-        told: Told,
-    ) -> Result<(), AllocError>
+    fn answer_right(&mut self, alloc: Global, op: &MidOp<'_>, told: Told) -> Result<(), AllocError>
         ensures { IfOk result (λ u. self.new
             ≡ record self.old {
-                right = answered_by op.now told.result told.exception told.number told.tidy told.any self.old.right
+              right = answered_by op.now told.result told.exception told.number told.tidy told.any self.old.right;
             }) }
     {
         match op {
@@ -306,27 +294,22 @@ impl<'a> Standing<'a> {
     }
 
     /// A slot of the activation's own has a word from now on.
-    pub(crate) fn keep(
-        &mut self,
-        alloc: Global,
-        slot: u32,
-        value: &Form,
-    ) -> Result<(), AllocError>
+    pub(crate) fn keep(&mut self, alloc: Global, slot: u32, value: &Form) -> Result<(), AllocError>
         ensures { IfOk result (λ u. self.new
             ≡ check.learn (check.forget (is_other_slot slot) self.old) (asks_form (OwnSlot slot) [] [] []) value.now) }
     {
         self.forget(alloc, Some(slot))?;
-        let query = asks(alloc, Tag::OwnSlot(slot), &Form::none(alloc), &Form::none(alloc))?;
+        let query = asks(
+            alloc,
+            Tag::OwnSlot(slot),
+            &Form::none(alloc),
+            &Form::none(alloc),
+        )?;
         self.learn(query, value.copy(alloc)?)
     }
 
     /// The left procedure computes the answer to a question.
-    pub(crate) fn compute(
-        &mut self,
-        alloc: Global,
-        to: u32,
-        query: Query,
-    ) -> Result<(), AllocError>
+    pub(crate) fn compute(&mut self, alloc: Global, to: u32, query: Query) -> Result<(), AllocError>
         ensures { IfOk result (λ u. self.new
             ≡ check.compute_left (check.known query self.old.knowns) to query self.old) }
     {

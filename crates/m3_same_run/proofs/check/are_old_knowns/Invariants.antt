@@ -1,4 +1,4 @@
-use Rattle.std.proofs.Common.{◌≡◌, ◌++◌, [], drop}
+use Rattle.std.proofs.Common.{◌≡◌, drop}
 use Rattle.m3_same_run.specs.Check.{old_knowns}
 use Rattle.m3_same_run.proofs.check.are_old_knowns.Given as goal
 

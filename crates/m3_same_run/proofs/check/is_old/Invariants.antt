@@ -1,4 +1,4 @@
-use Rattle.std.proofs.Common.{◌≡◌, ◌++◌, [], drop}
+use Rattle.std.proofs.Common.{◌≡◌, drop}
 use Rattle.m3_same_run.specs.Check.{old_form}
 use Rattle.m3_same_run.proofs.check.is_old.Given as goal
 

@@ -1,4 +1,4 @@
-use Rattle.std.proofs.Common.{◌≡◌, ◌++◌, [], drop}
+use Rattle.std.proofs.Common.{◌≡◌, drop}
 use Rattle.m3_same_run.specs.Whole.{pairs_with}
 use Rattle.m3_same_run.proofs.standing.Judge.are_pairs.Given as goal
 

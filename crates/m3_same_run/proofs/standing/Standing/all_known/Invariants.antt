@@ -1,4 +1,4 @@
-use Rattle.std.proofs.Common.{◌≡◌, ◌++◌, [], drop}
+use Rattle.std.proofs.Common.{◌≡◌, drop}
 use Rattle.m3_same_run.specs.Check.{all_known}
 use Rattle.m3_same_run.proofs.standing.Standing.all_known.Given as goal
 

@@ -1,4 +1,4 @@
-use Rattle.std.proofs.Common.{◌≡◌, ◌++◌, [], drop}
+use Rattle.std.proofs.Common.{◌≡◌, [], drop}
 use Rattle.m3_same_run.specs.Check.{now_onto}
 use Rattle.m3_same_run.proofs.standing.Standing.form_now.Given as goal
 

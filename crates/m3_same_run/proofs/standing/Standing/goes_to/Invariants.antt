@@ -1,4 +1,4 @@
-use Rattle.std.proofs.Common.{◌≡◌, ◌++◌, [], drop}
+use Rattle.std.proofs.Common.{◌≡◌, drop}
 use Rattle.m3_same_run.specs.Check.{goes_to}
 use Rattle.m3_same_run.proofs.standing.Standing.goes_to.Given as goal
 
