@@ -195,7 +195,7 @@ laid-after c a (d ∷ cs) h le = (
   laid-after c (a + length d.words) cs h.2 (omega arith),
 )
 
-laid-apart : (a : ℕ) (cs : List Cell) → AreLaid a cs → AllApart cs
+pub laid-apart : (a : ℕ) (cs : List Cell) → AreLaid a cs → AllApart cs
 laid-apart a [] h = tt
 laid-apart a (c ∷ cs) h = (laid-after c (a + length c.words) cs h.2 (omega (arith, h.0)), laid-apart (a + length c.words) cs h.2)
 

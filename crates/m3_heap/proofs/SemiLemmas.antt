@@ -1,22 +1,21 @@
 -- A heap of two halves between its calls.
-use Rattle.std.proofs.Common.{◌≡◌, ℕ, ◌+◌, ◌-◌, ◌/◌, ◌<◌, ◌≤◌, ◌^◌, zero, suc, Bool, true, false, cond, eqb, ltb, leb, List, [], ◌∷◌, ◌++◌, length, set, replicate, Option, Some, None, is_some, refl, sym, ap, subst, ◌∙◌, arith, inl, inr, ⊎_elim, length-set}
+use Rattle.std.proofs.Common.{◌≡◌, ℕ, ◌+◌, ◌-◌, ◌/◌, min, ◌<◌, ◌≤◌, ◌^◌, zero, suc, Bool, true, false, cond, eqb, ltb, leb, List, [], ◌∷◌, ◌++◌, length, set, replicate, Option, Some, None, is_some, refl, sym, ap, subst, ◌∙◌, arith, inl, inr, ⊎_elim, length-set}
 use Rattle.std.specs.List.{AllByRecursion}
 use Rattle.std.specs.Prelude.{◌||◌, not, IfSome}
 use Rattle.std.specs.Option.{IfNone}
-use Rattle.std.proofs.lemmas.Bool.{cases_Bool, eq-eqb, ne_eqb, cond-true, cond-false, false≢true, and_parts, leb-true, or_parts, ltb-false}
+use Rattle.std.proofs.lemmas.Bool.{cases_Bool, eq-eqb, ne_eqb, cond-true, cond-false, false≢true, and_parts, and_from, leb-true, le-leb, lt-leb, or_parts, ltb-false}
 use Rattle.std.proofs.lemmas.List.{length-replicate}
-use Rattle.m3_heap.specs.Cells.{Cell, heap_base, header, header_of, words_in, covers, cell_from, cell_word_at, is_start, is_writable, words_from, with_word, layout, total_words, IsHeaded}
-use Rattle.m3_heap.specs.Heap.{Heap, HasOtherWords, IsSoundHeap}
+use Rattle.m3_heap.specs.Cells.{Cell, heap_base, header, header_of, words_in, covers, cell_from, cell_word_at, is_start, is_writable, words_from, with_word, layout, total_words, new_cell, IsHeaded}
+use Rattle.m3_heap.specs.Heap.{Heap, HasOtherWords, IsSoundHeap, KeepsLaws, first_base, second_base, nursery_base, lies_in, next_start, Allots}
 use Rattle.m3_heap.specs.Moves.{Move, new_start, is_kept, forwarded, with_kept, kept_words}
 use Rattle.m3_heap.specs.CollectorSpace.{Space, AreLaid}
-use Rattle.m3_heap.specs.CollectorTracing.{moves_from, copies_of, origin, marked, words_kept, IsShort, Traces, old_cells, copies, moves, IsTracing, Keeps}
+use Rattle.m3_heap.specs.CollectorTracing.{moves_from, origin, marked, words_kept, IsShort, Traces, old_cells, copies, moves, IsTracing, Keeps}
 use Rattle.m3_heap.specs.CollectorScanning.{ArePlain}
-use Rattle.m3_heap.specs.Semi.{Semi, first_base, second_base}
-use Rattle.m3_heap.specs.CollectorHalves.{semi_of, IsSemi, cells_seen, semi_heap, AreAtRest, AreMoving, IsAsOpen}
+use Rattle.m3_heap.specs.CollectorHalves.{semi_of, IsSemi, cells_seen, semi_heap, copied_moves, AreAtRest, AreMoving, IsAsOpen}
 use Rattle.m3_heap.specs.declared.halves.Halves.TheInside.{Inside}
 use Rattle.m3_heap.proofs.TracingLemmas.{all_append, none_or_some, new_start-lacks, new_start-one, total-placed, total-append, moves_from-append, cells-told, copies-told, tracing-told}
 use Rattle.m3_heap.proofs.CopyLemmas.{forwarded-kept}
-use Rattle.m3_heap.proofs.FinalLemmas.{sound-cells, words-moved}
+use Rattle.m3_heap.proofs.FinalLemmas.{sound-cells, laid-apart, words-moved}
 
 pub bases-high : (semi : Inside) → IsSemi semi → (heap_base ≤ semi.here.base) × (heap_base ≤ semi.there.base) × (semi.here.base + semi.here.size ≤ 9223372036854775808) × (semi.there.base + semi.there.size ≤ 9223372036854775808)
 bases-high semi h = ⊎_elim
@@ -24,33 +23,83 @@ bases-high semi h = ⊎_elim
     (λ (p : (semi.here.base ≡ second_base) × (semi.there.base ≡ first_base)). (omega (arith, p.0), omega (arith, p.1), omega (arith, p.0, h.small), omega (arith, p.1, h.small, h.same_size)))
     h.bases
 
-sound-of : (here there : Space) (b : Bool) (asked fulls : ℕ) → AllByRecursion IsHeaded (cells_seen b here there) → AreLaid here.base (cells_seen b here there) → total_words (cells_seen b here there) ≤ here.size → heap_base ≤ here.base → here.base + here.size ≤ 9223372036854775808 → here.size ≤ 67108864 → IsSoundHeap (semi_heap b here there asked fulls)
-sound-of here there b asked fulls headed laid room low high small = record {
-  cells = sound-cells here.base (cells_seen b here there) headed laid low (omega arith);
-  free = omega arith;
+-- ---- the laws
+
+pub half-in-use : (semi : Inside) → IsSemi semi → (eqb semi.here.base first_base || eqb semi.here.base second_base) ≡ true
+half-in-use semi h = ⊎_elim
+    (λ (p : (semi.here.base ≡ first_base) × (semi.there.base ≡ second_base)). ap (λ n. eqb n first_base || eqb n second_base) p.0)
+    (λ (p : (semi.here.base ≡ second_base) × (semi.there.base ≡ first_base)). ap (λ n. eqb n first_base || eqb n second_base) p.0)
+    h.bases
+
+or-left : (x y : Bool) → x ≡ true → (x || y) ≡ true
+or-left true y e = refl
+or-left false y e = cc
+
+placed-one : (base words : ℕ) (cell : ℕ × ℕ) → base ≤ cell.0 → cell.0 + cell.1 ≤ base + words → (lies_in base words cell || lies_in nursery_base 0 cell) ≡ true
+placed-one base words cell low high =
+    or-left (lies_in base words cell) (lies_in nursery_base 0 cell)
+    (and_from (leb base cell.0) (leb (cell.0 + cell.1) (base + words)) (le-leb base cell.0 low) (le-leb (cell.0 + cell.1) (base + words) high))
+
+laid-placed : (base words a : ℕ) (cs : List Cell) → AreLaid a cs → base ≤ a → a + total_words cs ≤ base + words → AllByRecursion (λ (cell : ℕ × ℕ). (lies_in base words cell || lies_in nursery_base 0 cell) ≡ true) (layout cs)
+laid-placed base words a [] h low high = tt
+laid-placed base words a (c ∷ cs) h low high = (
+  placed-one base words (c.start, length c.words) (omega (arith, h.0)) (omega (arith, h.0)),
+  laid-placed base words (a + length c.words) cs h.2 (omega arith) (omega arith),
+)
+
+laws-of : (here there : Space) (b : Bool) (copied asked fulls : ℕ) → AreLaid here.base (cells_seen b here there) → total_words (cells_seen b here there) ≤ here.size → (eqb here.base first_base || eqb here.base second_base) ≡ true → KeepsLaws (semi_heap b here there copied asked fulls)
+laws-of here there b copied asked fulls laid room half = record {
+  half = half;
+  young = omega arith;
+  some = omega arith;
+  room = room;
+  placed = laid-placed here.base (total_words (cells_seen b here there) - 0) here.base (cells_seen b here there) laid (omega arith) (omega arith);
+  apart = laid-apart here.base (cells_seen b here there) laid;
+  free = refl;
+  tenured = refl;
+  watched = λ e. refl;
+  minors = λ e. refl;
 }
 
-sound-as-open : (here there : Space) (b : Bool) (asked fulls : ℕ) → IsAsOpen b here there → heap_base ≤ here.base → here.base + here.size ≤ 9223372036854775808 → here.size ≤ 67108864 → IsSoundHeap (semi_heap b here there asked fulls)
-sound-as-open here there true asked fulls h low high small = sound-of here there true asked fulls h.tracing.headed h.tracing.laid h.room low high small
-sound-as-open here there false asked fulls h low high small = sound-of here there false asked fulls h.headed h.laid h.room low high small
+sound-of : (here there : Space) (b : Bool) (copied asked fulls : ℕ) → AllByRecursion IsHeaded (cells_seen b here there) → AreLaid here.base (cells_seen b here there) → total_words (cells_seen b here there) ≤ here.size → heap_base ≤ here.base → here.base + here.size ≤ 9223372036854775808 → here.size ≤ 67108864
+    → (eqb here.base first_base || eqb here.base second_base) ≡ true → IsSoundHeap (semi_heap b here there copied asked fulls)
+sound-of here there b copied asked fulls headed laid room low high small half = record {
+  cells = sound-cells here.base (cells_seen b here there) headed laid low (omega arith);
+  free = omega arith;
+  laws = laws-of here there b copied asked fulls laid room half;
+}
+
+sound-as-open : (here there : Space) (b : Bool) (copied asked fulls : ℕ) → IsAsOpen b here there copied → heap_base ≤ here.base → here.base + here.size ≤ 9223372036854775808 → here.size ≤ 67108864 → (eqb here.base first_base || eqb here.base second_base) ≡ true → IsSoundHeap (semi_heap b here there copied asked fulls)
+sound-as-open here there true copied asked fulls h low high small half = sound-of here there true copied asked fulls h.tracing.headed h.tracing.laid h.room low high small half
+sound-as-open here there false copied asked fulls h low high small half = sound-of here there false copied asked fulls h.0.headed h.0.laid h.0.room low high small half
 
 -- whether a collection is open or not
-pub semi-sound : (semi : Inside) → IsSemi semi → IsSoundHeap (semi_of semi).heap
+pub semi-sound : (semi : Inside) → IsSemi semi → IsSoundHeap (semi_of semi)
 semi-sound semi h =
     let bases = bases-high semi h in
-    sound-as-open semi.here semi.there semi.is_open semi.asked semi.fulls h.as_open bases.0 bases.2 h.small
+    sound-as-open semi.here semi.there semi.is_open semi.copied semi.asked semi.fulls h.as_open bases.0 bases.2 h.small (half-in-use semi h)
 
-pub is-closed : (semi : Inside) (v : Semi) → semi_of semi ≡ v → v.heap.is_open ≡ false → semi.is_open ≡ false
-is-closed semi v is closed = ap (λ (s : Semi). s.heap.is_open) is ∙ closed
+-- it has no nursery
+pub semi-halves : (semi : Inside) → (semi_of semi).nursery ≡ 0
+semi-halves semi = refl
 
-pub is-opened : (semi : Inside) (v : Semi) → semi_of semi ≡ v → v.heap.is_open ≡ true → semi.is_open ≡ true
-is-opened semi v is opened = ap (λ (s : Semi). s.heap.is_open) is ∙ opened
+pub is-closed : (semi : Inside) (v : Heap) → semi_of semi ≡ v → v.is_open ≡ false → semi.is_open ≡ false
+is-closed semi v is closed = ap (λ (h : Heap). h.is_open) is ∙ closed
+
+pub is-opened : (semi : Inside) (v : Heap) → semi_of semi ≡ v → v.is_open ≡ true → semi.is_open ≡ true
+is-opened semi v is opened = ap (λ (h : Heap). h.is_open) is ∙ opened
+
+resting : (semi : Inside) → IsSemi semi → semi.is_open ≡ false → AreAtRest semi.here × (semi.copied ≤ total_words semi.here.cells)
+resting semi h closed = let Q : Bool → Type 0 = λ b. IsAsOpen b semi.here semi.there semi.copied in subst Q closed h.as_open
 
 pub at-rest : (semi : Inside) → IsSemi semi → semi.is_open ≡ false → AreAtRest semi.here
-at-rest semi h closed = let Q : Bool → Type 0 = λ b. IsAsOpen b semi.here semi.there in subst Q closed h.as_open
+at-rest semi h closed = (resting semi h closed).0
+
+pub few-copied : (semi : Inside) → IsSemi semi → semi.is_open ≡ false → semi.copied ≤ total_words semi.here.cells
+few-copied semi h closed = (resting semi h closed).1
 
 pub in-motion : (semi : Inside) → IsSemi semi → semi.is_open ≡ true → AreMoving semi.here semi.there
-in-motion semi h opened = let Q : Bool → Type 0 = λ b. IsAsOpen b semi.here semi.there in subst Q opened h.as_open
+in-motion semi h opened = let Q : Bool → Type 0 = λ b. IsAsOpen b semi.here semi.there semi.copied in subst Q opened h.as_open
 
 -- ---- a new cell
 
@@ -75,6 +124,74 @@ rest-push here here' kind count h small some room base size cells =
       laid = subst R (sym base) (subst Q (sym cells) (laid-push here.base here.cells cell.words h.laid (omega arith)));
       room = omega (arith, ap total_words cells, total-append here.cells (cell ∷ []), size);
     }
+
+-- the forwarding list of the last collection stays
+copied-push : (left : List Cell) (at words : ℕ) (cs : List Cell) (c : Cell) → words ≤ total_words cs → 1 ≤ length c.words → copied_moves left at words (layout (cs ++ c ∷ [])) ≡ copied_moves left at words (layout cs)
+copied-push left at words [] c few some = cond-false (leb (length c.words) words) _ _ (lt-leb (length c.words) words (omega arith))
+copied-push left at words (d ∷ cs) c few some = ⊎_elim
+    (λ (hit : leb (length d.words) words ≡ true).
+    let fits = leb-true (length d.words) words hit in
+    cond-true (leb (length d.words) words) _ _ hit
+    ∙ ap (λ ms. record { from = origin left d.start; to = at } ∷ ms) (copied-push left (at + length d.words) (words - length d.words) cs c (omega (arith, few, fits)) some)
+    ∙ sym (cond-true (leb (length d.words) words) _ _ hit))
+    (λ (miss : leb (length d.words) words ≡ false). cond-false (leb (length d.words) words) _ _ miss ∙ sym (cond-false (leb (length d.words) words) _ _ miss))
+    (cases_Bool (leb (length d.words) words))
+
+-- a heap of two halves between collections, by what a request changes
+closed-heap : List Cell → List Move → ℕ → ℕ → ℕ → ℕ → ℕ → ℕ → Heap
+closed-heap cells moves size base young free asked fulls = record {
+  cells = cells;
+  is_open = false;
+  moves = moves;
+  tenured = [];
+  watched = 0;
+  asked = asked;
+  size = size;
+  base = base;
+  nursery = 0;
+  young = young;
+  free = free;
+  minors = 0;
+  fulls = fulls;
+}
+
+same-heap : (cells cells' : List Cell) (moves moves' : List Move) (size size' base base' young young' free free' asked fulls : ℕ) → cells ≡ cells' → moves ≡ moves' → size ≡ size' → base ≡ base' → young ≡ young' → free ≡ free'
+    → closed-heap cells moves size base young free asked fulls ≡ closed-heap cells' moves' size' base' young' free' asked fulls
+same-heap cells cells' moves moves' size size' base base' young young' free free' asked fulls c m s b y f =
+    ap (λ x. closed-heap x moves size base young free asked fulls) c ∙ ap (λ x. closed-heap cells' x size base young free asked fulls) m
+    ∙ ap (λ x. closed-heap cells' moves' x base young free asked fulls) s ∙ ap (λ x. closed-heap cells' moves' size' x young free asked fulls) b
+    ∙ ap (λ x. closed-heap cells' moves' size' base' x free asked fulls) y ∙ ap (λ x. closed-heap cells' moves' size' base' young' x asked fulls) f
+
+free-by : ℕ → ℕ → ℕ → ℕ
+free-by size young total = cond (eqb young 0) (size - total) (min (0 - young) (size - total))
+
+-- a cell is made behind the last one
+pub allotted : (here here' there : Space) (b : Bool) (copied asked fulls kind words start : ℕ) → b ≡ false → copied ≤ total_words here.cells → 1 ≤ words → total_words here.cells + words ≤ here.size → start ≡ here.base + total_words here.cells
+    → here'.base ≡ here.base → here'.size ≡ here.size → here'.cells ≡ here.cells ++ new_cell (here.base + total_words here.cells) kind words ∷ []
+    → Allots (semi_heap b here there copied asked fulls) kind words (Some start) (semi_heap b here' there copied asked fulls)
+unfolding free-by closed-heap
+allotted here here' there true copied asked fulls kind words start closed few some room at base size cells = absurd (cc)
+allotted here here' there false copied asked fulls kind words start closed few some room at base size cells =
+    let old = semi_heap false here there copied asked fulls in
+    let none = lt-leb words 0 (omega arith) in
+    let to : next_start old words ≡ here.base + total_words here.cells = cond-false (leb words 0) (nursery_base + 0) (here.base + (total_words here.cells - 0)) none ∙ (omega arith) in
+    let cell = new_cell (next_start old words) kind words in
+    let long : length cell.words ≡ words = length-new (header_of kind words) words some in
+    let same : here'.cells ≡ here.cells ++ cell ∷ [] = cells ∙ ap (λ n. here.cells ++ new_cell n kind words ∷ []) (sym to) in
+    let young : 0 ≡ cond (leb words 0) (0 + words) 0 = sym (cond-false (leb words 0) (0 + words) 0 none) in
+    let list : copied_moves there.cells here'.base copied (layout here'.cells) ≡ copied_moves there.cells here.base copied (layout here.cells) =
+    ap (λ n. copied_moves there.cells n copied (layout here'.cells)) base ∙ ap (λ cs. copied_moves there.cells here.base copied (layout cs)) same
+    ∙ copied-push there.cells here.base copied here.cells cell few (omega (arith, long, some)) in
+    let free : here'.size - total_words here'.cells ≡ free-by here.size (cond (leb words 0) (0 + words) 0) (total_words (here.cells ++ cell ∷ [])) =
+    ap (λ n. n - total_words here'.cells) size ∙ ap (λ cs. here.size - total_words cs) same ∙ ap (λ n. free-by here.size n (total_words (here.cells ++ cell ∷ []))) young in (
+      omega (arith, room),
+      at ∙ sym to,
+      same-heap here'.cells (here.cells ++ cell ∷ []) _ _ here'.size here.size here'.base here.base 0 (cond (leb words 0) (0 + words) 0) _ _ asked fulls same list size base young free,
+    )
+
+-- a request is refused
+pub refused : (here there : Space) (b : Bool) (copied asked fulls kind words : ℕ) → here.size - total_words (cells_seen b here there) < words → Allots (semi_heap b here there copied asked fulls) kind words None (semi_heap b here there copied words fulls)
+refused here there b copied asked fulls kind words full = (full, refl)
 
 -- ---- a word that is set
 
@@ -148,34 +265,20 @@ rest-replace here here' at v false h can base size cells =
       total,
     )
 
--- the forwarding list stays where cells lie where they lay
-moves-same : (left : List Cell) (a : ℕ) (cs ds : List Cell) → layout cs ≡ layout ds → moves_from a (copies_of left cs) ≡ moves_from a (copies_of left ds)
-moves-same left a [] [] e = refl
-moves-same left a [] (d ∷ ds) e = cc
-moves-same left a (c ∷ cs) [] e = cc
-moves-same left a (c ∷ cs) (d ∷ ds) e =
-    let one : ℕ × ℕ = (c.start, length c.words) in
-    let two : ℕ × ℕ = (d.start, length d.words) in
-    let first : one ≡ two = cc in
-    let start : c.start ≡ d.start = ap (λ (p : ℕ × ℕ). p.0) first in
-    let long : length c.words ≡ length d.words = ap (λ (p : ℕ × ℕ). p.1) first in
-    let rest : layout cs ≡ layout ds = cc in
-    ap (λ n. record { from = origin left n; to = a } ∷ moves_from (a + length c.words) (copies_of left cs)) start
-    ∙ ap (λ n. record { from = origin left d.start; to = a } ∷ moves_from (a + n) (copies_of left cs)) long
-    ∙ ap (λ ms. record { from = origin left d.start; to = a } ∷ ms) (moves-same left (a + length d.words) cs ds rest)
-
 -- nothing but the words of cells changes
-pub words-only : (here here' there : Space) (b : Bool) (asked fulls : ℕ) → b ≡ false → here'.base ≡ here.base → here'.size ≡ here.size → layout here'.cells ≡ layout here.cells → total_words here'.cells ≡ total_words here.cells → HasOtherWords (semi_heap b here there asked fulls) (semi_heap b here' there asked fulls)
-words-only here here' there true asked fulls closed base size lay total = cc
-words-only here here' there false asked fulls closed base size lay total =
+pub words-only : (here here' there : Space) (b : Bool) (copied asked fulls : ℕ) → b ≡ false → here'.base ≡ here.base → here'.size ≡ here.size → layout here'.cells ≡ layout here.cells → total_words here'.cells ≡ total_words here.cells
+    → HasOtherWords (semi_heap b here there copied asked fulls) (semi_heap b here' there copied asked fulls)
+unfolding closed-heap
+words-only here here' there true copied asked fulls closed base size lay total = absurd (cc)
+words-only here here' there false copied asked fulls closed base size lay total =
     let cells = here'.cells in
-    let list : moves there here' ≡ moves there here = ap (λ b. moves_from b (copies_of there.cells cells)) base ∙ moves-same there.cells here.base cells here.cells lay in
+    let list : copied_moves there.cells here'.base copied (layout cells) ≡ copied_moves there.cells here.base copied (layout here.cells) =
+    ap (λ n. copied_moves there.cells n copied (layout cells)) base ∙ ap (λ l. copied_moves there.cells here.base copied l) lay in
+    let free : here'.size - total_words cells ≡ here.size - total_words here.cells = ap (λ n. n - total_words cells) size ∙ ap (λ n. here.size - n) total in
     record {
       same_layout = lay;
-      rest =
-          ap (λ (ms : List Move). record (semi_heap false here' there asked fulls) { moves = ms }) list
-          ∙ ap (λ (n : ℕ). record (semi_heap false here' there asked fulls) { moves = moves there here; size = n; free = n - total_words cells }) size
-          ∙ ap (λ (n : ℕ). record (semi_heap false here there asked fulls) { cells = cells; free = here.size - n }) total;
+      rest = same-heap cells cells _ _ here'.size here.size here'.base here.base 0 0 _ _ asked fulls refl list size base refl free;
+      watched = λ e. refl;
     }
 
 -- ---- a collection begins
@@ -219,12 +322,12 @@ begun-moving here there h t =
       room = omega (arith, h.room, ap total_words (cells-told here there here.cells [] t));
     }
 
-pub opened : (here there : Space) (asked fulls : ℕ) → Traces here there here.cells [] → semi_heap true here there asked fulls ≡ record (semi_heap false here there asked fulls) { is_open = true; moves = [] }
-opened here there asked fulls t =
+pub opened : (here there : Space) (copied asked fulls : ℕ) → Traces here there here.cells [] → semi_heap true here there copied asked fulls ≡ record (semi_heap false here there copied asked fulls) { is_open = true; moves = [] }
+opened here there copied asked fulls t =
     let cells = cells-told here there here.cells [] t in
     let none = copies-told here there here.cells [] t in
-    ap (λ ms. record (semi_heap true here there asked fulls) { moves = ms }) (ap (λ l. moves_from there.base l) none)
-    ∙ ap (λ cs. record (semi_heap false here there asked fulls) { is_open = true; moves = []; cells = cs; free = here.size - total_words cs }) cells
+    ap (λ ms. record (semi_heap true here there copied asked fulls) { moves = ms }) (ap (λ l. moves_from there.base l) none)
+    ∙ ap (λ cs. record (semi_heap false here there copied asked fulls) { is_open = true; moves = []; cells = cs; free = here.size - total_words cs }) cells
 
 -- ---- a root is visited
 
@@ -253,12 +356,14 @@ with_kept-told left kept left' kept' w to keeps is =
     list ∙ ap (λ t. ms ++ record { from = w; to = t } ∷ []) (sym same) ∙ sym (cond-false test ms (ms ++ move ∷ []) off))
     (cases_Bool test)
 
-pub visited : (left kept left' kept' : Space) (w to asked fulls : ℕ) → Keeps left kept left' kept' w → to ≡ forwarded (moves left' kept') w → semi_heap true left' kept' asked fulls ≡ record (semi_heap true left kept asked fulls) { moves = with_kept (moves left kept) w to }
-visited left kept left' kept' w to asked fulls keeps is =
+pub visited : (left kept left' kept' : Space) (w to copied asked fulls : ℕ) → Keeps left kept left' kept' w → to ≡ forwarded (moves left' kept') w → semi_heap true left' kept' copied asked fulls ≡ record (semi_heap true left kept copied asked fulls) { moves = with_kept (moves left kept) w to }
+visited left kept left' kept' w to copied asked fulls keeps is =
     let list = with_kept-told left kept left' kept' w to keeps is in
-    ap (λ ms. record (semi_heap true left' kept' asked fulls) { moves = ms }) list
-    ∙ ap (λ n. record (semi_heap true left' kept' asked fulls) { moves = with_kept (moves left kept) w to; size = n; free = n - total_words (old_cells left' kept') }) keeps.left_size
-    ∙ ap (λ cs. record (semi_heap true left kept asked fulls) { moves = with_kept (moves left kept) w to; cells = cs; free = left.size - total_words cs }) keeps.same_cells
+    let ms = with_kept (moves left kept) w to in
+    ap (λ ms. record (semi_heap true left' kept' copied asked fulls) { moves = ms }) list
+    ∙ ap (λ n. record (semi_heap true left' kept' copied asked fulls) { moves = ms; base = n }) keeps.left_base
+    ∙ ap (λ n. record (semi_heap true left' kept' copied asked fulls) { moves = ms; base = left.base; size = n; free = n - total_words (old_cells left' kept') }) keeps.left_size
+    ∙ ap (λ cs. record (semi_heap true left kept copied asked fulls) { moves = ms; cells = cs; free = left.size - total_words cs }) keeps.same_cells
 
 plain-push : (cs ks : List Cell) (w : ℕ) (b : Bool) → ArePlain cs ks → ArePlain cs (cond b ks (ks ++ record { start = w; words = words_from cs w } ∷ []))
 plain-push cs ks w true h = h
@@ -302,9 +407,9 @@ after-visit left kept left' kept' w (Some to) h keeps l k = record {
   kept_size = keeps.kept_size;
 }
 
-pub visited-semi : (semi : Inside) (left' kept' : Space) → IsSemi semi → semi.is_open ≡ true → IsVisited semi.here semi.there left' kept' → IsSemi (record { here = left'; there = kept'; is_open = semi.is_open; asked = semi.asked; fulls = semi.fulls })
+pub visited-semi : (semi : Inside) (left' kept' : Space) → IsSemi semi → semi.is_open ≡ true → IsVisited semi.here semi.there left' kept' → IsSemi (record { here = left'; there = kept'; is_open = semi.is_open; copied = semi.copied; asked = semi.asked; fulls = semi.fulls })
 visited-semi semi left' kept' h opened after =
-    let P : Bool → Type 0 = λ b. IsAsOpen b left' kept' in
+    let P : Bool → Type 0 = λ b. IsAsOpen b left' kept' semi.copied in
     record {
       bases = ⊎_elim
           (λ (p : (semi.here.base ≡ first_base) × (semi.there.base ≡ second_base)). inl (after.left_base ∙ p.0, after.kept_base ∙ p.1))

@@ -1,5 +1,5 @@
 -- The cells of a heap, seen as a list of starts with their words.
-use Rattle.std.specs.Prelude.{◌≡◌, ℕ, ◌+◌, ◌-◌, ◌*◌, ◌/◌, ◌%◌, ◌^◌, ◌≤◌, Bool, true, false, ◌&&◌, not, nat_lt, nat_le, ◌==◌, if◌then◌else◌, List, [], ◌∷◌, ◌++◌, length, map, replicate, slice_get, slice_set, Option, Some, None, is_some}
+use Rattle.std.specs.Prelude.{◌≡◌, ℕ, ◌+◌, ◌-◌, ◌*◌, ◌/◌, ◌%◌, ◌^◌, ◌≤◌, Bool, true, false, ◌&&◌, not, nat_lt, nat_le, ◌==◌, if◌then◌else◌, List, [], ◌∷◌, length, map, replicate, slice_get, slice_set, Option, Some, None, is_some}
 use Rattle.std.specs.List.{AllByRecursion}
 
 -- a cell: the address of its word 0, and its words. Word 0 is the header
@@ -75,10 +75,6 @@ total_words (cell ∷ cells) = length cell.words + total_words cells
 -- a new cell: its header, and zeros
 abbrev pub new_cell : ℕ → ℕ → ℕ → Cell
 new_cell start kind words = record { start = start; words = header_of kind words ∷ replicate (words - 1) 0 }
-
--- one more cell, wherever it goes in the list
-abbrev pub AddsCell : List Cell → Cell → List Cell → Type 0
-AddsCell old cell new = (front : List Cell) × (back : List Cell) × (old ≡ front ++ back) × (new ≡ front ++ cell ∷ back)
 
 -- a cell's header tells how many words the cell has, beside its kind
 abbrev pub IsHeaded : Cell → Type 0

@@ -1,13 +1,12 @@
 -- The two halves as the collector keeps them: what they show to the machine, between its collections and
 -- in the middle of one, and what their fields keep.
-use Rattle.std.specs.Prelude.{◌≡◌, ℕ, ◌-◌, ◌≤◌, ◌⊎◌, Bool, true, false, List, []}
+use Rattle.std.specs.Prelude.{◌≡◌, ℕ, ◌+◌, ◌-◌, ◌≤◌, ◌⊎◌, nat_le, if◌then◌else◌, Bool, true, false, List, [], ◌∷◌}
 use Rattle.std.specs.List.{AllByRecursion}
-use Rattle.m3_heap.specs.Cells.{Cell, total_words, IsHeaded}
-use Rattle.m3_heap.specs.Heap.{Heap}
+use Rattle.m3_heap.specs.Cells.{Cell, layout, total_words, IsHeaded}
+use Rattle.m3_heap.specs.Heap.{Heap, first_base, second_base}
 use Rattle.m3_heap.specs.Moves.{Move}
-use Rattle.m3_heap.specs.Semi.{Semi, first_base, second_base}
 use Rattle.m3_heap.specs.CollectorSpace.{Space, AreLaid}
-use Rattle.m3_heap.specs.CollectorTracing.{old_cells, copies, moves, IsTracing}
+use Rattle.m3_heap.specs.CollectorTracing.{old_cells, copies, moves, origin, IsTracing}
 use Rattle.m3_heap.specs.CollectorScanning.{ArePlain}
 use Rattle.m3_heap.specs.declared.halves.Halves.TheInside.{Inside}
 
@@ -17,19 +16,29 @@ abbrev pub cells_seen : Bool → Space → Space → List Cell
 cells_seen true here there = old_cells here there
 cells_seen false here there = here.cells
 
-abbrev pub moves_seen : Bool → Space → Space → List Move
-moves_seen true here there = moves here there
-moves_seen false here there = moves there here
+-- the forwarding list of a collection that copied so many words: each copy, by its start and its words, with
+-- the start of the cell that it is of
+abbrev pub copied_moves : List Cell → ℕ → ℕ → List (ℕ × ℕ) → List Move
+copied_moves left at words [] = []
+copied_moves left at words (copy ∷ copies) =
+    if nat_le copy.1 words then record { from = origin left copy.0; to = at } ∷ copied_moves left (at + copy.1) (words - copy.1) copies else []
 
-abbrev pub semi_heap : Bool → Space → Space → ℕ → ℕ → Heap
-semi_heap is_open here there asked fulls = record {
+abbrev pub moves_seen : Bool → Space → Space → ℕ → List Move
+moves_seen true here there copied = moves here there
+moves_seen false here there copied = copied_moves there.cells here.base copied (layout here.cells)
+
+abbrev pub semi_heap : Bool → Space → Space → ℕ → ℕ → ℕ → Heap
+semi_heap is_open here there copied asked fulls = record {
   cells = cells_seen is_open here there;
   is_open = is_open;
-  moves = moves_seen is_open here there;
+  moves = moves_seen is_open here there copied;
   tenured = [];
   watched = 0;
   asked = asked;
   size = here.size;
+  base = here.base;
+  nursery = 0;
+  young = 0;
   free = here.size - total_words (cells_seen is_open here there);
   minors = 0;
   fulls = fulls;
@@ -47,18 +56,16 @@ pub record AreMoving (here there : Space) : Type 0 where
   pub plain : ArePlain (old_cells here there) (copies here there)
   pub room : total_words (old_cells here there) ≤ here.size
 
-abbrev pub IsAsOpen : Bool → Space → Space → Type 0
-IsAsOpen true here there = AreMoving here there
-IsAsOpen false here there = AreAtRest here
+-- and the last collection copied so many words of them
+abbrev pub IsAsOpen : Bool → Space → Space → ℕ → Type 0
+IsAsOpen true here there copied = AreMoving here there
+IsAsOpen false here there copied = AreAtRest here × (copied ≤ total_words here.cells)
 
-abbrev pub semi_of : Inside → Semi
-semi_of semi = record {
-  heap = semi_heap semi.is_open semi.here semi.there semi.asked semi.fulls;
-  base = semi.here.base;
-}
+abbrev pub semi_of : Inside → Heap
+semi_of semi = semi_heap semi.is_open semi.here semi.there semi.copied semi.asked semi.fulls
 
 pub record IsSemi (semi : Inside) : Type 0 where
   pub bases : ((semi.here.base ≡ first_base) × (semi.there.base ≡ second_base)) ⊎ ((semi.here.base ≡ second_base) × (semi.there.base ≡ first_base))
   pub same_size : semi.there.size ≡ semi.here.size
   pub small : semi.here.size ≤ 67108864
-  pub as_open : IsAsOpen semi.is_open semi.here semi.there
+  pub as_open : IsAsOpen semi.is_open semi.here semi.there semi.copied

@@ -1,15 +1,16 @@
 -- Facts on heaps that have at most one proof, so that a store may keep them beside its fields.
-use Rattle.std.specs.Prelude.{ℕ, List, [], ◌∷◌}
+use Rattle.std.specs.Prelude.{ℕ, ◌≡◌, true, List, [], ◌∷◌}
 use Rattle.std.specs.List.{AllByRecursion}
 use Rattle.std.specs.Coded.{×_prop, Unit-prop}
 use Rattle.std.proofs.Props.{props}
 use Rattle.m3_heap.specs.Cells.{Cell, IsHeaded, IsInHeap, AreApart, AllApart, AreSound}
-use Rattle.m3_heap.specs.Heap.{Heap, IsSoundHeap}
-use Rattle.m3_heap.specs.Semi.{Semi, IsIn, IsOfHalves}
+use Rattle.m3_heap.specs.Cells.{layout}
+use Rattle.m3_heap.specs.Heap.{Heap, is_placed, KeepsLaws, IsSoundHeap}
+use Rattle.m3_heap.specs.Semi.{IsOfHalves}
 
-all-prop : (P : Cell → Type 0) → ((cell : Cell) → IsProp (P cell)) → (cells : List Cell) → IsProp (AllByRecursion P cells)
+all-prop : {A : Type 0} (P : A → Type 0) → ((x : A) → IsProp (P x)) → (xs : List A) → IsProp (AllByRecursion P xs)
 all-prop P each [] = Unit-prop
-all-prop P each (cell ∷ cells) = ×_prop (each cell) (all-prop P each cells)
+all-prop P each (x ∷ xs) = ×_prop (each x) (all-prop P each xs)
 
 headed-prop : (cell : Cell) → IsProp (IsHeaded cell)
 headed-prop cell = hlevel props
@@ -17,8 +18,8 @@ headed-prop cell = hlevel props
 in_heap-prop : (cell : Cell) → IsProp (IsInHeap cell)
 in_heap-prop cell = hlevel props
 
-is_in-prop : (base size : ℕ) (cell : Cell) → IsProp (IsIn base size cell)
-is_in-prop base size cell = hlevel props
+placed-prop : (heap : Heap) (cell : ℕ × ℕ) → IsProp (is_placed heap cell ≡ true)
+placed-prop heap cell = hlevel props
 
 apart-prop : (a b : Cell) → IsProp (AreApart a b)
 apart-prop a b = hlevel props
@@ -30,8 +31,11 @@ all_apart-prop (cell ∷ cells) = ×_prop (all-prop (AreApart cell) (apart-prop 
 sound-prop : (cells : List Cell) → IsProp (AreSound cells)
 sound-prop cells = hlevel (props, all-prop IsHeaded headed-prop cells, all-prop IsInHeap in_heap-prop cells, all_apart-prop cells)
 
-pub IsSoundHeap-prop : (heap : Heap) → IsProp (IsSoundHeap heap)
-IsSoundHeap-prop heap = hlevel (props, sound-prop heap.cells)
+laws-prop : (heap : Heap) → IsProp (KeepsLaws heap)
+laws-prop heap = hlevel (props, all-prop (λ (cell : ℕ × ℕ). is_placed heap cell ≡ true) (placed-prop heap) (layout heap.cells), all_apart-prop heap.cells)
 
-pub IsOfHalves-prop : (semi : Semi) → IsProp (IsOfHalves semi)
-IsOfHalves-prop semi = hlevel (props, all-prop (IsIn semi.base semi.heap.size) (is_in-prop semi.base semi.heap.size) semi.heap.cells)
+pub IsSoundHeap-prop : (heap : Heap) → IsProp (IsSoundHeap heap)
+IsSoundHeap-prop heap = hlevel (props, sound-prop heap.cells, laws-prop heap)
+
+pub IsOfHalves-prop : (heap : Heap) → IsProp (IsOfHalves heap)
+IsOfHalves-prop heap = hlevel props

@@ -10,10 +10,9 @@ pub struct Closed<S: Store> {
 }
 
 impl<S: Store> Closed<S> {
-    ghost use Rattle.std.specs.Prelude.{if◌then◌else◌, ◌<◌, ◌≤◌, ◌↔◌, IsNone, IfSome, is_some, List};
-    ghost use Rattle.std.specs.Option.{IfNone};
-    ghost use Rattle.m3_heap.specs.Cells.{cell_word_at, is_writable, with_word, new_cell, AddsCell};
-    ghost use Rattle.m3_heap.specs.Heap.{HasOtherWords, KeepsCounts};
+    ghost use Rattle.std.specs.Prelude.{if◌then◌else◌, ◌≤◌, List};
+    ghost use Rattle.m3_heap.specs.Cells.{cell_word_at, is_writable, with_word};
+    ghost use Rattle.m3_heap.specs.Heap.{Allots, HasOtherWords};
     ghost use Rattle.m3_heap.specs.Shapes.{Shape};
 
     /// The word at an address. None comes exactly outside a cell.
@@ -38,11 +37,7 @@ impl<S: Store> Closed<S> {
     /// A new cell, zero after its header. None comes exactly where the words exceed the free ones.
     pub fn allocate(&mut self, kind: u32, words: u64) -> Option<u64>
         requires { 1 ≤ words }
-        ensures none { IsNone result ↔ ((S.heap self.old.store).free < words) }
-        ensures made { IfSome result (λ start. AddsCell (S.heap self.old.store).cells (new_cell start kind words) (S.heap self.new.store).cells) }
-        ensures refused { IfNone result ((S.heap self.new.store).cells ≡ (S.heap self.old.store).cells) }
-        ensures asked { (S.heap self.new.store).asked ≡ (if is_some result then (S.heap self.old.store).asked else words) }
-        ensures counts { KeepsCounts (S.heap self.old.store) (S.heap self.new.store) }
+        ensures allots { Allots (S.heap self.old.store) kind words result (S.heap self.new.store) }
         ensures fitting { (shapes : List Shape) → S.fits self.old.store shapes → S.fits self.new.store shapes }
     {
         self.store.allocate(kind, words)

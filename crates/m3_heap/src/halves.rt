@@ -1,6 +1,6 @@
 ghost use Rattle.std.specs.Bool.{OnTrue};
 ghost use Rattle.std.specs.Option.{IfNone};
-ghost use Rattle.std.specs.Prelude.{◌≡◌, ℕ, ◌+◌, ◌<◌, ◌≤◌, ◌↔◌, true, false, if◌then◌else◌, IsNone, IfSome, IfOk, IsTrue, List, [], is_some};
+ghost use Rattle.std.specs.Prelude.{◌≡◌, ℕ, ◌+◌, ◌≤◌, ◌↔◌, true, false, if◌then◌else◌, IsNone, IfSome, IfOk, IsTrue, List, []};
 ghost use Rattle.m3_heap.specs.Heap.{counted};
 
 use crate::copying::{forward, trace};
@@ -25,14 +25,15 @@ pub struct Halves {
     here: Half,
     there: Half,
     is_open: bool,
+    copied: u64,
     asked: u64,
     fulls: u64,
 }
 
 impl Model for Halves {
-    ghost use Rattle.m3_heap.specs.Semi.{Semi};
+    ghost use Rattle.m3_heap.specs.Heap.{Heap};
 
-    ghost Value = { Semi };
+    ghost Value = { Heap };
 
     ghost use Rattle.m3_heap.specs.CollectorHalves.{semi_of, IsSemi};
 
@@ -42,13 +43,13 @@ impl Model for Halves {
 }
 
 impl Halves {
-    ghost use Rattle.m3_heap.specs.Semi.{first_base, new_heap};
+    ghost use Rattle.m3_heap.specs.Semi.{new_heap};
 
     /// No cells yet. Both halves have so many words.
     pub fn new(alloc: Global, words: u64) -> Result<Halves, NoMemory>
         requires at_least { 64 ≤ words }
         requires at_most { words ≤ 67108864 }
-        ensures { IfOk result (λ heap. heap ≡ record { heap = new_heap words; base = first_base }) }
+        ensures { IfOk result (λ heap. heap ≡ new_heap words) }
     {
         let here = Half::new(alloc, FIRST_BASE, words as usize)?;
         let there = Half::new(alloc, SECOND_BASE, words as usize)?;
@@ -56,6 +57,7 @@ impl Halves {
             here,
             there,
             is_open: false,
+            copied: 0,
             asked: 0,
             fulls: 0,
         })
@@ -70,23 +72,19 @@ fn one_more(count: u64) -> u64
 }
 
 impl Halves {
-    ghost use Rattle.m3_heap.specs.Cells.{cell_word_at, is_writable, with_word, new_cell, AddsCell};
-    ghost use Rattle.m3_heap.specs.Semi.{UsesOtherHalf, IsOfHalves};
+    ghost use Rattle.m3_heap.specs.Cells.{cell_word_at, is_writable, with_word};
+    ghost use Rattle.m3_heap.specs.Semi.{IsOfHalves};
     ghost use Rattle.m3_heap.specs.Moves.{forwarded, with_kept, kept_words, kept_starts};
     ghost use Rattle.m3_heap.specs.Reach.{IsBadPointer, HasBadPointer};
-    ghost use Rattle.m3_heap.specs.Heap.{IsSoundHeap, HasOtherWords, KeepsCounts, CountsOne, KeepsReached, MovesCells, MakesRoom, CostsTrace};
+    ghost use Rattle.m3_heap.specs.Heap.{IsSoundHeap, SameSizes, Allots, HasOtherWords, CountsOne, ChangesHalves, KeepsReached, MovesCells, MakesRoom, CostsTrace};
 
     /// As `allocate` of a store.
     pub fn allocate(&mut self, kind: u32, words: u64) -> Option<u64>
-        requires closed { self.old.heap.is_open ≡ false }
+        requires closed { self.old.is_open ≡ false }
         requires some { 1 ≤ words }
-        ensures none { IsNone result ↔ (self.old.heap.free < words) }
-        ensures made { IfSome result (λ start. AddsCell self.old.heap.cells (new_cell start kind words) self.new.heap.cells) }
-        ensures refused { IfNone result (self.new.heap.cells ≡ self.old.heap.cells) }
-        ensures asked { self.new.heap.asked ≡ (if is_some result then self.old.heap.asked else words) }
-        ensures counts { KeepsCounts self.old.heap self.new.heap }
-        ensures sound { IsSoundHeap self.new.heap }
-        ensures halves { IsOfHalves self.new }
+        ensures allots { Allots self.old kind words result self.new }
+        ensures sound { IsSoundHeap self.new }
+        ensures of_halves { IsOfHalves self.new }
     {
         if words > self.here.free() {
             self.asked = words;
@@ -99,8 +97,8 @@ impl Halves {
     /// As `load` of a store.
     #[inline]
     pub fn load(&self, at: u64) -> Option<u64>
-        requires closed { self.now.heap.is_open ≡ false }
-        ensures { result ≡ cell_word_at self.now.heap.cells at }
+        requires closed { self.now.is_open ≡ false }
+        ensures { result ≡ cell_word_at self.now.cells at }
     {
         self.here.word(at)
     }
@@ -108,23 +106,23 @@ impl Halves {
     /// As `store` of a store.
     #[inline]
     pub fn store(&mut self, at: u64, word: u64) -> bool
-        requires closed { self.old.heap.is_open ≡ false }
-        ensures value { result ≡ is_writable self.old.heap.cells at }
-        ensures cells { self.new.heap.cells ≡ (if result then with_word self.old.heap.cells at word else self.old.heap.cells) }
-        ensures rest { HasOtherWords self.old.heap self.new.heap }
-        ensures sound { IsSoundHeap self.new.heap }
-        ensures halves { IsOfHalves self.new }
+        requires closed { self.old.is_open ≡ false }
+        ensures value { result ≡ is_writable self.old.cells at }
+        ensures cells { self.new.cells ≡ (if result then with_word self.old.cells at word else self.old.cells) }
+        ensures rest { HasOtherWords self.old self.new }
+        ensures sound { IsSoundHeap self.new }
+        ensures of_halves { IsOfHalves self.new }
     {
         self.here.replace(at, word)
     }
 
     /// As `begin` of a store.
     pub fn begin(&mut self)
-        requires closed { self.old.heap.is_open ≡ false }
-        ensures opened { self.new.heap ≡ record self.old.heap { is_open = true; moves = [] } }
-        ensures tenured { self.old.heap.tenured ≡ [] }
-        ensures sound { IsSoundHeap self.new.heap }
-        ensures halves { IsOfHalves self.new }
+        requires closed { self.old.is_open ≡ false }
+        ensures opened { self.new ≡ record self.old { is_open = true; moves = [] } }
+        ensures tenured { self.old.tenured ≡ [] }
+        ensures sound { IsSoundHeap self.new }
+        ensures of_halves { IsOfHalves self.new }
     {
         self.there.clear();
         self.is_open = true;
@@ -132,14 +130,14 @@ impl Halves {
 
     /// As `visit` of a store.
     pub fn visit<L: Ledger>(&mut self, word: u64, steps: &mut Steps<L>) -> Option<u64>
-        requires open { self.old.heap.is_open ≡ true }
-        ensures none { IsNone result ↔ IsBadPointer self.old.heap.cells word }
-        ensures value { IfSome result (λ to. to ≡ forwarded self.new.heap.moves word) }
-        ensures kept { IfSome result (λ to. self.new.heap ≡ record self.old.heap { moves = with_kept self.old.heap.moves word to }) }
-        ensures refused { IfNone result (self.new.heap ≡ self.old.heap) }
-        ensures cost { steps.new + kept_words self.old.heap.cells self.old.heap.moves ≡ steps.old + 1 + kept_words self.old.heap.cells self.new.heap.moves }
-        ensures sound { IsSoundHeap self.new.heap }
-        ensures halves { IsOfHalves self.new }
+        requires open { self.old.is_open ≡ true }
+        ensures none { IsNone result ↔ IsBadPointer self.old.cells word }
+        ensures value { IfSome result (λ to. to ≡ forwarded self.new.moves word) }
+        ensures kept { IfSome result (λ to. self.new ≡ record self.old { moves = with_kept self.old.moves word to }) }
+        ensures refused { IfNone result (self.new ≡ self.old) }
+        ensures cost { steps.new + kept_words self.old.cells self.old.moves ≡ steps.old + 1 + kept_words self.old.cells self.new.moves }
+        ensures sound { IsSoundHeap self.new }
+        ensures of_halves { IsOfHalves self.new }
     {
         steps.tick();
         forward(&mut self.here, &mut self.there, word, steps)
@@ -147,28 +145,30 @@ impl Halves {
 
     /// As `finish` of a store. Where it answers true, the other half is in use.
     pub fn finish<M: Maps, L: Ledger>(&mut self, maps: &M, steps: &mut Steps<L>) -> bool
-        requires open { self.old.heap.is_open ≡ true }
-        ensures bad { result ≡ false → HasBadPointer (M.shapes maps.now) self.old.heap.cells (kept_starts self.old.heap.moves) }
-        ensures good { IsTrue result → HasBadPointer (M.shapes maps.now) self.old.heap.cells (kept_starts self.old.heap.moves) → ⊥ }
-        ensures reached { OnTrue result (KeepsReached (M.shapes maps.now) self.old.heap self.new.heap) }
-        ensures moved { OnTrue result (MovesCells (M.shapes maps.now) self.old.heap self.new.heap) }
-        ensures room { OnTrue result (MakesRoom self.old.heap self.new.heap) }
-        ensures counted { OnTrue result (CountsOne self.old.heap self.new.heap) }
-        ensures cost { OnTrue result (CostsTrace (M.shapes maps.now) self.old.heap self.new.heap steps.old steps.new) }
-        ensures closed { self.new.heap.is_open ≡ false }
-        ensures asked { self.new.heap.asked ≡ 0 }
-        ensures size { self.new.heap.size ≡ self.old.heap.size }
-        ensures other_half { OnTrue result (UsesOtherHalf self.old self.new) }
-        ensures sound { IsSoundHeap self.new.heap }
-        ensures halves { IsOfHalves self.new }
+        requires open { self.old.is_open ≡ true }
+        ensures bad { result ≡ false → HasBadPointer (M.shapes maps.now) self.old.cells (kept_starts self.old.moves) }
+        ensures good { IsTrue result → HasBadPointer (M.shapes maps.now) self.old.cells (kept_starts self.old.moves) → ⊥ }
+        ensures reached { OnTrue result (KeepsReached (M.shapes maps.now) self.old self.new) }
+        ensures moved { OnTrue result (MovesCells (M.shapes maps.now) self.old self.new) }
+        ensures room { OnTrue result (MakesRoom self.old self.new) }
+        ensures counted { OnTrue result (CountsOne self.old self.new) }
+        ensures halves { OnTrue result (ChangesHalves self.old self.new) }
+        ensures cost { OnTrue result (CostsTrace (M.shapes maps.now) self.old self.new steps.old steps.new) }
+        ensures closed { self.new.is_open ≡ false }
+        ensures asked { self.new.asked ≡ 0 }
+        ensures sizes { SameSizes self.old self.new }
+        ensures sound { IsSoundHeap self.new }
+        ensures of_halves { IsOfHalves self.new }
     {
         let is_traced = trace(&mut self.here, &mut self.there, maps, steps);
         self.is_open = false;
         self.asked = 0;
+        self.copied = 0;
         if !is_traced {
             self.here.clear();
             return false;
         }
+        self.copied = self.there.total();
         mem::swap(&mut self.here, &mut self.there);
         self.fulls = one_more(self.fulls);
         true
@@ -176,8 +176,8 @@ impl Halves {
 
     /// As `free_words` of a store.
     pub fn free_words(&self) -> u64
-        requires closed { self.now.heap.is_open ≡ false }
-        ensures { result ≡ self.now.heap.free }
+        requires closed { self.now.is_open ≡ false }
+        ensures { result ≡ self.now.free }
     {
         self.here.free()
     }

@@ -15,19 +15,19 @@ use std::sync::ledger::Ledger;
 #[derive(Drop)]
 pub struct SemiSpace {
     halves: Halves,
-    pub ghost sound: { IsSoundHeap halves.heap } by { IsSoundHeap-prop halves.heap },
+    pub ghost sound: { IsSoundHeap halves } by { IsSoundHeap-prop halves },
     pub ghost of_halves: { IsOfHalves halves } by { IsOfHalves-prop halves },
 }
 
 impl SemiSpace {
     ghost use Rattle.std.specs.Prelude.{◌≡◌, ◌≤◌, IfOk};
-    ghost use Rattle.m3_heap.specs.Semi.{first_base, new_heap};
+    ghost use Rattle.m3_heap.specs.Semi.{new_heap};
 
     /// A heap without cells. Both halves have so many words, and no more memory is taken from then on.
     pub fn new(alloc: Global, words: u64) -> Result<SemiSpace, NoMemory>
         requires at_least { 64 ≤ words }
         requires at_most { words ≤ 67108864 }
-        ensures { IfOk result (λ heap. heap.halves ≡ record { heap = new_heap words; base = first_base }) }
+        ensures { IfOk result (λ heap. heap.halves ≡ new_heap words) }
     {
         let halves = Halves::new(alloc, words)?;
         Ok(SemiSpace { halves })
@@ -35,15 +35,9 @@ impl SemiSpace {
 }
 
 impl Store for SemiSpace {
-    ghost use Rattle.std.specs.Prelude.{◌≡◌, true, false, IsTrue};
-    ghost use Rattle.std.specs.Bool.{OnTrue};
     ghost use Rattle.std.specs.Coded.{Unit-prop};
-    ghost use Rattle.m3_heap.specs.Semi.{UsesOtherHalf};
-    ghost use Rattle.m3_heap.specs.Moves.{kept_starts};
-    ghost use Rattle.m3_heap.specs.Reach.{HasBadPointer};
-    ghost use Rattle.m3_heap.specs.Heap.{CountsOne, KeepsReached, MovesCells, MakesRoom, CostsTrace};
 
-    ghost heap = { λ s. s.halves.heap };
+    ghost heap = { λ s. s.halves };
 
     ghost fits = { λ _ _. Unit {0} };
 
@@ -77,22 +71,7 @@ impl Store for SemiSpace {
 
     /// Puts the other half in use, where it answers true: every kept cell has a new address, and that half
     /// holds exactly what is reached from the visited words.
-    fn finish<M: Maps, L: Ledger>(&mut self, maps: &M, steps: &mut Steps<L>) -> bool
-        requires open { self.old.halves.heap.is_open ≡ true }
-        requires fitting { Unit {0} }
-        ensures bad { result ≡ false → HasBadPointer (M.shapes maps.now) self.old.halves.heap.cells (kept_starts self.old.halves.heap.moves) }
-        ensures good { IsTrue result → HasBadPointer (M.shapes maps.now) self.old.halves.heap.cells (kept_starts self.old.halves.heap.moves) → ⊥ }
-        ensures reached { OnTrue result (KeepsReached (M.shapes maps.now) self.old.halves.heap self.new.halves.heap) }
-        ensures moved { OnTrue result (MovesCells (M.shapes maps.now) self.old.halves.heap self.new.halves.heap) }
-        ensures room { OnTrue result (MakesRoom self.old.halves.heap self.new.halves.heap) }
-        ensures counted { OnTrue result (CountsOne self.old.halves.heap self.new.halves.heap) }
-        ensures fits { OnTrue result (Unit {0}) }
-        ensures cost { OnTrue result (CostsTrace (M.shapes maps.now) self.old.halves.heap self.new.halves.heap steps.old steps.new) }
-        ensures closed { self.new.halves.heap.is_open ≡ false }
-        ensures asked { self.new.halves.heap.asked ≡ 0 }
-        ensures size { self.new.halves.heap.size ≡ self.old.halves.heap.size }
-        ensures other_half { OnTrue result (UsesOtherHalf self.old.halves self.new.halves) }
-    {
+    fn finish<M: Maps, L: Ledger>(&mut self, maps: &M, steps: &mut Steps<L>) -> bool {
         self.halves.finish(maps, steps)
     }
 

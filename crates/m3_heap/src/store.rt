@@ -1,11 +1,11 @@
-ghost use Rattle.std.specs.Prelude.{◌≡◌, ℕ, ◌+◌, ◌<◌, ◌≤◌, ◌↔◌, Bool, true, false, if◌then◌else◌, IsNone, IfSome, IsTrue, List, [], is_some, unwrap_or};
+ghost use Rattle.std.specs.Prelude.{◌≡◌, ℕ, ◌+◌, ◌≤◌, ◌↔◌, Bool, true, false, if◌then◌else◌, IsNone, IfSome, IsTrue, List, [], unwrap_or};
 ghost use Rattle.std.specs.Bool.{OnTrue};
 ghost use Rattle.std.specs.Option.{IfNone};
-ghost use Rattle.m3_heap.specs.Cells.{cell_word_at, is_writable, with_word, new_cell, AddsCell};
+ghost use Rattle.m3_heap.specs.Cells.{cell_word_at, is_writable, with_word};
 ghost use Rattle.m3_heap.specs.Shapes.{Shape};
 ghost use Rattle.m3_heap.specs.Moves.{staying, forwarded, with_kept, kept_words, kept_starts};
 ghost use Rattle.m3_heap.specs.Reach.{IsBadPointer, HasBadPointer};
-ghost use Rattle.m3_heap.specs.Heap.{Heap, IsSoundHeap, HasOtherWords, KeepsCounts, CountsOne, KeepsReached, MovesCells, MakesRoom, CostsTrace};
+ghost use Rattle.m3_heap.specs.Heap.{Heap, IsSoundHeap, SameSizes, Allots, HasOtherWords, CountsOne, ChangesHalves, KeepsReached, MovesCells, MakesRoom, CostsTrace};
 
 use crate::maps::Maps;
 use crate::steps::Steps;
@@ -26,11 +26,7 @@ pub trait Store {
     fn allocate(&mut self, kind: u32, words: u64) -> Option<u64>
         requires closed { (heap self.old).is_open ≡ false }
         requires some { 1 ≤ words }
-        ensures none { IsNone result ↔ ((heap self.old).free < words) }
-        ensures made { IfSome result (λ start. AddsCell (heap self.old).cells (new_cell start kind words) (heap self.new).cells) }
-        ensures refused { IfNone result ((heap self.new).cells ≡ (heap self.old).cells) }
-        ensures asked { (heap self.new).asked ≡ (if is_some result then (heap self.old).asked else words) }
-        ensures counts { KeepsCounts (heap self.old) (heap self.new) }
+        ensures allots { Allots (heap self.old) kind words result (heap self.new) }
         ensures fitting { (shapes : List Shape) → fits self.old shapes → fits self.new shapes };
 
     /// The word at an address. None comes exactly outside a cell.
@@ -76,11 +72,12 @@ pub trait Store {
         ensures moved { OnTrue result (MovesCells (M.shapes maps.now) (heap self.old) (heap self.new)) }
         ensures room { OnTrue result (MakesRoom (heap self.old) (heap self.new)) }
         ensures counted { OnTrue result (CountsOne (heap self.old) (heap self.new)) }
+        ensures halves { OnTrue result (ChangesHalves (heap self.old) (heap self.new)) }
         ensures fits { OnTrue result (fits self.new (M.shapes maps.now)) }
         ensures cost { OnTrue result (CostsTrace (M.shapes maps.now) (heap self.old) (heap self.new) steps.old steps.new) }
         ensures closed { (heap self.new).is_open ≡ false }
         ensures asked { (heap self.new).asked ≡ 0 }
-        ensures size { (heap self.new).size ≡ (heap self.old).size };
+        ensures sizes { SameSizes (heap self.old) (heap self.new) };
 
     /// How many words a new cell may have now.
     fn free_words(&self) -> u64
@@ -90,7 +87,8 @@ pub trait Store {
     /// A store without cells agrees with every list of shapes.
     ghost empty_fits: { (s : Self) (shapes : List Shape) → (heap s).cells ≡ [] → fits s shapes };
 
-    /// The cells of every store are headed, lie in the heap and are apart, and little enough is free.
+    /// At every moment its cells are headed and lie where heaps lie, little enough is free, and it keeps
+    /// the laws of a store.
     ghost sound: { (s : Self) → IsSoundHeap (heap s) };
 
     /// That a list of shapes agrees has one proof at most, so whoever has a store may keep it beside its fields.

@@ -6,8 +6,8 @@ use std::alloc::{AllocError, Global};
 
 /// Sets a word of the cell that starts at an address.
 pub fn set(heap: &mut SemiSpace, cell: u64, place: u64, word: u64)
-    requires { heap.old.halves.heap.is_open ≡ false }
-    ensures { heap.new.halves.heap.is_open ≡ false }
+    requires { heap.old.halves.is_open ≡ false }
+    ensures { heap.new.halves.is_open ≡ false }
 {
     let _is_set = heap.store(cell.saturating_add(place), word);
 }
@@ -15,8 +15,8 @@ pub fn set(heap: &mut SemiSpace, cell: u64, place: u64, word: u64)
 /// A list of as many links as fit, but no more than so many, numbered from the last one on: the
 /// first link and how many there are.
 pub fn list(heap: &mut SemiSpace, links: u64) -> (u64, u64)
-    requires { heap.old.halves.heap.is_open ≡ false }
-    ensures { heap.new.halves.heap.is_open ≡ false }
+    requires { heap.old.halves.is_open ≡ false }
+    ensures { heap.new.halves.is_open ≡ false }
 {
     let mut first = 0;
     for number in 0..links {
@@ -33,8 +33,8 @@ pub fn list(heap: &mut SemiSpace, links: u64) -> (u64, u64)
 /// A complete binary tree of so many nodes, as far as they fit, each numbered by its place from the
 /// root, level by level: the root and how many nodes there are.
 pub fn tree(alloc: Global, heap: &mut SemiSpace, nodes: u64) -> Result<(u64, u64), AllocError>
-    requires { heap.old.halves.heap.is_open ≡ false }
-    ensures { heap.new.halves.heap.is_open ≡ false }
+    requires { heap.old.halves.is_open ≡ false }
+    ensures { heap.new.halves.is_open ≡ false }
 {
     let mut made = Vec::new(alloc);
     for number in 0..nodes {
@@ -60,8 +60,8 @@ pub fn tree(alloc: Global, heap: &mut SemiSpace, nodes: u64) -> Result<(u64, u64
 /// An array of so many references, each to a cell with its place as its number, as far as they fit:
 /// the array and how many cells there are.
 pub fn array(heap: &mut SemiSpace, size: u64) -> (u64, u64)
-    requires { heap.old.halves.heap.is_open ≡ false }
-    ensures { heap.new.halves.heap.is_open ≡ false }
+    requires { heap.old.halves.is_open ≡ false }
+    ensures { heap.new.halves.is_open ≡ false }
 {
     let Some(array) = heap.allocate(ARRAY, size.saturating_add(2)) else {
         return (0, 0);

@@ -7,8 +7,8 @@ use std::sync::ledger::Ledger;
 /// A whole collection, the roots updated. False says that a root or a pointer of a reached cell
 /// lies where heaps lie and is no cell's start.
 pub fn collect<L: Ledger>(heap: &mut SemiSpace, roots: &mut [u64], steps: &mut Steps<L>) -> bool
-    requires { heap.old.halves.heap.is_open ≡ false }
-    ensures { heap.new.halves.heap.is_open ≡ false }
+    requires { heap.old.halves.is_open ≡ false }
+    ensures { heap.new.halves.is_open ≡ false }
 {
     heap.begin();
     let mut are_cells = true;
@@ -30,8 +30,8 @@ pub fn words_moved<L: Ledger>(
     rounds: u64,
     steps: &mut Steps<L>,
 ) -> u64
-    requires { heap.old.halves.heap.is_open ≡ false }
-    ensures { heap.new.halves.heap.is_open ≡ false }
+    requires { heap.old.halves.is_open ≡ false }
+    ensures { heap.new.halves.is_open ≡ false }
 {
     let mut moved: u64 = 0;
     for _round in 0..rounds {

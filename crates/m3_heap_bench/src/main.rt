@@ -23,7 +23,7 @@ const WORDS: u64 = 1_048_576;
 
 /// An empty heap.
 fn new_heap(alloc: Global) -> io::Result<SemiSpace>
-    ensures { IfOk result (λ heap. heap.halves.heap.is_open ≡ false) }
+    ensures { IfOk result (λ heap. heap.halves.is_open ≡ false) }
 {
     match SemiSpace::new(alloc, WORDS) {
         Ok(heap) => Ok(heap),

@@ -17,19 +17,19 @@ const HERE: u64 = 1 << 60;
 const THERE: u64 = 1 << 61;
 
 fn collect_with<L: Ledger>(heap: &mut SemiSpace, roots: &mut [u64], blank: Blank) -> bool
-    requires closed { heap.old.halves.heap.is_open ≡ false }
+    requires closed { heap.old.halves.is_open ≡ false }
     requires name { blank.name ≡ L.name }
     requires parts { blank.parts ≡ L.parts }
     requires whole { blank.parts ≡ 1 }
-    ensures { heap.new.halves.heap.is_open ≡ false }
+    ensures { heap.new.halves.is_open ≡ false }
 {
     let mut steps = Steps::<L>::new(blank);
     collect(heap, roots, &mut steps)
 }
 
 fn collected(heap: &mut SemiSpace, roots: &mut [u64]) -> bool
-    requires { heap.old.halves.heap.is_open ≡ false }
-    ensures { heap.new.halves.heap.is_open ≡ false }
+    requires { heap.old.halves.is_open ≡ false }
+    ensures { heap.new.halves.is_open ≡ false }
 {
     collect_with::<Brand>(heap, roots, Blank::new(1))
 }
@@ -41,7 +41,7 @@ fn expect<T: PartialEq + Debug + Drop>(rt: &impl Abort, found: T, wanted: T, wha
 
 /// A word of the cell that lies so many words into the second half.
 fn moved(heap: &SemiSpace, cell: u64, place: u64) -> u64
-    requires { heap.now.halves.heap.is_open ≡ false }
+    requires { heap.now.halves.is_open ≡ false }
 {
     let at = THERE.saturating_add(cell).saturating_add(place);
     heap.load(at).unwrap_or(u64::MAX)
@@ -49,8 +49,8 @@ fn moved(heap: &SemiSpace, cell: u64, place: u64) -> u64
 
 /// What a collection of one root leaves: whether it traced all, the root, and the free words.
 fn collect_one(heap: &mut SemiSpace, root: u64) -> (bool, u64, u64)
-    requires { heap.old.halves.heap.is_open ≡ false }
-    ensures { heap.new.halves.heap.is_open ≡ false }
+    requires { heap.old.halves.is_open ≡ false }
+    ensures { heap.new.halves.is_open ≡ false }
 {
     let mut roots = [root];
     let is_traced = collected(heap, &mut roots);
@@ -78,7 +78,7 @@ fn list_moves(rt: &impl Abort, alloc: Global, words: u64, links: u64, free: u64)
 /// How many links, in order from the second half's first word on, lead to the next one and count
 /// down.
 fn links_in_order(heap: &SemiSpace, links: u64) -> u64
-    requires { heap.now.halves.heap.is_open ≡ false }
+    requires { heap.now.halves.is_open ≡ false }
 {
     let mut right: u64 = 0;
     let mut cell: u64 = 0;
@@ -121,7 +121,7 @@ fn node(number: u64, nodes: u64) -> u64 {
 
 /// How many nodes, in order from the second half's first word on, lead to their children.
 fn nodes_in_order(heap: &SemiSpace, nodes: u64) -> u64
-    requires { heap.now.halves.heap.is_open ≡ false }
+    requires { heap.now.halves.is_open ≡ false }
 {
     let mut right: u64 = 0;
     for number in 0..nodes {
@@ -151,7 +151,7 @@ fn a_full_half_in_one_tree(rt: HostRuntime) -> Result<(), Fail> {
 /// How many words of the array at the second half's first word lead to the cells behind it, each
 /// with its place as its number.
 fn numbers_in_order(heap: &SemiSpace, numbers: u64) -> u64
-    requires { heap.now.halves.heap.is_open ≡ false }
+    requires { heap.now.halves.is_open ≡ false }
 {
     let mut right: u64 = 0;
     let mut cell = numbers.saturating_add(2);
@@ -270,7 +270,7 @@ fn address(cell: usize) -> u64 {
 
 /// A heap of these cells, each with its number.
 fn heap_of(alloc: Global, cells: &[(usize, usize)]) -> Result<SemiSpace, Fail>
-    ensures { IfOk result (λ heap. heap.halves.heap.is_open ≡ false) }
+    ensures { IfOk result (λ heap. heap.halves.is_open ≡ false) }
 {
     let mut heap = SemiSpace::new(alloc, 64)?;
     for (i, (left, right)) in cells.iter().enumerate() {
@@ -284,7 +284,7 @@ fn heap_of(alloc: Global, cells: &[(usize, usize)]) -> Result<SemiSpace, Fail>
 
 /// The number of the cell that a word leads to.
 fn number_at(heap: &SemiSpace, word: u64) -> u64
-    requires { heap.now.halves.heap.is_open ≡ false }
+    requires { heap.now.halves.is_open ≡ false }
 {
     if word == 0 {
         NONE as u64
@@ -323,7 +323,7 @@ fn agrees(
 /// How many of so many cells of the second half are cells that were found, each once, and have the
 /// children that they are to have.
 fn right_cells(heap: &SemiSpace, cells: &[(usize, usize)], found: &mut Vec<bool>, kept: u64) -> u64
-    requires { heap.now.halves.heap.is_open ≡ false }
+    requires { heap.now.halves.is_open ≡ false }
 {
     let mut right: u64 = 0;
     for cell in 0..kept {

@@ -4,6 +4,7 @@ use Rattle.std.specs.Option.{option_map_or}
 use Rattle.std.proofs.Common.{refl, sym, ap, subst, ◌∙◌, arith}
 use Rattle.m3_base.specs.declared.outcomes.Entry.{Entry}
 use Rattle.m3_base.specs.declared.outcomes.Outcome.{Outcome}
+use Rattle.m3_base.specs.declared.outcomes.Outcome.TheVariants.{Spent}
 use Rattle.m3_isa.specs.Instructions.{is_point}
 use Rattle.m3_isa.specs.declared.instructions.Instr.{Instr}
 use Rattle.m3_heap.specs.declared.store.Store.{Ghosts}
@@ -14,13 +15,14 @@ use Rattle.m3_run_meaning.specs.declared.progress.Progress.{Progress as Answer}
 use Rattle.m3_run_meaning.specs.declared.progress.Progress.TheVariants as answer
 use Rattle.m3_run_meaning.specs.State.{State, running_thread, outside}
 use Rattle.m3_run_meaning.specs.Points.{Chooses, StopsAtPoint, nobody, trapped, nobody_left, Says_spent, passed, first_entry, later_entries}
-use Rattle.m3_run_meaning.specs.Runs.{turn_limit, At_point, Over, stays, moves, at_point, stops, spent, then_at, starting}
+use Rattle.m3_run_meaning.specs.Runs.{Leads, turn_limit, At_point, Over, stays, moves, at_point, stops, spent, then_at, starting}
 use Rattle.m3_run_loop.specs.Leading.{Track, LeadsTo, Enters, config}
 use Rattle.m3_run_laws.specs.Standing.{AtPoint, AllAtPoints, BeginsAtPoints}
-use Rattle.m3_run_laws.specs.Courses.{SoundTurn, SoundPoint, IsOther}
+use Rattle.m3_run_laws.specs.Courses.{SoundTurn, SoundPoint, IsOther, EndsSoundly}
+use Rattle.m3_run_laws.specs.Stores.{StaysLawful}
 use Rattle.m3_run_laws.proofs.ThreadLists.{of_found}
 use Rattle.m3_run_laws.proofs.Doing.{some-at}
-use Rattle.m3_run_laws.proofs.Moving.{some-limit, chooses_sound, chosen-goes, goes_awake, collected-stays, starts_sound}
+use Rattle.m3_run_laws.proofs.Moving.{some-limit, leads_sound, chooses_sound, chosen-goes, goes_awake, collected-stays, starts_sound}
 use Rattle.m3_run_state.specs.declared.parts.Parts.{Parts}
 use Rattle.m3_run_state.specs.Seen.{state_of, program_of, IsGoing}
 use Rattle.m3_machine.specs.declared.runs.Turn.{Turn}
@@ -159,15 +161,26 @@ at_next p input allowed start schedule entries later output bytes left n e h =
     subst (λ (es : List Entry). At_turn p (followed input allowed start schedule es (output ++ bytes)) left n) (sym e) h
 
 -- at its end
-pub ran_over : {S : Type 0} {g : Ghosts S} (p : Program) (input : List ℕ) (points : ℕ) (start : State) (schedule entries : List Entry) (output bytes : List ℕ) (left : ℕ) (n : Parts S g) (outcome : Outcome)
-    → Turned p (followed input (start.points + points) start schedule entries output) bytes left n (Some outcome) → Ran p input start schedule points (output ++ bytes) (state_of n) outcome
-ran_over p input points start schedule entries output bytes left n outcome h = record { later = h.0; leads = h.1 }
+over-store : (p : Program) (allowed : ℕ) (from s : State) (outcome : Outcome) → EndsSoundly p allowed from s outcome → StaysLawful from.heap s.heap
+over-store p allowed from s Spent st = st.store
+over-store p allowed from s _ st = st.store
 
-pub ran_out : {S : Type 0} {g : Ghosts S} (p : Program) (input : List ℕ) (points : ℕ) (start : State) (schedule entries : List Entry) (output : List ℕ) (left : ℕ) (n : Parts S g) (outcome : Outcome)
+pub store_of : (p : Program) (input : List ℕ) (points : ℕ) (start : State) (schedule entries later : List Entry) (output bytes : List ℕ) (s : State) (outcome : Outcome) → IsCourse p start (followed input (start.points + points) start schedule entries output)
+    → Leads p input (start.points + points) (starting start schedule) (config (Over s outcome) later bytes) → StaysLawful start.heap s.heap
+store_of p input points start schedule entries later output bytes s outcome known leads =
+    over-store p (start.points + points) start s outcome (leads_sound p input (start.points + points) start (starting start schedule) (config (Over s outcome) later bytes) (omega (arith, known.small)) known.begins known.sound leads)
+
+pub ran_over : {S : Type 0} {g : Ghosts S} (p : Program) (input : List ℕ) (points : ℕ) (start : State) (schedule entries : List Entry) (output bytes : List ℕ) (left : ℕ) (n : Parts S g) (outcome : Outcome) → IsCourse p start (followed input (start.points + points) start schedule entries output)
+    → Turned p (followed input (start.points + points) start schedule entries output) bytes left n (Some outcome) → Ran p input start schedule points (output ++ bytes) (state_of n) outcome
+ran_over p input points start schedule entries output bytes left n outcome known h =
+    record { later = h.0; leads = h.1; store = store_of p input points start schedule entries h.0 output (output ++ bytes) (state_of n) outcome known h.1 }
+
+pub ran_out : {S : Type 0} {g : Ghosts S} (p : Program) (input : List ℕ) (points : ℕ) (start : State) (schedule entries : List Entry) (output : List ℕ) (left : ℕ) (n : Parts S g) (outcome : Outcome) → IsCourse p start (followed input (start.points + points) start schedule entries output)
     → left ≡ 0 → At_turn p (followed input (start.points + points) start schedule entries output) left n → Says_spent p (state_of n) outcome → Ran p input start schedule points (output ++ []) (state_of n) outcome
-ran_out p input points start schedule entries output left n outcome none h says =
+ran_out p input points start schedule entries output left n outcome known none h says =
     let d = config (At_point (state_of n)) entries output in
-    record { later = entries; leads = moves (starting start schedule) d (then_at d (Over (state_of n) outcome) []) h.leads (spent (state_of n) d outcome refl (omega (arith, none, h.points)) says) }
+    let leads = moves (starting start schedule) d (then_at d (Over (state_of n) outcome) []) h.leads (spent (state_of n) d outcome refl (omega (arith, none, h.points)) says) in
+    record { later = entries; leads = leads; store = store_of p input points start schedule entries entries output (output ++ []) (state_of n) outcome known leads }
 
 -- a run whose points are used up may go on
 pub ready_again : {S : Type 0} {g : Ghosts S} (m n : Parts S g) (schedule entries : List Entry) (points left : ℕ) (output : List ℕ)

@@ -13,6 +13,7 @@ use Rattle.m3_run_meaning.specs.Runs.{Begins, At_point, Over, Leads, starting}
 use Rattle.m3_run_loop.specs.Leading.{Track, LeadsTo, config}
 use Rattle.m3_run_laws.specs.Courses.{IsOther}
 use Rattle.m3_run_laws.specs.Standing.{AllAtPoints}
+use Rattle.m3_run_laws.specs.Stores.{IsLawful, StaysLawful}
 use Rattle.m3_run_state.specs.declared.parts.Parts.{Parts}
 use Rattle.m3_run_state.specs.Seen.{state_of, program_of, IsGoing}
 
@@ -44,13 +45,17 @@ pub record IsReady {S : Type 0} {g : Ghosts S} (m : Parts S g) : Type 0 where
   pub made : m.made ≤ (state_of m).points
   pub going : IsGoing m
 
--- a run from a state on, by a schedule and with so many points more, that put these bytes and ended
+-- a run from a state on, by a schedule and with so many points more, that put these bytes and ended; a store that
+-- keeps its laws still does
 pub record Ran (p : Program) (input : List ℕ) (from : State) (schedule : List Entry) (points : ℕ) (bytes : List ℕ) (to : State) (outcome : Outcome) : Type 0 where
   pub later : List Entry
   pub leads : Leads p input (from.points + points) (starting from schedule) (config (Over to outcome) later bytes)
+  pub store : StaysLawful from.heap to.heap
 
--- a run of a program from its start, over a heap and so many threads with stacks of so many words
+-- a run of a program from its start, over a heap that keeps the laws of a store and so many threads with stacks of
+-- so many words. So does the heap that it leaves.
 pub record RunOf (p : Program) (heap : Heap) (threads stack points : ℕ) (schedule : List Entry) (input bytes : List ℕ) (to : State) (outcome : Outcome) : Type 0 where
   pub start : State
   pub begins : Begins p heap threads stack start
+  pub lawful : IsLawful heap
   pub ran : Ran p input start schedule points bytes to outcome

@@ -1,5 +1,5 @@
 -- What a shelf tells of its files, and what a call leaves of them and of the bytes that it was given.
-use Rattle.std.specs.Prelude.{◌≡◌, ◌≢◌, ℕ, ◌<◌, ◌≤◌, ◌⊎◌, List, [], ◌++◌, length, take, Option, None, Some, IfSome, IsSomeAnd, MatchOption, Result, OnOk, IsErrOf}
+use Rattle.std.specs.Prelude.{◌≡◌, ◌≢◌, ℕ, ◌+◌, ◌<◌, ◌≤◌, ◌⊎◌, List, [], ◌++◌, length, take, Option, None, Some, IfSome, IsSomeAnd, MatchOption, Result, OnOk, IsErrOf}
 use Rattle.std.specs.Ordering.{nat_cmp}
 use Rattle.std.specs.Cmp.Lexicographic.{slice_cmp}
 use Rattle.std.specs.FinMap.{FinMap, get, from_entries}
@@ -13,6 +13,11 @@ Files = FinMap (slice_cmp nat_cmp) (List ℕ)
 -- one list of bytes is a front of another
 abbrev pub IsFront : List ℕ → List ℕ → Type 0
 IsFront front bytes = (rest : List ℕ) × (bytes ≡ front ++ rest)
+
+-- what a fault leaves of the bytes that a sink took and a piece behind them: a front, and of the bytes at least those
+-- that didn't wait
+abbrev pub LeavesAtFault : ℕ → List ℕ → List ℕ → List ℕ → Type 0
+LeavesAtFault waiting before piece after = IsFront after (before ++ piece) × (length before ≤ length after + waiting)
 
 -- `after` is `before` and at most `cap` bytes more
 abbrev pub GrowsWithin : ℕ → List ℕ → List ℕ → Type 0

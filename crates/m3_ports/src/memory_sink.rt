@@ -1,7 +1,7 @@
 ghost use Rattle.std.specs.Prelude.{◌≡◌, ◌≤◌, ◌++◌, ℕ, List, [], ◌∷◌, Some, IfOk, OnOk, OnErr};
-ghost use Rattle.std.specs.Prelude.{IfSome, IsErr, ◌↔◌, is_some};
+ghost use Rattle.std.specs.Prelude.{IfSome, IsErr, ◌↔◌, ◌+◌, is_some, length};
 ghost use Rattle.m3_ports.specs.Counts.{Rose, raised};
-ghost use Rattle.m3_ports.specs.Files.{IsFront};
+ghost use Rattle.m3_ports.specs.Files.{LeavesAtFault};
 ghost use Rattle.m3_ports.specs.Memory.{PutFails};
 
 use crate::sinks::{Sink, SinkFailed};
@@ -74,6 +74,8 @@ impl MemSink {
 impl Sink for MemSink {
     ghost taken = { λ s. Some s.taken };
 
+    ghost waiting = { λ _. 0 };
+
     ghost faults = { λ s. s.faults };
 
     fn put(&mut self, piece: &[u8]) -> Result<(), SinkFailed>
@@ -88,9 +90,11 @@ impl Sink for MemSink {
         ensures kept { OnOk result (self.new.faults ≡ self.old.faults) }
         ensures ok { OnOk result (IfSome (Some self.old.taken)
             (λ bytes. Some self.new.taken ≡ Some (bytes ++ piece.now))) }
+        ensures waits { OnOk result (0 ≤ 0 + length piece.now) }
         ensures failed { OnErr result (Rose self.old.faults self.new.faults
-            × IfSome (Some self.old.taken) (λ bytes. (part : List ℕ) × IsFront part piece.now
-            × (Some self.new.taken ≡ Some (bytes ++ part)))) }
+            × IfSome (Some self.old.taken) (λ bytes. (all : List ℕ)
+            × LeavesAtFault 0 bytes piece.now all
+            × (Some self.new.taken ≡ Some all))) }
     {
         self.puts = self.puts.saturating_add(1);
         let fails = self.failing.contains(&self.puts);

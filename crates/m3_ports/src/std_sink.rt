@@ -57,6 +57,8 @@ fn prints_whole<P: Print>(to: &P, bytes: &[u8]) -> bool {
 impl<P: Print> Sink for StdSink<P> {
     ghost taken = { λ _. None };
 
+    ghost waiting = { λ _. 0 };
+
     ghost faults = { λ s. s };
 
     fn put(&mut self, piece: &[u8]) -> Result<(), SinkFailed> {

@@ -15,7 +15,7 @@ use Rattle.m3_heap.specs.Cells.{Cell, IsInHeap}
 use Rattle.m3_heap.specs.Shapes.{Shape}
 use Rattle.m3_heap.specs.Moves.{Move, kept_starts, staying}
 use Rattle.m3_heap.specs.Reach.{IsBadPointer, HasBadPointer}
-use Rattle.m3_heap.specs.Heap.{Heap, KeepsReached, MovesCells, MakesRoom, CountsOne}
+use Rattle.m3_heap.specs.Heap.{Heap, KeepsLaws, SameSizes, KeepsReached, MovesCells, MakesRoom, CountsOne, ChangesHalves}
 use Rattle.m3_threads.specs.declared.status.Thread.{Thread}
 use Rattle.m3_threads.specs.All.{Everyone, thread_named, base_of, words_of}
 use Rattle.m3_threads.specs.Going.{of_thread}
@@ -239,7 +239,7 @@ visited_globals : (p : Program) → IsGood p → (old : Parts) (now : Everyone) 
 visited_globals p good old now globals moves count v =
     visits_forward old.heap.cells p.globals.pointers old.globals v.middle globals moves (globals_once p good) (λ n h. (let lt = globals_within p good n h in omega arith)) v.globals_visited
 
-visited_grew : (p : Program) → IsGood p → (old : Parts) (now : Everyone) (globals : List ℕ) (moves : List Move) → length old.globals ≡ p.globals.words → Visited p old now globals moves → Grew (staying old.heap.tenured) moves
+pub visited_grew : (p : Program) → IsGood p → (old : Parts) (now : Everyone) (globals : List ℕ) (moves : List Move) → length old.globals ≡ p.globals.words → Visited p old now globals moves → Grew (staying old.heap.tenured) moves
 visited_grew p good old now globals moves count v =
     let f = visited_globals p good old now globals moves count v in
     grew_twice (staying old.heap.tenured) v.middle moves (grew_if (staying old.heap.tenured) v.middle v.threads.gathered.grew) f.grew
@@ -347,9 +347,11 @@ pub record Finishes (shapes : List Shape) (old new : Heap) : Type 0 where
   pub moved : MovesCells shapes old new
   pub room : MakesRoom old new
   pub counted : CountsOne old new
+  pub halves : ChangesHalves old new
   pub closed : new.is_open ≡ false
   pub asked : new.asked ≡ 0
-  pub size : new.size ≡ old.size
+  pub sizes : SameSizes old new
+  pub laws : KeepsLaws new
 
 moves_globals : (p : Program) → IsGood p → (old : Parts) (now : Everyone) (globals : List ℕ) (moves last : List Move) → length old.globals ≡ p.globals.words → Visited p old now globals moves → Grew moves last → MovesGlobals p last old.globals globals
 moves_globals p good old now globals moves last count v grew =
@@ -382,9 +384,11 @@ collected p good old now last globals moves heap count high v done threads =
       globals = moves_globals p good old now globals moves heap.moves count v on;
       closed = done.closed;
       asked = done.asked;
-      size = done.size;
+      sizes = record { size = done.sizes.size; nursery = done.sizes.nursery };
+      halves = record { base = done.halves.base; young = done.halves.young };
       counted = done.counted;
       room = done.room;
+      laws = done.laws;
     }
 
 -- each derived word is as far from its bases as before
@@ -498,9 +502,12 @@ middle_goes p good old now globals moves last count v on =
 pub visited_stack : (p : Program) (old : Parts) (now : Everyone) (globals : List ℕ) (moves : List Move) → Visited p old now globals moves → now.stack ≡ old.all.stack
 visited_stack p old now globals moves v = ap (λ (all : Everyone). all.stack) v.threads.gathered.alike.rest
 
-pub finishes : (shapes : List Shape) (old h3 new : Heap) → h3 ≡ opened old h3.moves → KeepsReached shapes h3 new → MovesCells shapes h3 new → MakesRoom h3 new → CountsOne h3 new → new.is_open ≡ false → new.asked ≡ 0 → new.size ≡ h3.size → Finishes shapes (opened old h3.moves) new
-finishes shapes old h3 new e reached moved room counted closed asked size =
-    subst (λ (h : Heap). Finishes shapes h new) e (record { reached = reached; moved = moved; room = room; counted = counted; closed = closed; asked = asked; size = size })
+pub finishes : (shapes : List Shape) (old h3 new : Heap) → h3 ≡ opened old h3.moves → KeepsReached shapes h3 new → MovesCells shapes h3 new → MakesRoom h3 new → CountsOne h3 new → ChangesHalves h3 new → new.is_open ≡ false → new.asked ≡ 0 → SameSizes h3 new → KeepsLaws new → Finishes shapes (opened old h3.moves) new
+finishes shapes old h3 new e reached moved room counted halves closed asked sizes laws =
+    subst (λ (h : Heap). Finishes shapes h new) e (record { reached = reached; moved = moved; room = room; counted = counted; halves = halves; closed = closed; asked = asked; sizes = sizes; laws = laws })
+
+pub sizes_on : (old h3 new : Heap) → h3 ≡ opened old h3.moves → SameSizes h3 new → SameSizes old new
+sizes_on old h3 new e same = record { size = same.size ∙ ap (λ (h : Heap). h.size) e; nursery = same.nursery ∙ ap (λ (h : Heap). h.nursery) e }
 
 pub finely : (shapes : List Shape) (old h3 : Heap) → h3 ≡ opened old h3.moves → (HasBadPointer shapes h3.cells (kept_starts h3.moves) → ⊥) → HasBadPointer shapes old.cells (kept_starts h3.moves) → ⊥
 finely shapes old h3 e fine bad =

@@ -16,6 +16,7 @@ pub mod OnceLemmas
 pub mod PartLemmas
 pub mod ReachLemmas
 pub mod RowActLemmas
+pub mod StepCounts
 pub mod StepLemmas
 pub mod ThreadLemmas
 pub mod ThreadSteps

@@ -117,6 +117,16 @@ next_of p cells first gathered now start moves last n u all done at =
     let many = all.all in
     next_gathered p cells start moves last all.walks first gathered now n all.n u all.gathered done (omega arith) at
 
+-- its frames are listed
+pub walk_within : (p : Program) (cells : List Cell) (first gathered now : Everyone) (start moves last : List Move) (n : ℕ) (u : Thread) → (all : AllGathered p cells first gathered start moves) → Mended p last all.walks first gathered now n → slice_get now.threads n ≡ Some u → n < length all.walks
+walk_within p cells first gathered now start moves last n u all done at =
+    let lt = slice_get_within now.threads n u at in
+    let a = done.alike.count in
+    let b = all.gathered.alike.count in
+    let many = all.all in
+    let count = all.gathered.count in
+    omega arith
+
 -- all of them, where none is left
 pub none_unmended : (p : Program) (cells : List Cell) (first gathered now : Everyone) (start moves last : List Move) (n : ℕ) → (all : AllGathered p cells first gathered start moves) → Mended p last all.walks first gathered now n → length now.threads ≤ n → MovesThreads p last all.walks first now
 none_unmended p cells first gathered now start moves last n all done le =

@@ -65,7 +65,7 @@ take_none : (n : ℕ) → take {A = Entry} n [] ≡ []
 take_none zero = refl
 take_none (suc n) = refl
 
-take_parts : (half count : ℕ) (es : List Entry) → half ≤ count → take count es ≡ take half es ++ take (count - half) (drop half es)
+pub take_parts : (half count : ℕ) (es : List Entry) → half ≤ count → take count es ≡ take half es ++ take (count - half) (drop half es)
 take_parts zero count es h = let same : count ≡ count - 0 = omega arith in ap (λ (n : ℕ). take n es) same
 take_parts (suc half) zero es h = absurd (omega arith)
 take_parts (suc half) (suc count) [] h = sym (take_none (suc count - suc half))

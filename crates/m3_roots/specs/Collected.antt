@@ -6,7 +6,7 @@ use Rattle.m3_tables.specs.Numbers.{has}
 use Rattle.m3_heap.specs.Shapes.{Shape}
 use Rattle.m3_heap.specs.Moves.{Move, AreOneToOne, is_kept, forwarded, moved_cells}
 use Rattle.m3_heap.specs.Reach.{IsReachable, IsBadPointer, HasBadPointer}
-use Rattle.m3_heap.specs.Heap.{Heap, CountsOne, MakesRoom}
+use Rattle.m3_heap.specs.Heap.{Heap, KeepsLaws, SameSizes, CountsOne, ChangesHalves, MakesRoom}
 use Rattle.m3_threads.specs.declared.status.Thread.{Thread}
 use Rattle.m3_threads.specs.All.{Everyone, base_of, words_of}
 use Rattle.m3_image_sections.specs.Parts.{Program}
@@ -83,7 +83,8 @@ MovesGlobals p moves old new =
 
 -- The store's forwarding list, which its heap has after the collection, is one to one, and its old starts are exactly
 -- the cells that are reached from the roots. Each of these cells has the words that it had, each pointer forwarded,
--- and no other is there. Nothing is changed but words.
+-- and no other is there. Nothing is changed but words. They lie as the laws of a store say it, after a full collection
+-- in the other half; so what is free then is what they leave of it.
 pub record Collected (p : Program) (old new : Parts) : Type 0 where
   pub walks : List (List Frame)
   pub framed : AllFramed p old.all walks
@@ -95,9 +96,11 @@ pub record Collected (p : Program) (old new : Parts) : Type 0 where
   pub globals : MovesGlobals p new.heap.moves old.globals new.globals
   pub closed : new.heap.is_open ≡ false
   pub asked : new.heap.asked ≡ 0
-  pub size : new.heap.size ≡ old.heap.size
+  pub sizes : SameSizes old.heap new.heap
+  pub halves : ChangesHalves old.heap new.heap
   pub counted : CountsOne old.heap new.heap
   pub room : MakesRoom old.heap new.heap
+  pub laws : KeepsLaws new.heap
 
 -- ---- what stops a collection: trap 9
 

@@ -12,3 +12,4 @@ pub mod TakingApart
 pub mod ThreadWords
 pub mod ThreadsGathered
 pub mod Visiting
+pub mod Steps

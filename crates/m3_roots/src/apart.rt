@@ -1,8 +1,9 @@
 //! The derived words of all frames of a thread, taken apart and put together again.
-ghost use Rattle.std.specs.Prelude.{◌++◌};
+ghost use Rattle.std.specs.Prelude.{◌≤◌, ◌+◌, ◌++◌};
 ghost use Rattle.m3_image_decoded.specs.Ready.{image_of};
 ghost use Rattle.m3_roots.specs.RowMeaning.{HaveRows, derived_words};
 ghost use Rattle.m3_roots.specs.TakingApart.{apart, together, Leaves};
+ghost use Rattle.m3_roots.specs.Steps.{derived_listed};
 
 use crate::bases::{put_row_together, take_row_apart};
 use crate::walk::row_of;
@@ -20,9 +21,11 @@ pub fn take_apart<L: Ledger>(
     stack: &mut [u64],
     steps: &mut Steps<L>,
 ) -> bool
-    ensures { HaveRows (image_of image.now).program frames.now
+    ensures leaves { HaveRows (image_of image.now).program frames.now
         → Leaves result (apart (derived_words (image_of image.now).program frames.now)
         (r.old ++ stack.old)) (r.new ++ stack.new) }
+    ensures cost { HaveRows (image_of image.now).program frames.now → steps.new ≤ steps.old
+        + derived_listed (derived_words (image_of image.now).program frames.now) }
 {
     for frame in frames {
         let Some(row) = row_of(image, frame) else {
@@ -43,9 +46,11 @@ pub fn put_together<L: Ledger>(
     stack: &mut [u64],
     steps: &mut Steps<L>,
 ) -> bool
-    ensures { HaveRows (image_of image.now).program frames.now
+    ensures leaves { HaveRows (image_of image.now).program frames.now
         → Leaves result (together (derived_words (image_of image.now).program frames.now)
         (r.old ++ stack.old)) (r.new ++ stack.new) }
+    ensures cost { HaveRows (image_of image.now).program frames.now → steps.new ≤ steps.old
+        + derived_listed (derived_words (image_of image.now).program frames.now) }
 {
     let mut k = frames.len();
     while k > 0 {

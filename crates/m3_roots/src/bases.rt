@@ -1,10 +1,11 @@
 //! Derived words of one frame, taken apart and put together again.
-ghost use Rattle.std.specs.Prelude.{◌≡◌, ◌++◌, length, take, drop};
+ghost use Rattle.std.specs.Prelude.{◌≡◌, ◌≤◌, ◌+◌, ◌++◌, length, take, drop};
 ghost use Rattle.std.specs.Option.{option_map};
 ghost use Rattle.m3_tables.specs.Views.{numbers_of, bases_of, entry_of, entries_of};
 ghost use Rattle.m3_tables.specs.Tables.{derived_in};
 ghost use Rattle.m3_roots.specs.ThreadWords.{places_from, derived_at, derived_from, way_at, sum_at};
-ghost use Rattle.m3_roots.specs.ThreadWords.{bases_by_way};
+ghost use Rattle.m3_roots.specs.ThreadWords.{bases_by_way, base_places};
+ghost use Rattle.m3_roots.specs.Steps.{derived_listed};
 ghost use Rattle.m3_roots.specs.TakingApart.{apart_at, apart, together_at, together, Leaves};
 
 use crate::places::{set_word, word_at};
@@ -20,7 +21,9 @@ fn sum_of<L: Ledger>(
     places: Numbers<'_>,
     steps: &mut Steps<L>,
 ) -> u64
-    ensures { result ≡ sum_at (r.now ++ stack.now) (places_from first (numbers_of places.entry)) }
+    ensures sum { result ≡ sum_at (r.now ++ stack.now)
+        (places_from first (numbers_of places.entry)) }
+    ensures cost { steps.new ≡ steps.old + length (numbers_of places.entry) }
 {
     let mut sum: u64 = 0;
     for place in places {
@@ -64,8 +67,10 @@ fn bases_of<L: Ledger>(
     entry: &Derivation<'_>,
     steps: &mut Steps<L>,
 ) -> Option<u64>
-    ensures { result ≡ option_map (bases_by_way (r.now ++ stack.now) first)
+    ensures sum { result ≡ option_map (bases_by_way (r.now ++ stack.now) first)
         (way_at (r.now ++ stack.now) (derived_at first (entry_of entry.now))) }
+    ensures cost { steps.new ≤ steps.old
+        + length (base_places (derived_at first (entry_of entry.now))) }
 {
     let way = way_of(r, stack, first, entry)?;
     let added = sum_of(r, stack, first, way.added, steps);
@@ -82,9 +87,11 @@ fn subtract<L: Ledger>(
     stack: &mut [u64],
     steps: &mut Steps<L>,
 ) -> bool
-    ensures { Leaves result
+    ensures leaves { Leaves result
         (apart_at (derived_at first (entry_of entry.now)) (r.old ++ stack.old))
         (r.new ++ stack.new) }
+    ensures cost { steps.new ≤ steps.old
+        + length (base_places (derived_at first (entry_of entry.now))) }
 {
     let Some(bases) = bases_of(r, stack, first, entry, steps) else {
         return false;
@@ -103,9 +110,11 @@ fn add<L: Ledger>(
     stack: &mut [u64],
     steps: &mut Steps<L>,
 ) -> bool
-    ensures { Leaves result
+    ensures leaves { Leaves result
         (together_at (derived_at first (entry_of entry.now)) (r.old ++ stack.old))
         (r.new ++ stack.new) }
+    ensures cost { steps.new ≤ steps.old
+        + length (base_places (derived_at first (entry_of entry.now))) }
 {
     let Some(bases) = bases_of(r, stack, first, entry, steps) else {
         return false;
@@ -124,9 +133,10 @@ pub fn take_row_apart<L: Ledger>(
     stack: &mut [u64],
     steps: &mut Steps<L>,
 ) -> bool
-    ensures { Leaves result
+    ensures leaves { Leaves result
         (apart (derived_from first (derived_in row.now)) (r.old ++ stack.old))
         (r.new ++ stack.new) }
+    ensures cost { steps.new ≤ steps.old + derived_listed (derived_from first (derived_in row.now)) }
 {
     for entry in row.derivations() {
         if !subtract(first, &entry, r, stack, steps) {
@@ -165,9 +175,10 @@ fn put_one_together<L: Ledger>(
     stack: &mut [u64],
     steps: &mut Steps<L>,
 ) -> bool
-    ensures { Leaves result
+    ensures leaves { Leaves result
         (together (derived_from first (take 1 (entries_of entries.entry))) (r.old ++ stack.old))
         (r.new ++ stack.new) }
+    ensures cost { steps.new ≤ steps.old + derived_listed (derived_from first (take 1 (entries_of entries.entry))) }
 {
     let mut entries = entries;
     match entries.next() {
@@ -186,9 +197,10 @@ fn put_many_together<L: Ledger>(
     stack: &mut [u64],
     steps: &mut Steps<L>,
 ) -> bool
-    ensures { Leaves result
+    ensures leaves { Leaves result
         (together (derived_from first (take count (entries_of entries.entry))) (r.old ++ stack.old))
         (r.new ++ stack.new) }
+    ensures cost { steps.new ≤ steps.old + derived_listed (derived_from first (take count (entries_of entries.entry))) }
 {
     if count == 0 {
         return true;
@@ -212,9 +224,10 @@ pub fn put_row_together<L: Ledger>(
     stack: &mut [u64],
     steps: &mut Steps<L>,
 ) -> bool
-    ensures { Leaves result
+    ensures leaves { Leaves result
         (together (derived_from first (derived_in row.now)) (r.old ++ stack.old))
         (r.new ++ stack.new) }
+    ensures cost { steps.new ≤ steps.old + derived_listed (derived_from first (derived_in row.now)) }
 {
     put_many_together(row.derivations(), count_of(row), first, r, stack, steps)
 }

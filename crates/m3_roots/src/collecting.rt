@@ -3,7 +3,8 @@ ghost use Rattle.std.specs.Prelude.{◌≡◌, ◌≤◌, ◌+◌, ℕ, true, fa
 ghost use Rattle.std.specs.Prelude.{IfNone, IsSome, Some};
 ghost use Rattle.std.specs.Bool.{OnTrue, OnFalse};
 ghost use Rattle.m3_heap.specs.Cells.{Cell};
-ghost use Rattle.m3_heap.specs.Moves.{Move};
+ghost use Rattle.m3_heap.specs.Moves.{Move, staying};
+ghost use Rattle.m3_heap.specs.Heap.{SameSizes};
 ghost use Rattle.m3_heap.specs.Shapes.{Shape};
 ghost use Rattle.m3_threads.specs.declared.status.Thread.{Thread};
 ghost use Rattle.m3_threads.specs.All.{Everyone, thread_named, words_of};
@@ -14,11 +15,15 @@ ghost use Rattle.m3_run_frames.specs.declared.frame.Frame.{Frame as AFrame};
 ghost use Rattle.m3_roots.specs.RoomSizes.{IsRoomFor};
 ghost use Rattle.m3_roots.specs.Visiting.{KeepsHeap};
 ghost use Rattle.m3_roots.specs.Gathering.{Gathers, GoesOn};
-ghost use Rattle.m3_roots.specs.Collected.{Parts, words_at, AreFrames, MovesThreads, Collected};
+ghost use Rattle.m3_roots.specs.Collected.{Parts, words_at, AreFrames, AllFramed, MovesThreads};
+ghost use Rattle.m3_roots.specs.Collected.{Collected};
 ghost use Rattle.m3_roots.specs.Collected.{StopsCollection};
 ghost use Rattle.m3_roots.specs.Offsets.{AllKeepOffsets};
 ghost use Rattle.m3_roots.specs.ThreadsGathered.{GathersThread, StopsThreadHere, MendsThread};
-ghost use Rattle.m3_roots.specs.ThreadsGathered.{AllGathered, Visited, Opens};
+ghost use Rattle.m3_roots.specs.ThreadsGathered.{AllGathered, Visited, Opens, opened};
+ghost use Rattle.m3_roots.specs.RowMeaning.{derived_words};
+ghost use Rattle.m3_roots.specs.Steps.{VisitCosts, derived_listed, rows_list, all_list};
+ghost use Rattle.m3_roots.specs.Steps.{StepsAtMost};
 
 use crate::gathering::{gather, mend};
 use crate::room::Room;
@@ -83,12 +88,17 @@ fn visit_thread<S: Store, L: Ledger>(
         → IsRoomFor (length (words_of threads.old t)) room.old
         → OnFalse result (StopsThreadHere (image_of image.now).program (S.heap store.old).cells t
         threads.old (S.heap store.old).moves) }
+    ensures cost { (t : Thread) (frames : List AFrame) → thread_named threads.old thread ≡ Some t
+        → AreFrames (image_of image.now).program threads.old t frames
+        → VisitCosts (S.heap store.old) (S.heap store.new) steps.old steps.new
+        (rows_list (image_of image.now).program frames) }
     ensures heap { KeepsHeap (S.heap store.old) (S.heap store.new) }
     ensures fitting { (shapes : List Shape) → S.fits store.old shapes → S.fits store.new shapes }
     ensures room { (stack : ℕ) → IsRoomFor stack room.old → IsRoomFor stack room.new }
     ensures forks { threads.new.forks ≡ threads.old.forks }
     ensures waits { threads.new.waits ≡ threads.old.waits }
 {
+    image.image().keeps_its_form();
     let Some(mut regs) = frames_of(image, threads, thread, room) else {
         return false;
     };
@@ -113,6 +123,10 @@ fn visit_threads<S: Store, L: Ledger>(
     ensures stopped { (s : Parts) → s.all ≡ threads.old → s.heap.cells ≡ (S.heap store.old).cells
         → IsRoomFor threads.old.stack room.old
         → OnFalse result (StopsCollection (image_of image.now).program s) }
+    ensures cost { IsRoomFor threads.old.stack room.old → (walks : List (List AFrame))
+        → AllFramed (image_of image.now).program threads.old walks
+        → VisitCosts (S.heap store.old) (S.heap store.new) steps.old steps.new
+        (all_list (image_of image.now).program walks) }
     ensures heap { KeepsHeap (S.heap store.old) (S.heap store.new) }
     ensures fitting { (shapes : List Shape) → S.fits store.old shapes → S.fits store.new shapes }
     ensures room { (stack : ℕ) → IsRoomFor stack room.old → IsRoomFor stack room.new }
@@ -150,6 +164,11 @@ fn visit_roots<S: Store, L: Ledger>(
     ensures stopped { IsRoomFor threads.old.stack room.old
         → OnFalse result (StopsCollection (image_of image.now).program
         (record { all = threads.old; globals = globals.old; heap = S.heap store.old })) }
+    ensures cost { IsRoomFor threads.old.stack room.old → (walks : List (List AFrame))
+        → AllFramed (image_of image.now).program threads.old walks → VisitCosts
+        (opened (S.heap store.old) (staying (S.heap store.old).tenured)) (S.heap store.new)
+        steps.old steps.new (all_list (image_of image.now).program walks
+        + length (image_of image.now).program.globals.pointers) }
     ensures heap { Opens (S.heap store.old) (S.heap store.new) }
     ensures fitting { (shapes : List Shape) → S.fits store.old shapes → S.fits store.new shapes }
     ensures words { length globals.new ≡ length globals.old }
@@ -182,6 +201,9 @@ fn mend_thread<L: Ledger>(
         (words_at threads.old t) after
         → length words ≡ length (words_of threads.old t) + 16 → GoesOn after last → (result ≡ true)
         × MendsThread (image_of image.now).program last frames t words threads.old threads.new }
+    ensures cost { (t : Thread) (frames : List AFrame) → thread_named threads.old thread ≡ Some t
+        → AreFrames (image_of image.now).program threads.old t frames
+        → steps.new ≤ steps.old + derived_listed (derived_words (image_of image.now).program frames) }
     ensures room { (stack : ℕ) → IsRoomFor stack room.old → IsRoomFor stack room.new }
     ensures forks { threads.new.forks ≡ threads.old.forks }
     ensures waits { threads.new.waits ≡ threads.old.waits }
@@ -209,6 +231,10 @@ fn mend_threads<L: Ledger>(
         → GoesOn moves last → IsRoomFor threads.old.stack room.old
         → (result ≡ true) × MovesThreads (image_of image.now).program last all.walks first
         threads.new }
+    ensures cost { (cells : List Cell) (first : Everyone) (start moves last : List Move)
+        → (all : AllGathered (image_of image.now).program cells first threads.old start moves)
+        → GoesOn moves last → IsRoomFor threads.old.stack room.old
+        → steps.new ≤ steps.old + all_list (image_of image.now).program all.walks }
     ensures room { (stack : ℕ) → IsRoomFor stack room.old → IsRoomFor stack room.new }
     ensures forks { threads.new.forks ≡ threads.old.forks }
     ensures waits { threads.new.waits ≡ threads.old.waits }
@@ -228,7 +254,9 @@ fn mend_threads<L: Ledger>(
 /// from derived words from the newest frame to the oldest, the tidy words are visited, and once all
 /// that they lead to is moved, the bases are added again from the oldest frame to the newest. With
 /// room for the threads' stacks, false comes exactly where a frame, a value or the lists of the
-/// rows aren't as they have to be (trap 9); then nothing is said of words and cells.
+/// rows aren't as they have to be (trap 9); then nothing is said of words and cells. It takes at
+/// most twice as many steps as it keeps words, and as the rows of the frames list locations and
+/// bases, and as globals are pointers.
 pub fn collect<S: Store, L: Ledger>(
     threads: &mut Threads,
     globals: &mut [u64],
@@ -252,7 +280,12 @@ pub fn collect<S: Store, L: Ledger>(
     ensures stopped { IsRoomFor threads.old.stack room.old
         → OnFalse result (StopsCollection (image_of image.now).program
         (record { all = threads.old; globals = globals.old; heap = S.heap store.old })) }
+    ensures cost { IsRoomFor threads.old.stack room.old → OnTrue result
+        ((walks : List (List AFrame)) → AllFramed (image_of image.now).program threads.old walks
+        → StepsAtMost (image_of image.now).program walks (S.heap store.old) (S.heap store.new)
+        steps.old steps.new) }
     ensures closed { (S.heap store.new).is_open ≡ false }
+    ensures sizes { SameSizes (S.heap store.old) (S.heap store.new) }
     ensures fitting { result ≡ true → S.fits store.new
         (map shape_of (image_of image.now).program.types) }
     ensures words { length globals.new ≡ length globals.old }

@@ -6,9 +6,10 @@ ghost use Rattle.m3_heap.specs.Moves.{Move};
 ghost use Rattle.m3_heap.specs.Shapes.{Shape};
 ghost use Rattle.m3_image_decoded.specs.Ready.{image_of};
 ghost use Rattle.m3_roots.specs.RoomSizes.{IsRoomFor};
-ghost use Rattle.m3_roots.specs.RowMeaning.{AreFramesAt};
+ghost use Rattle.m3_roots.specs.RowMeaning.{AreFramesAt, derived_words};
 ghost use Rattle.m3_roots.specs.Visiting.{KeepsHeap};
 ghost use Rattle.m3_roots.specs.Moving.{MovesWords};
+ghost use Rattle.m3_roots.specs.Steps.{VisitCosts, derived_listed, rows_list};
 ghost use Rattle.m3_roots.specs.Gathering.{Gathers, StopsGathering, GoesOn};
 
 use crate::apart::{put_together, take_apart};
@@ -41,6 +42,9 @@ pub(crate) fn gather<S: Store, L: Ledger>(
         pc room.old.frames.items → length stack.old + 16 ≤ length room.old.marks.items
         → OnFalse result (StopsGathering (image_of image.now).program (S.heap store.old).cells
         room.old.frames.items (r.old ++ stack.old) (S.heap store.old).moves) }
+    ensures cost { (base fp pc : ℕ) → AreFramesAt (image_of image.now).program base stack.old fp pc
+        room.old.frames.items → VisitCosts (S.heap store.old) (S.heap store.new) steps.old steps.new
+        (rows_list (image_of image.now).program room.old.frames.items) }
     ensures long { (length r.old ≡ 16) × (length r.new ≡ 16) }
     ensures heap { KeepsHeap (S.heap store.old) (S.heap store.new) }
     ensures fitting { (shapes : List Shape) → S.fits store.old shapes → S.fits store.new shapes }
@@ -67,6 +71,9 @@ pub(crate) fn mend<L: Ledger>(
     stack: &mut [u64],
     steps: &mut Steps<L>,
 ) -> bool
+    ensures cost { (base fp pc : ℕ) → AreFramesAt (image_of image.now).program base stack.old fp pc
+        frames.now → steps.new ≤ steps.old
+        + derived_listed (derived_words (image_of image.now).program frames.now) }
     ensures mended { (base fp pc : ℕ) (cells : List Cell) (old : List ℕ)
         (before after last : List Move) → AreFramesAt (image_of image.now).program base stack.old fp
         pc frames.now

@@ -7,6 +7,7 @@ ghost use Rattle.m3_image_decoded.specs.Ready.{image_of};
 ghost use Rattle.m3_roots.specs.RowMeaning.{HaveRows, tidy_of_frame, tidy_below, newest_arguments};
 ghost use Rattle.m3_roots.specs.RowMeaning.{tidy_places};
 ghost use Rattle.m3_roots.specs.Visiting.{VisitEnds, KeepsHeap};
+ghost use Rattle.m3_roots.specs.Steps.{VisitCosts};
 
 use crate::visits::{visit_list, visit_numbers};
 use crate::walk::row_of;
@@ -29,6 +30,9 @@ fn visit_frame<S: Store, L: Ledger>(
         → VisitEnds result (S.heap store.old) (tidy_of_frame (image_of image.now).program frame.now)
         (r.old ++ stack.old) (r.new ++ stack.new) (S.heap store.new) }
     ensures heap { KeepsHeap (S.heap store.old) (S.heap store.new) }
+    ensures cost { frame.now.row < word_in (image_of image.now).program.tables
+        → VisitCosts (S.heap store.old) (S.heap store.new) steps.old steps.new
+        (length (tidy_of_frame (image_of image.now).program frame.now)) }
     ensures fitting { (shapes : List Shape) → S.fits store.old shapes → S.fits store.new shapes }
 {
     let Some(tidy) = image.tidy_places(frame.row) else {
@@ -52,6 +56,9 @@ fn visit_arguments<S: Store, L: Ledger>(
         (newest_arguments (image_of image.now).program frames.now) (r.old ++ stack.old)
         (r.new ++ stack.new) (S.heap store.new) }
     ensures heap { KeepsHeap (S.heap store.old) (S.heap store.new) }
+    ensures cost { HaveRows (image_of image.now).program frames.now
+        → VisitCosts (S.heap store.old) (S.heap store.new) steps.old steps.new
+        (length (newest_arguments (image_of image.now).program frames.now)) }
     ensures fitting { (shapes : List Shape) → S.fits store.old shapes → S.fits store.new shapes }
 {
     let [newest, ..] = frames else {
@@ -77,6 +84,9 @@ fn visit_each<S: Store, L: Ledger>(
         → VisitEnds result (S.heap store.old) (tidy_below (image_of image.now).program frames.now)
         (r.old ++ stack.old) (r.new ++ stack.new) (S.heap store.new) }
     ensures heap { KeepsHeap (S.heap store.old) (S.heap store.new) }
+    ensures cost { HaveRows (image_of image.now).program frames.now
+        → VisitCosts (S.heap store.old) (S.heap store.new) steps.old steps.new
+        (length (tidy_below (image_of image.now).program frames.now)) }
     ensures fitting { (shapes : List Shape) → S.fits store.old shapes → S.fits store.new shapes }
 {
     for frame in frames {
@@ -102,6 +112,9 @@ pub fn visit_frames<S: Store, L: Ledger>(
         → VisitEnds result (S.heap store.old) (tidy_places (image_of image.now).program frames.now)
         (r.old ++ stack.old) (r.new ++ stack.new) (S.heap store.new) }
     ensures heap { KeepsHeap (S.heap store.old) (S.heap store.new) }
+    ensures cost { HaveRows (image_of image.now).program frames.now
+        → VisitCosts (S.heap store.old) (S.heap store.new) steps.old steps.new
+        (length (tidy_places (image_of image.now).program frames.now)) }
     ensures fitting { (shapes : List Shape) → S.fits store.old shapes → S.fits store.new shapes }
 {
     visit_arguments(image, frames, r, stack, store, steps)
@@ -135,6 +148,7 @@ fn visit_global<S: Store, L: Ledger>(
     ensures visited { VisitEnds result (S.heap store.old) (n ∷ []) globals.old globals.new
         (S.heap store.new) }
     ensures heap { KeepsHeap (S.heap store.old) (S.heap store.new) }
+    ensures cost { VisitCosts (S.heap store.old) (S.heap store.new) steps.old steps.new 1 }
     ensures fitting { (shapes : List Shape) → S.fits store.old shapes → S.fits store.new shapes }
 {
     let word = global_at(globals, n);
@@ -158,6 +172,8 @@ pub fn visit_globals<S: Store, L: Ledger>(
     ensures visited { VisitEnds result (S.heap store.old)
         (image_of image.now).program.globals.pointers globals.old globals.new (S.heap store.new) }
     ensures heap { KeepsHeap (S.heap store.old) (S.heap store.new) }
+    ensures cost { VisitCosts (S.heap store.old) (S.heap store.new) steps.old steps.new
+        (length (image_of image.now).program.globals.pointers) }
     ensures fitting { (shapes : List Shape) → S.fits store.old shapes → S.fits store.new shapes }
     ensures count { length globals.new ≡ length globals.old }
 {

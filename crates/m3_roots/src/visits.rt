@@ -1,9 +1,10 @@
 //! Words visited: each cell that one refers to is kept, and the word follows it.
-ghost use Rattle.std.specs.Prelude.{◌≡◌, ◌++◌, ◌∷◌, [], true, List};
+ghost use Rattle.std.specs.Prelude.{◌≡◌, ◌++◌, ◌∷◌, [], true, List, length};
 ghost use Rattle.m3_tables.specs.Views.{numbers_of};
 ghost use Rattle.m3_heap.specs.Shapes.{Shape};
 ghost use Rattle.m3_roots.specs.ThreadWords.{place_from, places_from};
 ghost use Rattle.m3_roots.specs.Visiting.{VisitEnds, KeepsHeap};
+ghost use Rattle.m3_roots.specs.Steps.{VisitCosts};
 
 use crate::places::{set_word, word_at};
 use m3_heap::{Steps, Store};
@@ -24,6 +25,7 @@ fn visit_at<S: Store, L: Ledger>(
     ensures visited { VisitEnds result (S.heap store.old) (place_from first number ∷ [])
         (r.old ++ stack.old) (r.new ++ stack.new) (S.heap store.new) }
     ensures heap { KeepsHeap (S.heap store.old) (S.heap store.new) }
+    ensures cost { VisitCosts (S.heap store.old) (S.heap store.new) steps.old steps.new 1 }
     ensures fitting { (shapes : List Shape) → S.fits store.old shapes → S.fits store.new shapes }
 {
     let word = word_at(r, stack, first, number);
@@ -50,6 +52,8 @@ pub fn visit_numbers<S: Store, L: Ledger>(
         (places_from first (numbers_of numbers.entry)) (r.old ++ stack.old) (r.new ++ stack.new)
         (S.heap store.new) }
     ensures heap { KeepsHeap (S.heap store.old) (S.heap store.new) }
+    ensures cost { VisitCosts (S.heap store.old) (S.heap store.new) steps.old steps.new
+        (length (numbers_of numbers.entry)) }
     ensures fitting { (shapes : List Shape) → S.fits store.old shapes → S.fits store.new shapes }
 {
     for number in numbers {
@@ -73,6 +77,8 @@ pub fn visit_list<S: Store, L: Ledger>(
     ensures visited { VisitEnds result (S.heap store.old) (places_from first numbers.now)
         (r.old ++ stack.old) (r.new ++ stack.new) (S.heap store.new) }
     ensures heap { KeepsHeap (S.heap store.old) (S.heap store.new) }
+    ensures cost { VisitCosts (S.heap store.old) (S.heap store.new) steps.old steps.new
+        (length numbers.now) }
     ensures fitting { (shapes : List Shape) → S.fits store.old shapes → S.fits store.new shapes }
 {
     for number in numbers {

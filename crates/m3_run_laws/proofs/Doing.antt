@@ -38,10 +38,11 @@ use Rattle.m3_run_laws.specs.Standing.{AtPoint, InTurnOf, BeginsAtPoints}
 use Rattle.m3_run_laws.proofs.ThreadLists.{but_one_more, has_more, length_more}
 use Rattle.m3_run_laws.proofs.ThreadSteps.{GoOn, Leaves_turn, Ends_turn, By, Ends_by, anyone, acquires_leaves, releases_leaves, waits_leaves, wakes_leaves, broadcasts_leaves, joins_leaves, alerts_leaves, tests_leaves, alert_waits_leaves, alert_joins_leaves, ends_leaves}
 use Rattle.m3_run_laws.proofs.Ending.{FailsOtherwise, StopsOtherwise, by-trap, before-fails, from-fails, call-stops, return-stops, method-stops, type-stops, fault-stops, is-uncaught-stops, text-stops, get-stops, self-stops, fixed-fails, open-fails, sizes-fail, lengths-fail}
-use Rattle.m3_run_laws.proofs.Stays.{SameCounts, Stays, taken_stays, words_stay, KeepsTurn, Keeps, stays_then, ends_so, goes_so, goes_later, Made, makes_keep}
+use Rattle.m3_run_laws.proofs.Stores.{lawful_itself}
+use Rattle.m3_run_laws.proofs.Stays.{SameCounts, counts_on, Stays, taken_stays, words_stay, KeepsTurn, Keeps, stays_then, ends_so, goes_so, goes_later, Made, makes_keep}
 
 no-counts : (s : State) → SameCounts s s
-no-counts s = record { points = refl; instructions = refl }
+no-counts s = record { points = refl; instructions = refl; store = lawful_itself s.heap }
 
 -- ---- acts
 
@@ -50,7 +51,7 @@ written p s regs memory (Goes u) turn h =
     let first : KeepsTurn p s (with_regs s regs) = goes_so p s regs (Goes (with_regs s regs)) turn refl in
     let a = words_stay p (with_regs s regs) u h.others in
     record {
-      counts = record { points = a.counts.points; instructions = a.counts.instructions };
+      counts = record { points = a.counts.points; instructions = a.counts.instructions; store = a.counts.store };
       running = a.running;
       depth = a.depth;
       turn = a.turn s.running first.turn;
@@ -148,17 +149,17 @@ forks-keep p n old new first closure cell number point room f turn =
 -- from a state of the same counts, with the same running thread
 keeps-from : (p : Program) (u there : State) (progress : Progress) → SameCounts u there → there.running ≡ u.running → there.all.stack ≡ u.all.stack → Keeps p there progress → Keeps p u progress
 keeps-from p u there (Goes v) counts running depth k = record {
-  counts = record { points = k.counts.points ∙ counts.points; instructions = k.counts.instructions ∙ counts.instructions };
+  counts = counts_on u there v counts k.counts;
   running = k.running ∙ running;
   depth = k.depth ∙ depth;
   turn = subst (λ (m : ℕ). InTurnOf p m v.all) running k.turn;
 }
 keeps-from p u there (Rests v) counts running depth k = record {
-  counts = record { points = k.counts.points ∙ counts.points; instructions = k.counts.instructions ∙ counts.instructions };
+  counts = counts_on u there v counts k.counts;
   depth = k.depth ∙ depth;
   at_points = k.at_points;
 }
-keeps-from p u there (Ends v outcome) counts running depth k = (record { points = k.0.points ∙ counts.points; instructions = k.0.instructions ∙ counts.instructions }, k.1)
+keeps-from p u there (Ends v outcome) counts running depth k = (counts_on u there v counts k.0, k.1)
 
 starts-keep : (p : Program) (i : Instr) (start : ℕ) (first : ProcPart) (begins : Instr) (u : State) (t : Thread) (progress : Progress) → is_point_at p.code first.first ≡ true → length u.all.threads < u.all.allowed
     → InTurnOf p u.running u.all → Starts_thread p i start first begins u t progress → Keeps p u progress
@@ -170,7 +171,7 @@ starts-keep p i start first begins u t progress point room turn h =
     let stood = anyone p h.numbered.all.stack (with_status (status_at begins)) (u.all.forks + 1) n h.numbered.all (refl, later) (λ v. refl) (λ v awake. stands-awake begins.op begins.a begins.b) (λ v at. at) in
     let there : State = with_all h.numbered (standing_at begins (u.all.forks + 1) h.numbered.all) in
     let last : Keeps p there progress = goes_so p there (answered t.regs i.a start) progress (subst (λ (m : ℕ). InTurnOf p m there.all) (sym w.running) stood.1) h.goes in
-    keeps-from p u there progress (record { points = w.counts.points; instructions = w.counts.instructions }) w.running (w.depth ∙ f.0) last
+    keeps-from p u there progress (record { points = w.counts.points; instructions = w.counts.instructions; store = w.counts.store }) w.running (w.depth ∙ f.0) last
 
 gives-thread : (p : Program) (i : Instr) (s : State) (answer : Result ℕ Outcome) (u : State) (progress : Progress) → BeginsAtPoints p → InTurnOf p s.running s.all → length s.all.threads ≢ s.all.allowed → Made p s answer u
     → GivesThread p i answer u progress → Keeps p s progress
@@ -189,7 +190,7 @@ fork-keeps p i s progress begins turn (makes_thread answer u q apart m gives) = 
 -- ---- instructions on threads
 
 left-counts : (s left : State) → SameCounts (with_all s left.all) left → SameCounts s left
-left-counts s left h = record { points = h.points; instructions = h.instructions }
+left-counts s left h = record { points = h.points; instructions = h.instructions; store = h.store }
 
 thread-keeps : (p : Program) (s left : State) (done : Ended) → Stays p (with_all s left.all) left → Leaves_turn p s.running s.all.stack done left.all → Keeps p s (became (answer_of done) left)
 thread-keeps p s left Went w k = record { counts = left-counts s left w.counts; running = w.running; depth = k.0; turn = k.1 }

@@ -25,7 +25,8 @@ use Rattle.m3_run_meaning.specs.Runs.{Place, Config, turn_limit, Settles, goes_o
 use Rattle.m3_run_laws.specs.Standing.{AtPoint, Has, AllAtPoints, InTurnOf, BeginsAtPoints}
 use Rattle.m3_run_laws.specs.Courses.{SoundTurn, SoundPoint, SoundEnd, IsOther, EndsSoundly, IsSound}
 use Rattle.m3_run_laws.proofs.ThreadLists.{all_changed, but_of_all, all_of_but, length_changed}
-use Rattle.m3_run_laws.proofs.Stays.{SameCounts, Stays, collects_stay, Keeps}
+use Rattle.m3_run_laws.proofs.Stores.{lawful_itself, lawful_on}
+use Rattle.m3_run_laws.proofs.Stays.{SameCounts, Stays, collects_stay, spoils_counts, Keeps}
 use Rattle.m3_run_laws.proofs.Doing.{does_keep}
 
 pub next-turn : (n turn : ℕ) → (n + 1) * turn ≡ n * turn + turn
@@ -58,6 +59,7 @@ over-by p allowed from s k u st counts =
       points = omega (arith, counts.points, st.points);
       within = omega (arith, counts.points, st.within);
       instructions = omega (arith, counts.instructions, st.instructions, st.short, more);
+      store = lawful_on from.heap s.heap u.heap st.store counts.store;
     }
 
 ends-soundly : (p : Program) (allowed : ℕ) (from u : State) (outcome : Outcome) → IsOther outcome → SoundEnd p allowed from u → EndsSoundly p allowed from u outcome
@@ -76,6 +78,7 @@ settles-sound p allowed from s k progress place st keeps (goes_on u t i running 
       within = omega (arith, keeps.counts.points, st.within);
       instructions = omega (arith, keeps.counts.instructions, st.instructions);
       short = omega (arith, limit, more);
+      store = lawful_on from.heap s.heap u.heap st.store keeps.counts.store;
     }
 settles-sound p allowed from s k progress place st keeps (comes_to_point u t i running next point) =
     let more = next-turn st.before (turn_limit p from) in
@@ -86,6 +89,7 @@ settles-sound p allowed from s k progress place st keeps (comes_to_point u t i r
       points = omega (arith, keeps.counts.points, st.points);
       within = omega (arith, keeps.counts.points, st.within);
       instructions = omega (arith, keeps.counts.instructions, st.instructions, st.short, more);
+      store = lawful_on from.heap s.heap u.heap st.store keeps.counts.store;
     }
 settles-sound p allowed from s k progress place st keeps (leaves_code u t running none) = over-by p allowed from s k u st keeps.counts
 settles-sound p allowed from s k progress place st keeps (lasts_too_long u t i running next plain more) = over-by p allowed from s k u st keeps.counts
@@ -98,6 +102,7 @@ settles-sound p allowed from s k progress place st keeps (rests u) =
       points = omega (arith, keeps.counts.points, st.points);
       within = omega (arith, keeps.counts.points, st.within);
       instructions = omega (arith, keeps.counts.instructions, st.instructions, st.short, more);
+      store = lawful_on from.heap s.heap u.heap st.store keeps.counts.store;
     }
 settles-sound p allowed from s k progress place st keeps (run_ends u outcome) = ends-soundly p allowed from u outcome keeps.1 (over-by p allowed from s k u st keeps.0)
 
@@ -149,7 +154,7 @@ some-state : (s u : State) → Some s ≡ Some u → s ≡ u
 some-state s u e = cc
 
 stays-itself : (p : Program) (s : State) → Stays p s s
-stays-itself p s = record { counts = record { points = refl; instructions = refl }; running = refl; depth = refl; turn = λ n h. h; at_points = λ h. h; many = refl; allowed = refl }
+stays-itself p s = record { counts = record { points = refl; instructions = refl; store = lawful_itself s.heap }; running = refl; depth = refl; turn = λ n h. h; at_points = λ h. h; many = refl; allowed = refl }
 
 pub collected-stays : (p : Program) (s : State) (asked : Bool) (o : Option State) (u : State) → Collected_if p s asked o → o ≡ Some u → Stays p s u
 collected-stays p s asked o u left e = subst (λ (x : State). Stays p s x) (some-state s u e) (stays-itself p s)
@@ -175,6 +180,7 @@ chooses_sound p allowed from s turn entry small some st few c =
       within = omega (arith, a.counts.points, one, few);
       instructions = omega (arith, a.counts.instructions, st.instructions);
       short = some;
+      store = lawful_on from.heap s.heap ready.heap st.store a.counts.store;
     } in
     subst (λ (x : State). SoundTurn p allowed from x 0) (sym c.turns) st'
 
@@ -189,7 +195,7 @@ some-limit p from n i e = one-le-mul (omega arith) (some-there p.code n i e)
 
 stops-sound : (p : Program) (allowed : ℕ) (from s : State) (entry : Entry) (u : State) (outcome : Outcome) → allowed < 2 ^ 64 → SoundPoint p allowed from s → s.points < allowed → StopsAtPoint p entry s u outcome → EndsSoundly p allowed from u outcome
 stops-sound p allowed from s entry u outcome small st few (nobody h) =
-    record { turns = st.turns; points = st.points; within = st.within; instructions = st.instructions }
+    record { turns = st.turns; points = st.points; within = st.within; instructions = st.instructions; store = st.store }
 stops-sound p allowed from s entry u outcome small st few (trapped v some c spoils) =
     let one = passed-one s allowed few small in
     let more = next-turn st.turns (turn_limit p from) in
@@ -200,6 +206,7 @@ stops-sound p allowed from s entry u outcome small st few (trapped v some c spoi
       points = omega (arith, points, one, st.points);
       within = omega (arith, points, one, few);
       instructions = omega (arith, instructions, more, st.instructions);
+      store = lawful_on from.heap s.heap v.heap st.store (spoils_counts p (passed s) v spoils).store;
     }
 stops-sound p allowed from s entry u outcome small st few (nobody_left ready some c none) =
     let a = collected-stays p (passed s) entry.collect (Some ready) ready c refl in
@@ -210,10 +217,11 @@ stops-sound p allowed from s entry u outcome small st few (nobody_left ready som
       points = omega (arith, a.counts.points, one, st.points);
       within = omega (arith, a.counts.points, one, few);
       instructions = omega (arith, a.counts.instructions, more, st.instructions);
+      store = lawful_on from.heap s.heap ready.heap st.store a.counts.store;
     }
 
 spent-sound : (p : Program) (allowed : ℕ) (from s : State) (outcome : Outcome) → SoundPoint p allowed from s → Says_spent p s outcome → EndsSoundly p allowed from s outcome
-spent-sound p allowed from s outcome at (deadlock none) = record { turns = at.turns; points = at.points; within = at.within; instructions = at.instructions }
+spent-sound p allowed from s outcome at (deadlock none) = record { turns = at.turns; points = at.points; within = at.within; instructions = at.instructions; store = at.store }
 spent-sound p allowed from s outcome at (points_used some) = at
 
 pub moves_sound : (p : Program) (input : List ℕ) (allowed : ℕ) (from : State) (c d : Config) → allowed < 2 ^ 64 → BeginsAtPoints p → IsSound p allowed from c.place → Moves p input allowed c d → IsSound p allowed from d.place
@@ -237,7 +245,7 @@ leads_sound p input allowed from c d small begins st (moves b m n first last) =
 
 -- from a state between two turns
 pub starts_sound : (p : Program) (allowed : ℕ) (s : State) → AllAtPoints p s.all → s.points ≤ allowed → SoundPoint p allowed s s
-starts_sound p allowed s at within = record { at_points = at; depth = refl; turns = 0; points = omega arith; within = within; instructions = omega arith }
+starts_sound p allowed s at within = record { at_points = at; depth = refl; turns = 0; points = omega arith; within = within; instructions = omega arith; store = lawful_itself s.heap }
 
 pub runs_sound : (p : Program) (input : List ℕ) (allowed : ℕ) (from : State) (schedule : List Entry) (d : Config) → allowed < 2 ^ 64 → BeginsAtPoints p → AllAtPoints p from.all → from.points ≤ allowed
     → Leads p input allowed (starting from schedule) d → IsSound p allowed from d.place

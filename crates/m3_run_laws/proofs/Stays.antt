@@ -1,5 +1,5 @@
 -- What stays of a state while words are set, cells are made and the heap is collected.
-use Rattle.std.specs.Prelude.{ℕ, zero, suc, ◌≡◌, ◌+◌, ◌==◌, Bool, true, false, List, [], ◌∷◌, length, find, Some, Result, Ok, Err}
+use Rattle.std.specs.Prelude.{ℕ, zero, suc, ◌≡◌, ◌+◌, ◌==◌, Bool, true, false, List, [], ◌∷◌, length, find, Option, None, Some, Result, Ok, Err}
 use Rattle.std.specs.List.{AllByRecursion, slice_get}
 use Rattle.std.proofs.Common.{refl, sym, ap, subst, ◌∙◌, arith, cond}
 use Rattle.m3_base.specs.declared.outcomes.Outcome.{Outcome}
@@ -13,9 +13,11 @@ use Rattle.m3_roots.specs.Collected.{with_registers}
 use Rattle.m3_run_meaning.specs.State.{State, HasOtherWords, regs_set, with_regs}
 use Rattle.m3_run_meaning.specs.Progress.{Progress, Goes, Rests, Ends}
 use Rattle.m3_run_meaning.specs.Collecting.{Collects, Spoils}
-use Rattle.m3_run_meaning.specs.Making.{Makes, Makes_late, at_once, late, made_late, full_late, stuck_late}
+use Rattle.m3_run_meaning.specs.Making.{Allocates, Makes, Makes_late, at_once, late, made_late, full_late, stuck_late}
 use Rattle.m3_run_laws.specs.Courses.{IsOther}
 use Rattle.m3_run_laws.specs.Standing.{AtPoint, Has, AllAtPoints, InTurnOf}
+use Rattle.m3_run_laws.specs.Stores.{StaysLawful}
+use Rattle.m3_run_laws.proofs.Stores.{words_lawful, lawful_itself, lawful_on, request_lawful, collection_lawful}
 use Rattle.m3_run_laws.proofs.ThreadSteps.{SameThreads, turn_stays, points_stay, still}
 
 -- ---- lists of threads that differ in their registers
@@ -86,6 +88,7 @@ alike_has P n ts us leaves a h = alike-found P n ts us h.0 leaves a h.1 h.2
 pub record SameCounts (s u : State) : Type 0 where
   pub points : u.points ≡ s.points
   pub instructions : u.instructions ≡ s.instructions
+  pub store : StaysLawful s.heap u.heap
 
 -- where threads stand stays, whoever runs
 pub record Stays (p : Program) (s u : State) : Type 0 where
@@ -97,9 +100,12 @@ pub record Stays (p : Program) (s u : State) : Type 0 where
   pub many : length u.all.threads ≡ length s.all.threads
   pub allowed : u.all.allowed ≡ s.all.allowed
 
+pub counts_on : (s t u : State) → SameCounts s t → SameCounts t u → SameCounts s u
+counts_on s t u a b = record { points = b.points ∙ a.points; instructions = b.instructions ∙ a.instructions; store = lawful_on s.heap t.heap u.heap a.store b.store }
+
 pub stays_on : (p : Program) (s t u : State) → Stays p s t → Stays p t u → Stays p s u
 stays_on p s t u a b = record {
-  counts = record { points = b.counts.points ∙ a.counts.points; instructions = b.counts.instructions ∙ a.counts.instructions };
+  counts = counts_on s t u a.counts b.counts;
   running = b.running ∙ a.running;
   depth = b.depth ∙ a.depth;
   turn = λ n h. b.turn n (a.turn n h);
@@ -123,18 +129,18 @@ same-all : (all new : Everyone) → new ≡ all → SameThreads all new
 same-all all new e = record { threads = ap (λ (a : Everyone). a.threads) e; depth = ap (λ (a : Everyone). a.stack) e; allowed = ap (λ (a : Everyone). a.allowed) e; counts = ap (λ (a : Everyone). a.forks + a.waits) e }
 
 pub taken_stays : (p : Program) (s : State) (n : ℕ) → Stays p s (record s { taken = n })
-taken_stays p s n = stays-by p s (record s { taken = n }) (record { points = refl; instructions = refl }) refl (record { threads = refl; depth = refl; allowed = refl; counts = refl })
+taken_stays p s n = stays-by p s (record s { taken = n }) (record { points = refl; instructions = refl; store = lawful_itself s.heap }) refl (record { threads = refl; depth = refl; allowed = refl; counts = refl })
 
 pub words_stay : (p : Program) (s u : State) → HasOtherWords s u → Stays p s u
 words_stay p s u h = stays-by p s u
-    (record { points = ap (λ (x : State). x.points) h.rest; instructions = ap (λ (x : State). x.instructions) h.rest })
+    (record { points = ap (λ (x : State). x.points) h.rest; instructions = ap (λ (x : State). x.instructions) h.rest; store = words_lawful s.heap u.heap h.heap })
     (ap (λ (x : State). x.running) h.rest)
     (record { threads = ap (λ (a : Everyone). a.threads) h.all.rest; depth = ap (λ (a : Everyone). a.stack) h.all.rest; allowed = ap (λ (a : Everyone). a.allowed) h.all.rest; counts = ap (λ (a : Everyone). a.forks + a.waits) h.all.rest })
 
-heap-stays : (p : Program) (s u : State) → u ≡ record s { heap = u.heap } → Stays p s u
-heap-stays p s u h = stays-by p s u
-    (record { points = ap (λ (x : State). x.points) h; instructions = ap (λ (x : State). x.instructions) h })
-    (ap (λ (x : State). x.running) h) (same-all s.all u.all (ap (λ (x : State). x.all) h))
+request-stays : (p : Program) (kind words : ℕ) (s : State) (o : Option ℕ) (u : State) → Allocates kind words s o u → Stays p s u
+request-stays p kind words s o u a = stays-by p s u
+    (record { points = ap (λ (x : State). x.points) a.rest; instructions = ap (λ (x : State). x.instructions) a.rest; store = request_lawful s.heap u.heap kind words o a.allots a.laws })
+    (ap (λ (x : State). x.running) a.rest) (same-all s.all u.all (ap (λ (x : State). x.all) a.rest))
 
 pub collects_stay : (p : Program) (s u : State) → Collects p s u → Stays p s u
 collects_stay p s u c =
@@ -142,7 +148,11 @@ collects_stay p s u c =
     let a = alike s.all.threads u.all.threads moves.count moves.same in
     let allowed : u.all.allowed ≡ s.all.allowed = ap (λ (x : Everyone). x.allowed) moves.rest in
     record {
-      counts = record { points = ap (λ (x : State). x.points) c.rest; instructions = ap (λ (x : State). x.instructions) c.rest };
+      counts = record {
+        points = ap (λ (x : State). x.points) c.rest;
+        instructions = ap (λ (x : State). x.instructions) c.rest;
+        store = collection_lawful s.heap u.heap c.collected.laws c.collected.sizes c.collected.closed;
+      };
       running = ap (λ (x : State). x.running) c.rest;
       depth = ap (λ (x : Everyone). x.stack) moves.rest;
       turn = λ n h. record {
@@ -158,8 +168,12 @@ collects_stay p s u c =
       allowed = allowed;
     }
 
-spoils-counts : (p : Program) (s u : State) → Spoils p s u → SameCounts s u
-spoils-counts p s u h = record { points = ap (λ (x : State). x.points) h.rest; instructions = ap (λ (x : State). x.instructions) h.rest }
+pub spoils_counts : (p : Program) (s u : State) → Spoils p s u → SameCounts s u
+spoils_counts p s u h = record {
+  points = ap (λ (x : State). x.points) h.rest;
+  instructions = ap (λ (x : State). x.instructions) h.rest;
+  store = collection_lawful s.heap u.heap h.laws h.sizes h.closed;
+}
 
 -- ---- what an instruction leaves
 
@@ -181,18 +195,15 @@ Keeps p s (Goes u) = KeepsTurn p s u
 Keeps p s (Rests u) = EndsTurn p s u
 Keeps p s (Ends u outcome) = SameCounts s u × IsOther outcome
 
-counts-on : (s t u : State) → SameCounts s t → SameCounts t u → SameCounts s u
-counts-on s t u a b = record { points = b.points ∙ a.points; instructions = b.instructions ∙ a.instructions }
-
 pub stays_then : (p : Program) (s t : State) (progress : Progress) → Stays p s t → Keeps p t progress → Keeps p s progress
 stays_then p s t (Goes u) a k = record {
-  counts = counts-on s t u a.counts k.counts;
+  counts = counts_on s t u a.counts k.counts;
   running = k.running ∙ a.running;
   depth = k.depth ∙ a.depth;
   turn = subst (λ (n : ℕ). InTurnOf p n u.all) a.running k.turn;
 }
-stays_then p s t (Rests u) a k = record { counts = counts-on s t u a.counts k.counts; depth = k.depth ∙ a.depth; at_points = k.at_points }
-stays_then p s t (Ends u outcome) a k = (counts-on s t u a.counts k.0, k.1)
+stays_then p s t (Rests u) a k = record { counts = counts_on s t u a.counts k.counts; depth = k.depth ∙ a.depth; at_points = k.at_points }
+stays_then p s t (Ends u outcome) a k = (counts_on s t u a.counts k.0, k.1)
 
 pub ends_so : (p : Program) (s u : State) (outcome : Outcome) (progress : Progress) → SameCounts s u → IsOther outcome → progress ≡ Ends u outcome → Keeps p s progress
 ends_so p s u outcome progress counts other e = subst (λ (q : Progress). Keeps p s q) (sym e) (counts, other)
@@ -201,7 +212,7 @@ ends_so p s u outcome progress counts other e = subst (λ (q : Progress). Keeps 
 pub goes_so : (p : Program) (s : State) (regs : Regs) (progress : Progress) → InTurnOf p s.running s.all → progress ≡ Goes (with_regs s regs) → Keeps p s progress
 goes_so p s regs progress turn e =
     let kept = still p s.all.stack (regs_set regs) s.running s.all (refl, turn) (λ t. refl) (λ t awake. awake) in
-    let k : KeepsTurn p s (with_regs s regs) = record { counts = record { points = refl; instructions = refl }; running = refl; depth = kept.0; turn = kept.1 } in
+    let k : KeepsTurn p s (with_regs s regs) = record { counts = record { points = refl; instructions = refl; store = lawful_itself s.heap }; running = refl; depth = kept.0; turn = kept.1 } in
     subst (λ (q : Progress). Keeps p s q) (sym e) k
 
 -- the same once where threads stand stayed
@@ -217,14 +228,14 @@ Made p s (Ok start) u = Stays p s u
 Made p s (Err outcome) u = SameCounts s u × IsOther outcome
 
 made-late : (p : Program) (kind words : ℕ) (s : State) (answer : Result ℕ Outcome) (left : State) → Makes_late p kind words s answer left → Made p s answer left
-made-late p kind words s answer left (made_late t u start c a) = stays_on p s t u (collects_stay p s t c) (heap-stays p t u a.1.rest)
-made-late p kind words s answer left (full_late t u c r) = (counts-on s t u (collects_stay p s t c).counts (heap-stays p t u r.rest).counts, tt)
-made-late p kind words s answer left (stuck_late u h) = (spoils-counts p s u h, tt)
+made-late p kind words s answer left (made_late t u start c a) = stays_on p s t u (collects_stay p s t c) (request-stays p kind words t (Some start) u a)
+made-late p kind words s answer left (full_late t u c r) = (counts_on s t u (collects_stay p s t c).counts (request-stays p kind words t None u r).counts, tt)
+made-late p kind words s answer left (stuck_late u h) = (spoils_counts p s u h, tt)
 
 made-then : (p : Program) (s t : State) (answer : Result ℕ Outcome) (u : State) → Stays p s t → Made p t answer u → Made p s answer u
 made-then p s t (Ok start) u a m = stays_on p s t u a m
-made-then p s t (Err outcome) u a m = (counts-on s t u a.counts m.0, m.1)
+made-then p s t (Err outcome) u a m = (counts_on s t u a.counts m.0, m.1)
 
 pub makes_keep : (p : Program) (kind words : ℕ) (s : State) (answer : Result ℕ Outcome) (left : State) → Makes p kind words s answer left → Made p s answer left
-makes_keep p kind words s answer left (at_once start u a) = heap-stays p s u a.1.rest
-makes_keep p kind words s answer left (late r u again refused m) = made-then p s r again u (heap-stays p s r refused.rest) (made-late p kind words r again u m)
+makes_keep p kind words s answer left (at_once start u a) = request-stays p kind words s (Some start) u a
+makes_keep p kind words s answer left (late r u again refused m) = made-then p s r again u (request-stays p kind words s None r refused) (made-late p kind words r again u m)

@@ -1,4 +1,5 @@
--- How far a run has come from a state between two turns, while its threads stand as they may.
+-- How far a run has come from a state between two turns, while its threads stand as they may and its store keeps its
+-- laws.
 use Rattle.std.specs.Prelude.{ℕ, ◌≡◌, ◌≤◌, ◌<◌, ◌+◌, ◌*◌}
 use Rattle.m3_base.specs.declared.outcomes.Outcome.{Outcome}
 use Rattle.m3_base.specs.declared.outcomes.Outcome.TheVariants.{Spent}
@@ -6,6 +7,7 @@ use Rattle.m3_image_sections.specs.Parts.{Program}
 use Rattle.m3_run_meaning.specs.State.{State}
 use Rattle.m3_run_meaning.specs.Runs.{Place, In_turn, At_point, Over, turn_limit}
 use Rattle.m3_run_laws.specs.Standing.{AllAtPoints, InTurnOf}
+use Rattle.m3_run_laws.specs.Stores.{StaysLawful}
 
 -- in a turn: of each turn before it as many instructions were executed as a turn may have, or fewer
 pub record SoundTurn (p : Program) (allowed : ℕ) (from s : State) (k : ℕ) : Type 0 where
@@ -16,6 +18,7 @@ pub record SoundTurn (p : Program) (allowed : ℕ) (from s : State) (k : ℕ) : 
   pub within : s.points ≤ allowed
   pub instructions : s.instructions ≤ from.instructions + before * turn_limit p from + k
   pub short : k < turn_limit p from
+  pub store : StaysLawful from.heap s.heap
 
 -- between two turns
 pub record SoundPoint (p : Program) (allowed : ℕ) (from s : State) : Type 0 where
@@ -25,6 +28,7 @@ pub record SoundPoint (p : Program) (allowed : ℕ) (from s : State) : Type 0 wh
   pub points : s.points ≡ from.points + turns
   pub within : s.points ≤ allowed
   pub instructions : s.instructions ≤ from.instructions + turns * turn_limit p from
+  pub store : StaysLawful from.heap s.heap
 
 -- once it is over
 pub record SoundEnd (p : Program) (allowed : ℕ) (from s : State) : Type 0 where
@@ -32,6 +36,7 @@ pub record SoundEnd (p : Program) (allowed : ℕ) (from s : State) : Type 0 wher
   pub points : s.points ≡ from.points + turns
   pub within : s.points ≤ allowed
   pub instructions : s.instructions ≤ from.instructions + turns * turn_limit p from
+  pub store : StaysLawful from.heap s.heap
 
 -- an outcome isn't that of points that are used up
 abbrev pub IsOther : Outcome → Type 0

@@ -14,8 +14,7 @@ use Rattle.m3_isa.specs.declared.instructions.Op.TheVariants.{Call, Callr, Callm
 use Rattle.m3_isa.specs.declared.instructions.Instr.{Instr}
 use Rattle.m3_isa.specs.declared.registers.Regs.{Regs}
 use Rattle.m3_isa.specs.declared.answers.Step.TheVariants.{Went, Trapped as Trapped_at, Other as Otherwise}
-use Rattle.m3_heap.specs.Heap.{Heap, KeepsCounts}
-use Rattle.m3_heap.specs.Cells.{AddsCell, new_cell}
+use Rattle.m3_heap.specs.Heap.{Heap, KeepsLaws, Allots}
 use Rattle.m3_threads.specs.declared.status.Thread.{Thread}
 use Rattle.m3_threads.specs.All.{Everyone, updated}
 use Rattle.m3_threads.specs.Spaces.{held, replaceable}
@@ -298,17 +297,16 @@ some-is : {x y : Thread} → Some x ≡ Some y → x ≡ y
 some-is e = cc
 
 pub goes_made : (p : Program) (stack : Stack) (i : Instr) (old new : Regs) (all : Everyone) (g : List ℕ) (heap heap' : Heap) (words start : ℕ)
-    → i.op ≡ New → fixed_words (slice_get p.types (cast_unsigned w32 i.imm)) ≡ Ok words → words ≤ heap.free
-    → AddsCell heap.cells (new_cell start (cast_unsigned w32 i.imm) words) heap'.cells → KeepsCounts heap heap' → heap'.asked ≡ heap.asked → new ≡ answered old i.a start
+    → i.op ≡ New → fixed_words (slice_get p.types (cast_unsigned w32 i.imm)) ≡ Ok words → Allots heap (cast_unsigned w32 i.imm) words (Some start) heap' → KeepsLaws heap' → new ≡ answered old i.a start
     → Goes_on p stack i old all g heap new all g heap'
 unfolding with_threads
-goes_made p stack i old new all g heap heap' words start is fixed fits adds counts asked same = record {
+goes_made p stack i old new all g heap heap' words start is fixed allots laws same = record {
   keeps = keeps_all all;
   does = λ input base t running place.
       let s = executed (seen base old all g heap) in
       let u : State = record s { heap = heap' } in
       let v = seen (executed base) new all g heap' in
-      let allocates : Allocates (cast_unsigned w32 i.imm) words s (Some start) u = (fits, record { cells = adds; counts = counts; asked = asked; rest = refl }) in
+      let allocates : Allocates (cast_unsigned w32 i.imm) words s (Some start) u = record { allots = allots; laws = laws; rest = refl } in
       let gives : GivesCell i (Ok start) u (Goes v) = λ t' found.
       let one : regs_set old t ≡ t' = some-is (sym (found-again old base.running all.threads t running) ∙ found) in
       let regs : new ≡ answered t'.regs i.a start = same ∙ ap (λ (x : Thread). answered x.regs i.a start) one in

@@ -1,5 +1,6 @@
 -- What a collection makes of a state.
-use Rattle.std.specs.Prelude.{◌≡◌}
+use Rattle.std.specs.Prelude.{◌≡◌, false}
+use Rattle.m3_heap.specs.Heap.{KeepsLaws, SameSizes}
 use Rattle.m3_roots.specs.Collected.{Parts, Collected, StopsCollection}
 use Rattle.m3_image_sections.specs.Parts.{Program}
 use Rattle.m3_run_meaning.specs.State.{State, raised}
@@ -8,9 +9,12 @@ abbrev pub parts_of : State → Parts
 parts_of s = record { all = s.all; globals = s.globals; heap = s.heap }
 
 -- a collection that met trap 9, since it has to stop: nothing but words, cells and threads is other than before, and
--- nothing is said of them
+-- nothing is said of them but that the store keeps its laws
 pub record Spoils (p : Program) (old new : State) : Type 0 where
   pub stops : StopsCollection p (parts_of old)
+  pub laws : KeepsLaws new.heap
+  pub sizes : SameSizes old.heap new.heap
+  pub closed : new.heap.is_open ≡ false
   pub rest : new ≡ record old { all = new.all; globals = new.globals; heap = new.heap }
 
 -- a collection that doesn't have to stop: it ended well, and was counted

@@ -1,47 +1,34 @@
 -- New cells. A cell that doesn't fit has one collection first.
-use Rattle.std.specs.Prelude.{ℕ, ◌≡◌, ◌<◌, ◌≤◌, ◌==◌, if◌then◌else◌, List, ◌∷◌, ◌++◌, max, Option, None, Some, Result, Ok, Err}
+use Rattle.std.specs.Prelude.{ℕ, ◌≡◌, ◌==◌, if◌then◌else◌, List, ◌∷◌, ◌++◌, max, Option, None, Some, Result, Ok, Err}
 use Rattle.m3_base.specs.declared.outcomes.Outcome.{Outcome}
 use Rattle.m3_base.specs.declared.outcomes.Outcome.TheVariants.{HeapFull, Trap}
 use Rattle.m3_isa.specs.Effects.{answered}
 use Rattle.m3_isa.specs.declared.instructions.Instr.{Instr}
-use Rattle.m3_heap.specs.Cells.{Cell, AddsCell, new_cell}
-use Rattle.m3_heap.specs.Heap.{KeepsCounts}
+use Rattle.m3_heap.specs.Cells.{Cell, new_cell}
+use Rattle.m3_heap.specs.Heap.{KeepsLaws, Allots}
 use Rattle.m3_threads.specs.declared.status.Thread.{Thread}
 use Rattle.m3_image_sections.specs.Parts.{Program, CellType}
 use Rattle.m3_run_meaning.specs.State.{State, running_thread, with_regs}
 use Rattle.m3_run_meaning.specs.Progress.{Progress, Goes, Ends}
 use Rattle.m3_run_meaning.specs.Collecting.{Collects, Spoils}
 
--- a cell with these words came to the heap, and nothing else is changed
-pub record Adds (cell : Cell) (old new : State) : Type 0 where
-  pub cells : AddsCell old.heap.cells cell new.heap.cells
-  pub counts : KeepsCounts old.heap new.heap
-  pub asked : new.heap.asked ≡ old.heap.asked
+-- a request of so many words: the store meets it exactly where they are free, by a cell that goes where the next one
+-- goes, or refuses it and remembers what was asked for; it keeps its laws, and nothing else is changed
+pub record Allocates (kind words : ℕ) (old : State) (answer : Option ℕ) (new : State) : Type 0 where
+  pub allots : Allots old.heap kind words answer new.heap
+  pub laws : KeepsLaws new.heap
   pub rest : new ≡ record old { heap = new.heap }
-
--- a request of so many words was refused since they exceed the free ones, and it is remembered
-pub record Refuses (words : ℕ) (old new : State) : Type 0 where
-  pub full : old.heap.free < words
-  pub cells : new.heap.cells ≡ old.heap.cells
-  pub counts : KeepsCounts old.heap new.heap
-  pub asked : new.heap.asked ≡ words
-  pub rest : new ≡ record old { heap = new.heap }
-
--- a request is met exactly where the words are free
-abbrev pub Allocates : ℕ → ℕ → State → Option ℕ → State → Type 0
-Allocates kind words s None u = Refuses words s u
-Allocates kind words s (Some start) u = (words ≤ s.heap.free) × Adds (new_cell start kind words) s u
 
 -- after one collection a cell was made; or there was no room even then; or the collection has to stop
 pub data Makes_late (p : Program) (kind words : ℕ) (s : State) : Result ℕ Outcome → State → Type 0 where
   made_late : (t u : State) (start : ℕ) → Collects p s t → Allocates kind words t (Some start) u → Makes_late p kind words s (Ok start) u
-  full_late : (t u : State) → Collects p s t → Refuses words t u → Makes_late p kind words s (Err HeapFull) u
+  full_late : (t u : State) → Collects p s t → Allocates kind words t None u → Makes_late p kind words s (Err HeapFull) u
   stuck_late : (u : State) → Spoils p s u → Makes_late p kind words s (Err (Trap 9)) u
 
 -- a cell was made at once; or its request was refused, and what follows is after one collection
 pub data Makes (p : Program) (kind words : ℕ) (s : State) : Result ℕ Outcome → State → Type 0 where
   at_once : (start : ℕ) (u : State) → Allocates kind words s (Some start) u → Makes p kind words s (Ok start) u
-  late : (r u : State) (answer : Result ℕ Outcome) → Refuses words s r → Makes_late p kind words r answer u → Makes p kind words s answer u
+  late : (r u : State) (answer : Result ℕ Outcome) → Allocates kind words s None r → Makes_late p kind words r answer u → Makes p kind words s answer u
 
 -- a cell of so many words, as it is when it is made, is among the cells
 abbrev pub HasNew : ℕ → ℕ → ℕ → State → Type 0

@@ -79,7 +79,7 @@ low_outside globals constants cells at h few small e = ⊎_elim
     (cases_lt at (2 ^ 60))
 
 pub outside_keeps_itself : (globals constants : List ℕ) (heap : Heap) → KeepsOutside globals globals constants constants heap heap
-outside_keeps_itself globals constants heap = record { count = refl; same_constants = refl; rest = record { same_layout = refl; rest = refl } }
+outside_keeps_itself globals constants heap = record { count = refl; same_constants = refl; rest = record { same_layout = refl; rest = refl; watched = λ e. refl } }
 
 again : Heap → Heap → Heap
 again heap new = record heap { cells = new.cells; watched = new.watched }
@@ -92,5 +92,6 @@ outside_keeps_on g g' g'' c c' c'' s t u p q = record {
   rest = record {
     same_layout = q.rest.same_layout ∙ p.rest.same_layout;
     rest = q.rest.rest ∙ ap (λ (h : Heap). again h u) p.rest.rest;
+    watched = λ e. q.rest.watched (ap (λ (h : Heap). h.nursery) p.rest.rest ∙ e) ∙ p.rest.watched e;
   };
 }

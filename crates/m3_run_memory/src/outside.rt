@@ -22,22 +22,13 @@ pub struct Outside<S: Store> {
 }
 
 impl<S: Store> Outside<S> {
-    ghost use Rattle.std.specs.Prelude.{if◌then◌else◌, ◌↔◌, IsNone, IfSome, is_some};
-    ghost use Rattle.std.specs.Option.{IfNone};
-    ghost use Rattle.m3_heap.specs.Cells.{new_cell, AddsCell};
-    ghost use Rattle.m3_heap.specs.Heap.{KeepsCounts};
+    ghost use Rattle.m3_heap.specs.Heap.{Allots};
 
     /// A new cell, zero after its header. None comes exactly where the words exceed the free ones.
     pub fn allocate(&mut self, kind: u32, words: u64) -> Option<u64>
         requires { 1 ≤ words }
-        ensures none { IsNone result ↔ ((S.heap self.old.heap.store).free < words) }
-        ensures made { IfSome result (λ start. AddsCell (S.heap self.old.heap.store).cells
-            (new_cell start kind words) (S.heap self.new.heap.store).cells) }
-        ensures refused { IfNone result ((S.heap self.new.heap.store).cells ≡
-            (S.heap self.old.heap.store).cells) }
-        ensures asked { (S.heap self.new.heap.store).asked ≡
-            (if is_some result then (S.heap self.old.heap.store).asked else words) }
-        ensures counts { KeepsCounts (S.heap self.old.heap.store) (S.heap self.new.heap.store) }
+        ensures allots { Allots (S.heap self.old.heap.store) kind words result
+            (S.heap self.new.heap.store) }
         ensures globals { self.new.globals.items ≡ self.old.globals.items }
         ensures constants { self.new.constants.items ≡ self.old.constants.items }
         ensures words { length self.new.globals.items ≡ length self.old.globals.items }

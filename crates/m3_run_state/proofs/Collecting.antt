@@ -3,6 +3,7 @@ use Rattle.std.specs.Prelude.{ℕ, ◌≡◌, Bool, true, false, List}
 use Rattle.std.specs.Bool.{OnTrue, OnFalse}
 use Rattle.std.proofs.Common.{sym, ap, subst, ◌∙◌}
 use Rattle.std.proofs.lemmas.Bool.{OnTrue_at, OnFalse_at}
+use Rattle.m3_heap.specs.Heap.{KeepsLaws, SameSizes}
 use Rattle.m3_heap.specs.declared.store.Store.{Ghosts}
 use Rattle.m3_image_sections.specs.Parts.{Program}
 use Rattle.m3_image_decoded.specs.Ready.{image_of}
@@ -29,5 +30,11 @@ collects p q old new b n same e collected whole rest counted = record {
 }
 
 pub spoils : (p q : Program) (old new : State) (b : Bool) → p ≡ q → b ≡ false → OnFalse b (StopsCollection p (parts_of old))
-    → new ≡ record old { all = new.all; globals = new.globals; heap = new.heap } → Spoils q old new
-spoils p q old new b same e stops rest = record { stops = subst (λ (r : Program). StopsCollection r (parts_of old)) same (OnFalse_at e stops); rest = rest }
+    → KeepsLaws new.heap → SameSizes old.heap new.heap → new.heap.is_open ≡ false → new ≡ record old { all = new.all; globals = new.globals; heap = new.heap } → Spoils q old new
+spoils p q old new b same e stops laws sizes closed rest = record {
+  stops = subst (λ (r : Program). StopsCollection r (parts_of old)) same (OnFalse_at e stops);
+  laws = laws;
+  sizes = sizes;
+  closed = closed;
+  rest = rest;
+}

@@ -93,7 +93,7 @@ pub others_itself : (s : State) → HasOtherWords s s
 others_itself s = record {
   all = record { same_depths = refl; rest = refl };
   globals = refl;
-  heap = record { same_layout = refl; rest = refl };
+  heap = record { same_layout = refl; rest = refl; watched = λ e. refl };
   rest = refl;
 }
 
@@ -108,6 +108,7 @@ others_on s t u p q = record {
   heap = record {
     same_layout = q.heap.same_layout ∙ p.heap.same_layout;
     rest = q.heap.rest ∙ ap (λ (h : Heap). again h u.heap) p.heap.rest;
+    watched = λ e. q.heap.watched (ap (λ (h : Heap). h.nursery) p.heap.rest ∙ e) ∙ p.heap.watched e;
   };
   rest = q.rest ∙ ap (λ (x : State). parts-in x u) p.rest;
 }

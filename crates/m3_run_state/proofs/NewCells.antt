@@ -1,11 +1,12 @@
 -- The words of a cell that is new in a heap are 0 behind its header, and can be set.
-use Rattle.std.specs.Prelude.{ℕ, zero, suc, ◌≡◌, ◌≢◌, ◌+◌, ◌-◌, ◌<◌, ◌≤◌, ◌^◌, ◌==◌, ◌&&◌, not, Bool, true, false, List, [], ◌∷◌, ◌++◌, length, replicate, Option, Some, None, IsNone, IfSome, ◌↔◌, is_some, slice_get, slice_index, nat_le, nat_lt}
+use Rattle.std.specs.Prelude.{ℕ, zero, suc, ◌≡◌, ◌≢◌, ◌+◌, ◌-◌, ◌<◌, ◌≤◌, ◌^◌, ◌==◌, ◌&&◌, not, Bool, true, false, List, [], ◌∷◌, ◌++◌, length, replicate, Option, Some, None, IfSome, is_some, slice_get, slice_index, nat_le, nat_lt}
 use Rattle.std.specs.List.{AllByRecursion}
-use Rattle.std.proofs.Common.{refl, sym, ap, subst, ◌∙◌, arith, cond, ⊎_elim, true≢false}
-use Rattle.std.proofs.lemmas.Bool.{cases_eq, cases_lt, ne_eqb, false≢true}
+use Rattle.std.proofs.Common.{refl, sym, ap, subst, ◌∙◌, arith, cond, ⊎_elim}
+use Rattle.std.proofs.lemmas.Bool.{cases_eq, ne_eqb, false≢true}
 use Rattle.std.proofs.lemmas.List.{length-replicate}
 use Rattle.std.proofs.lemmas.Bool.Decides.{nat_tests}
-use Rattle.m3_heap.specs.Cells.{Cell, covers, cell_from, cell_word_at, is_start, is_writable, new_cell, AddsCell, AreApart, AllApart, IsHeaded, IsInHeap, AreSound}
+use Rattle.m3_heap.specs.Cells.{Cell, covers, cell_from, cell_word_at, is_start, is_writable, new_cell, AreApart, AllApart, IsHeaded, IsInHeap, AreSound}
+use Rattle.m3_heap.specs.Heap.{Heap, next_start, Allots}
 use Rattle.m3_threads.specs.All.{Everyone, stack_in}
 use Rattle.m3_threads.specs.Spaces.{slot_at, place_at, is_in_stack}
 use Rattle.m3_image_sections.specs.Parts.{Program}
@@ -145,14 +146,16 @@ blank_can_set u start kind words k b few some within =
 
 -- ---- what a store's answer tells
 
-pub if_some : {P Q : ℕ → Type 0} (o : Option ℕ) → ((x : ℕ) → P x → Q x) → IfSome o P → IfSome o Q
-if_some None f h = tt
-if_some (Some x) f h = f x h
+-- the cells with the one that was made behind them
+pub made_last : (o : Option ℕ) (kind words : ℕ) (old new : Heap) → Allots old kind words o new → IfSome o (λ start. (front : List Cell) × (back : List Cell) × (new.cells ≡ front ++ new_cell start kind words ∷ back))
+made_last None kind words old new h = tt
+made_last (Some start) kind words old new h =
+    let cells : new.cells ≡ old.cells ++ new_cell (next_start old words) kind words ∷ [] = ap (λ (x : Heap). x.cells) h.2 in
+    (old.cells, [], cells ∙ ap (λ n. old.cells ++ new_cell n kind words ∷ []) (sym h.1))
 
-pub is_low : (o : Option ℕ) (kind words free : ℕ) (old new : List Cell) → (IsNone o ↔ (free < words)) → free < 2 ^ 32 → AreSound new → 1 ≤ words
-    → IfSome o (λ start. AddsCell old (new_cell start kind words) new) → IfSome o (λ start. (start + words ≤ 2 ^ 63) × (words < 2 ^ 32))
-is_low None kind words free old new none small sound some made = tt
-is_low (Some start) kind words free old new none small sound some made =
-    let fits : words ≤ free = ⊎_elim (λ (low : free < words). absurd (true≢false (none.1 low))) (λ (high : words ≤ free). high) (cases_lt free words) in
-    let b : HasBlank new start kind words = record { front = made.0; back = made.1; is = made.3; sound = sound } in
-    (blank_low new start kind words b some, omega (arith, fits, small))
+pub is_low : (o : Option ℕ) (kind words : ℕ) (old new : Heap) → Allots old kind words o new → old.free < 2 ^ 32 → AreSound new.cells → 1 ≤ words → IfSome o (λ start. (start + words ≤ 2 ^ 63) × (words < 2 ^ 32))
+is_low None kind words old new h small sound some = tt
+is_low (Some start) kind words old new h small sound some =
+    let made = made_last (Some start) kind words old new h in
+    let b : HasBlank new.cells start kind words = record { front = made.0; back = made.1; is = made.2; sound = sound } in
+    (blank_low new.cells start kind words b some, omega (arith, h.0, small))

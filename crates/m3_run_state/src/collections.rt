@@ -1,5 +1,6 @@
 ghost use Rattle.std.specs.Prelude.{◌≡◌, ℕ, true, false, map, length};
 ghost use Rattle.std.specs.Bool.{OnTrue, OnFalse};
+ghost use Rattle.m3_heap.specs.Heap.{SameSizes};
 ghost use Rattle.m3_image_sections.specs.Shapes.{shape_of};
 ghost use Rattle.m3_image_decoded.specs.Ready.{image_of};
 ghost use Rattle.m3_roots.specs.RoomSizes.{IsRoomFor};
@@ -42,6 +43,7 @@ fn collect_by<S: Store, L: Ledger>(
     ensures stopped { IsRoomFor threads.old.stack room.old
         → OnFalse result (StopsCollection (image_of image.now).program
         (parts_in threads.old outside.old)) }
+    ensures sizes { SameSizes (S.heap outside.old.heap.store) (S.heap outside.new.heap.store) }
     ensures room { (stack : ℕ) → IsRoomFor stack room.old → IsRoomFor stack room.new }
     ensures words { length outside.new.globals.items ≡ length outside.old.globals.items }
     ensures constants { outside.new.constants.items ≡ outside.old.constants.items }

@@ -1,5 +1,5 @@
 -- Which full reveals can put an opaque type above a type.
-use Rattle.std.proofs.Common.{◌≡◌, ℕ, ◌⊎◌, inl, inr, List, refl, sym, ap, ⊎_elim}
+use Rattle.std.proofs.Common.{◌≡◌, ℕ, ◌⊎◌, inl, inr, List, sym, ap, ⊎_elim}
 use Rattle.m3_types.specs.declared.nodes.TypeNode.{TypeNode}
 use Rattle.m3_types.specs.Definitions.{head_at, ANull}
 use Rattle.m3_types.specs.Marks.{mark_of, mark_at}

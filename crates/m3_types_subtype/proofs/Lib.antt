@@ -16,3 +16,4 @@ pub mod Exhausting
 pub mod Rows
 pub mod Levels
 pub mod Hiding
+pub mod Seeing

@@ -6,3 +6,4 @@ pub mod Assignments
 pub mod Heights
 pub mod Reaching
 pub mod Ranges
+pub mod Views

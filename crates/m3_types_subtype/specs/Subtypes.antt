@@ -1,11 +1,11 @@
 -- The subtype relation: the rules of the language, closed under reflexivity and transitivity, in the
 -- view of a unit, and what may be assigned to what.
-use Rattle.std.specs.Prelude.{◌≡◌, ℕ, ℤ, zero, suc, pos, negsuc, ◌+◌, ◌<◌, ◌-ℤ◌, ◌^◌, ◌≤ℤ◌, ◌<ℤ◌, ◌⊎◌, Bool, true, false, IsTrue, List, length, map, Contains, Option, Some, None, is_some}
+use Rattle.std.specs.Prelude.{◌≡◌, ℕ, ℤ, zero, suc, ◌<◌, ◌≤ℤ◌, ◌<ℤ◌, ◌⊎◌, Bool, true, IsTrue, List, length, map, Contains, Option, Some, None, is_some}
 use Rattle.m3_types.specs.declared.nodes.Mode.{Mode}
 use Rattle.m3_types.specs.declared.nodes.Reveal.{Reveal}
 use Rattle.m3_types.specs.declared.nodes.TypeNode.{TypeNode}
 use Rattle.m3_types.specs.declared.nodes.TypeNode.TheVariants.{FixedArray, OpenArray}
-use Rattle.m3_types.specs.Definitions.{node_at, types_at, FormalHead, RaisesHead, AnyException, Exceptions, Head, head_at, AnInteger, ABoolean, ACharacter, AnEnumeration, ASubrange, ARef, AnObject, AProcedure, AnOpaque, ANull, ARefAny, AText, AMutex, ARoot}
+use Rattle.m3_types.specs.Definitions.{node_at, types_at, FormalHead, RaisesHead, AnyException, Exceptions, Head, head_at, ASubrange, AProcedure, AnOpaque, ANull, ARefAny, ARoot}
 use Rattle.m3_types.specs.Kinds.{is_below_refany, is_below_root, has_nil, size_of, named_above}
 use Rattle.m3_types_subtype.specs.Sameness.{Matched, Same}
 

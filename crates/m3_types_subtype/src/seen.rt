@@ -1,5 +1,8 @@
-ghost use Rattle.std.specs.Prelude.{◌≡◌, true, Contains, IfSome, IfNone};
+ghost use Rattle.std.specs.Prelude.{◌≡◌, ◌⊎◌, true, Contains, Some, None, IfSome, IfNone, IfOk};
 ghost use Rattle.m3_types.specs.declared.nodes.Reveal.{Reveal as AReveal};
+ghost use Rattle.m3_types_subtype.specs.Subtypes.{Subtype};
+ghost use Rattle.m3_types_subtype.specs.Views.{whole_program, IsOf, NoneApplies, IsLeastOf, bound_at, Sees, HasStructure};
+ghost use Rattle.std.specs.Option.{option_map};
 
 use crate::upward::is_below;
 use m3_base::NoMemory;
@@ -41,7 +44,11 @@ fn lesser(
     graph: &TypeGraph,
     least: Option<TypeId>,
     bound: TypeId,
-) -> Result<TypeId, NoMemory> {
+) -> Result<TypeId, NoMemory>
+    ensures only { least ≡ None → IfOk result (λ b. b ≡ bound) }
+    ensures lesser { IfSome least (λ l. IfOk result (λ b. ((b ≡ bound) × Subtype graph.now.nodes.items graph.now.reveals.items whole_program bound.0 l.0)
+        ⊎ ((b ≡ l) × (Subtype graph.now.nodes.items graph.now.reveals.items whole_program bound.0 l.0 → ⊥)))) }
+{
     let Some(least) = least else {
         return Ok(bound);
     };
@@ -60,23 +67,40 @@ fn least_among(
     found: &[Reveal],
     view: u32,
     t: TypeId,
-) -> Result<Option<TypeId>, NoMemory> {
+) -> Result<Option<TypeId>, NoMemory>
+    ensures some { IfOk result (λ o. IfSome o (λ b. IsLeastOf graph.now.nodes.items graph.now.reveals.items found.now view t.0 b.0)) }
+    ensures none { IfOk result (λ o. IfNone o (NoneApplies found.now view t.0)) }
+{
     let mut least = None;
     for reveal in found {
         if applies(reveal, view, t) {
-            least = Some(lesser(alloc, graph, least, reveal.bound)?);
+            let lower = lesser(alloc, graph, least, reveal.bound)?;
+            least = Some(lower);
         }
     }
     Ok(least)
 }
 
-/// What a unit sees behind an opaque type: the type that fully reveals it, where that applies in the
-/// unit; else the least of its partial reveals that apply, by the whole program; else its bound. Any
-/// other type is seen as it is. What is seen may be an opaque type again.
-pub fn visible(alloc: Global, graph: &TypeGraph, view: u32, t: TypeId) -> Result<TypeId, NoMemory> {
-    let Some(TypeNode::Opaque(bound, _)) = node_at(&graph.nodes, t.0 as usize) else {
-        return Ok(t);
-    };
+/// The bound of an opaque type; none of any other.
+fn bound_of(nodes: &[TypeNode], t: TypeId) -> Option<TypeId>
+    ensures { option_map (λ b. b.0) result ≡ bound_at nodes.now t.0 }
+{
+    match node_at(nodes, t.0 as usize) {
+        Some(TypeNode::Opaque(bound, _)) => Some(bound),
+        _ => None,
+    }
+}
+
+/// What a unit sees behind an opaque type with this bound.
+fn behind(
+    alloc: Global,
+    graph: &TypeGraph,
+    view: u32,
+    t: TypeId,
+    bound: TypeId,
+) -> Result<TypeId, NoMemory>
+    ensures { bound_at graph.now.nodes.items t.0 ≡ Some bound.0 → IfOk result (λ b. Sees graph.now.nodes.items graph.now.reveals.items view t.0 b.0) }
+{
     let found = graph.reveals_of(alloc, view, t.0 as usize)?;
     if let Some(full) = full_among(&found, view, t) {
         return Ok(full);
@@ -85,14 +109,23 @@ pub fn visible(alloc: Global, graph: &TypeGraph, view: u32, t: TypeId) -> Result
     Ok(least.unwrap_or(bound))
 }
 
+/// What a unit sees behind an opaque type: the type that fully reveals it, where that applies in the
+/// unit; else the least of its partial reveals that apply, by the whole program; else its bound. Any
+/// other type is seen as it is. What is seen may be an opaque type again.
+pub fn visible(alloc: Global, graph: &TypeGraph, view: u32, t: TypeId) -> Result<TypeId, NoMemory>
+    ensures { IfOk result (λ b. Sees graph.now.nodes.items graph.now.reveals.items view t.0 b.0) }
+{
+    match bound_of(&graph.nodes, t) {
+        Some(bound) => behind(alloc, graph, view, t, bound),
+        None => Ok(t),
+    }
+}
+
 /// The structure of a type in a view: what a unit sees behind it, and behind that, until it is no
 /// opaque type, or one behind which as many were seen as there are types.
-pub fn structure(
-    alloc: Global,
-    graph: &TypeGraph,
-    view: u32,
-    t: TypeId,
-) -> Result<TypeId, NoMemory> {
+pub fn structure(alloc: Global, graph: &TypeGraph, view: u32, t: TypeId) -> Result<TypeId, NoMemory>
+    ensures { IfOk result (λ b. HasStructure graph.now.nodes.items graph.now.reveals.items view t.0 b.0) }
+{
     let mut seen = t;
     for _step in 0..graph.nodes.len() {
         let behind = visible(alloc, graph, view, seen)?;

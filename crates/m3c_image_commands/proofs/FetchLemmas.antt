@@ -4,7 +4,8 @@ use Rattle.std.specs.Prelude.{Some, IfSome, Result, Ok, Err, IfErr}
 use Rattle.m3_ports.specs.Counts.{Rose}
 use Rattle.m3_ports.specs.Files.{Files, IsNotHeld, IsHeldOver}
 use Rattle.m3c_image_commands.specs.declared.answers.Refusal.{Refusal}
-use Rattle.m3c_image_commands.specs.Statuses.{Shelving, IsKept, file_cap, Only, OfOptions, Unfetched, read_fault, no_memory, absent, too_long, Fetches}
+use Rattle.m3c_image_commands.specs.Statuses.{Shelving, IsKept, IsRead, IsGiven, file_cap, image_cap, Only, OfNamed, OfOptions, Unfetched, read_fault, no_memory, absent, too_long, Fetches}
+use Rattle.m3c_image_commands.specs.ImageCommands.{OfRun}
 
 -- both as one
 abbrev pub joined : Shelving → Shelving → Shelving
@@ -110,13 +111,20 @@ fails_after {A} {B} {C} {R} {Q} {P} {a} {b} {first} {r} m g h f =
 
 -- ---- the files of options
 
-pub among_options : (given : Option (List ℕ)) (name : List ℕ) → given ≡ Some name → Among (Only name file_cap) (OfOptions given given)
-among_options given name e n c o = (inl (e ∙ ap (λ (x : List ℕ). Some x) (sym o.0)), o.1)
+pub among_named : (given : Option (List ℕ)) (name : List ℕ) → given ≡ Some name → Among (Only name file_cap) (OfNamed given)
+among_named given name e n c o = (e ∙ ap (λ (x : List ℕ). Some x) (sym o.0), o.1)
 
-pub among_switches : (switches input : Option (List ℕ)) → Among (OfOptions switches switches) (OfOptions switches input)
-among_switches switches input n c (inl e, k) = (inl e, k)
-among_switches switches input n c (inr e, k) = (inl e, k)
+pub among_switches : (held : Option Files) (switches input : Option (List ℕ)) → Among (OfNamed switches) (OfOptions held switches input)
+among_switches held switches input n c o = inl o
 
-pub among_input : (switches input : Option (List ℕ)) → Among (OfOptions input input) (OfOptions switches input)
-among_input switches input n c (inl e, k) = (inr e, k)
-among_input switches input n c (inr e, k) = (inr e, k)
+-- the input, once the switches were read
+pub among_input : (held : Option Files) (switches input : Option (List ℕ)) (text : List ℕ) → IsGiven held switches text → Among (OfNamed input) (OfOptions held switches input)
+among_input held switches input text g n c o = inr ((text, g), o)
+
+-- the options, of a shelf that held the same before
+pub options_before : (a b : Option Files) (switches input : Option (List ℕ)) → a ≡ b → Among (OfOptions a switches input) (OfOptions b switches input)
+options_before a b switches input e n c o = subst (λ (x : Option Files). OfOptions x switches input n c) e o
+
+-- the options of a run, once the image was read
+pub among_run : (a b : Option Files) (name image : List ℕ) (switches input : Option (List ℕ)) → a ≡ b → IsRead b name image_cap image → Among (OfOptions a switches input) (OfRun b name switches input)
+among_run a b name image switches input e r n c o = inr ((image, r), options_before a b switches input e n c o)

@@ -1,6 +1,7 @@
 -- From the parts of a command over an image to what it answers.
 use Rattle.std.proofs.Common.{◌≡◌, ◌<◌, ◌+◌, ◌^◌, arith, ℕ, Bool, List, [], Option, refl, sym, ◌∙◌, subst, inl, inr, ◌⊎◌}
-use Rattle.std.specs.Prelude.{Result, Ok, Err, IfOk, IsOk, IsErr, is_some, None, Some}
+use Rattle.std.specs.Prelude.{Result, Ok, Err, IfOk, IfSome, IsOk, IsErr, is_some, None, Some}
+use Rattle.m3_ports.specs.Files.{LeavesAtFault}
 use Rattle.std.specs.Option.{option_map}
 use Rattle.m3_image.specs.Images.{read_of}
 use Rattle.m3_base.specs.declared.outcomes.Outcome.{Outcome}
@@ -9,16 +10,21 @@ use Rattle.m3_heap.specs.Semi.{new_heap}
 use Rattle.m3_image_sections.specs.Parts.{Image, Program}
 use Rattle.m3_run_meaning.specs.State.{State}
 use Rattle.m3_run_meaning.specs.Runs.{Begins, begins}
+use Rattle.m3_run_laws.specs.Stores.{IsLawful}
 use Rattle.m3_machine.specs.RunCalls.{Ran}
 use Rattle.m3_image_dump.specs.Texts.{IsDump}
 use Rattle.m3c_image_commands.specs.declared.answers.Answer.{Answer}
 use Rattle.m3c_image_commands.specs.declared.answers.Refusal.{Refusal}
 use Rattle.m3_base.specs.declared.outcomes.Entry.{Entry}
-use Rattle.m3_base.specs.Schedules.{IsSchedule}
+use Rattle.m3_base.specs.Schedules.{IsSchedule, IsFirstBadLine, HasTooMany}
+use Rattle.m3_base.specs.ScheduleRefusals.{IsScheduleRefusal}
+use Rattle.m3_base.specs.declared.schedules.ScheduleRefusal.{ScheduleRefusal}
+use Rattle.m3_base.specs.declared.schedules.ScheduleRefusal.TheVariants.{BadLine, TooMany}
 use Rattle.m3_image_sections.specs.declared.refusal.ImageRefusal.{ImageRefusal}
 use Rattle.m3c_image_commands.specs.Reports.{Setting, Ended, end_status, report}
-use Rattle.m3c_image_commands.specs.Statuses.{Shelving, Putting, StoresNothing, PutsNothing, Took, RefusesBy, Fetches, IsRead, IsGiven, image_cap, Only}
-use Rattle.m3c_image_commands.specs.ImageCommands.{by_schedule, on_input, Ends, ImageAnswer, image_refused, ended, RunsImage, RefusesSwitches, RunsBytes, RunAnswer, IsNoSchedule, OfRun, Runs, DumpAnswer, not_dumped, dumped, DumpsBytes, Dumps}
+use Rattle.m3c_image_commands.specs.Statuses.{Shelving, Putting, StoresNothing, PutsNothing, Took, TookFront, RefusesBy, Fetches, IsRead, IsGiven, image_cap, Only}
+use Rattle.m3c_image_commands.specs.Refusals.{image_line, bad_line, too_many, IsScheduleLine, of_bad_line, of_too_many, RefusesImage, RefusesSchedule}
+use Rattle.m3c_image_commands.specs.ImageCommands.{by_schedule, on_input, Ends, ImageAnswer, image_refused, ended, RunsImage, RefusesSwitches, RunsBytes, RunAnswer, OfRun, Runs, DumpAnswer, not_dumped, dumped, DumpsBytes, CutsDump, no_memory, Dumps}
 
 -- the start of a run has passed no points
 begins-first : (p : Program) (heap : Heap) (threads stack : ℕ) (s : State) → Begins p heap threads stack s → s.points ≡ 0
@@ -26,6 +32,24 @@ begins-first p heap threads stack s (begins i next) = refl
 
 pub begins_first : (p : Program) (heap : Heap) (threads stack points : ℕ) (s : State) → Begins p heap threads stack s → points < 2 ^ 63 → s.points + points < 2 ^ 63
 begins_first p heap threads stack points s begun few = let none = begins-first p heap threads stack s begun in omega (arith, none, few)
+
+-- a heap that was just made keeps the laws of a store
+new_lawful : (words : ℕ) → IsLawful (new_heap words)
+new_lawful words = record {
+  laws = record {
+    half = refl;
+    young = omega arith;
+    some = omega arith;
+    room = omega arith;
+    placed = tt;
+    apart = tt;
+    free = omega arith;
+    tenured = refl;
+    watched = λ e. refl;
+    minors = λ e. refl;
+  };
+  closed = refl;
+}
 
 -- the run of a machine that was made for it
 pub ends_run : (i : Image) (setting : Setting) (tells : Bool) (out : Putting) (p : Program) (input : List ℕ) (heap : Heap) (start to : State) (outcome : Outcome) (status : ℕ) (line : List ℕ) → p ≡ i.program → input ≡ setting.input → heap ≡ new_heap setting.heap
@@ -38,6 +62,7 @@ ends_run i setting tells out p input heap start to outcome status line program s
   run = record {
     start = start;
     begins = subst (λ (h : Heap). Begins i.program h setting.threads setting.stack start) empty begun;
+    lawful = new_lawful setting.heap;
     ran = subst (λ (q : List ℕ). Ran i.program q start setting.schedule setting.points ran.0 to outcome) same (subst (λ (q : Program). Ran q input start setting.schedule setting.points ran.0 to outcome) program ran.2);
   };
   put = ran.1;
@@ -56,9 +81,10 @@ module _ (bytes : List ℕ) (setting : Setting) (tells : Bool) (out : Putting) w
   ends_image (Err r) i e h = h
 
   -- the refusal of bytes that are no image
-  pub refuses_image : (result : Result Answer Refusal) → RefusesBy 8 result → IsErr (read_of bytes) → PutsNothing out → RunsImage bytes setting tells out result
-  refuses_image (Ok a) h e p = subst (λ s. ImageAnswer bytes setting tells out s a.line.items) (sym h) (image_refused a.line.items e p)
-  refuses_image (Err r) h e p = inl (h, p)
+  pub refuses_image : (result : Result Answer Refusal) → RefusesImage bytes result → PutsNothing out → RunsImage bytes setting tells out result
+  refuses_image (Ok a) h p =
+      subst (λ s. ImageAnswer bytes setting tells out s a.line.items) (sym h.2) (subst (λ l. ImageAnswer bytes setting tells out 8 l) (sym h.3) (image_refused h.0 h.1 p))
+  refuses_image (Err r) h p = inl (h, p)
 
   -- by a schedule that the switches say, or of bytes that are no image
   pub image_bytes : (switches : List ℕ) (schedule : List Entry) (result : Result Answer Refusal) → (IsOk (read_of bytes) → IsSchedule switches schedule) → RunsImage bytes (by_schedule setting schedule) tells out result
@@ -97,12 +123,40 @@ module _ (shelf : Shelving) (out : Putting) (name : List ℕ) where
     }
     runs_fetched (Err x) bytes given text read taken tells b v w e s r g k h = record { held = s; answer = tt; refusal = inr h }
 
-pub refuses_dump : (bytes : List ℕ) (out : Putting) (result : Result Answer Refusal) → RefusesBy 8 result → IsErr (read_of bytes) → PutsNothing out → DumpsBytes bytes out result
-refuses_dump bytes out (Ok a) h e p = subst (λ s. DumpAnswer bytes out s a.line.items) (sym h) (not_dumped a.line.items e p)
-refuses_dump bytes out (Err r) h e p = inl (h, p)
+pub refuses_dump : (bytes : List ℕ) (out : Putting) (result : Result Answer Refusal) → RefusesImage bytes result → PutsNothing out → DumpsBytes bytes out result
+refuses_dump bytes out (Ok a) h p = subst (λ s. DumpAnswer bytes out s a.line.items) (sym h.2) (subst (λ l. DumpAnswer bytes out 8 l) (sym h.3) (not_dumped h.0 h.1 p))
+refuses_dump bytes out (Err r) h p = no_memory h p
+
+-- the line of a refusal
+pub refused_image : (bytes : List ℕ) (refusal : ImageRefusal) (result : Result Answer Refusal) → read_of bytes ≡ Err refusal → RefusesBy 8 (image_line refusal) result → RefusesImage bytes result
+refused_image bytes refusal (Ok a) e h = (refusal, e, h.0, h.1)
+refused_image bytes refusal (Err r) e h = h
+
+first_bad : (text : List ℕ) (refusal : ScheduleRefusal) (number : ℕ) → refusal ≡ BadLine number → IsScheduleRefusal text refusal → IsFirstBadLine text number
+first_bad text refusal number e h = subst (λ (r : ScheduleRefusal). IsScheduleRefusal text r) e h
+
+has_more : (text : List ℕ) (refusal : ScheduleRefusal) → refusal ≡ TooMany → IsScheduleRefusal text refusal → HasTooMany text
+has_more text refusal e h = subst (λ (r : ScheduleRefusal). IsScheduleRefusal text r) e h
+
+pub refused_bad_line : (text : List ℕ) (refusal : ScheduleRefusal) (number : ℕ) (result : Result Answer Refusal) → refusal ≡ BadLine number → IsScheduleRefusal text refusal → RefusesBy 9 (bad_line number) result → RefusesSchedule text result
+refused_bad_line text refusal number (Ok a) e r h = (h.0, subst (λ (l : List ℕ). IsScheduleLine text l) (sym h.1) (of_bad_line number (first_bad text refusal number e r)))
+refused_bad_line text refusal number (Err x) e r h = h
+
+pub refused_too_many : (text : List ℕ) (refusal : ScheduleRefusal) (result : Result Answer Refusal) → refusal ≡ TooMany → IsScheduleRefusal text refusal → RefusesBy 9 too_many result → RefusesSchedule text result
+refused_too_many text refusal (Ok a) e r h = (h.0, subst (λ (l : List ℕ). IsScheduleLine text l) (sym h.1) (of_too_many (has_more text refusal e r)))
+refused_too_many text refusal (Err x) e r h = h
 
 -- the text of an image that was put
 pub dumps_text : (bytes text line : List ℕ) (i : Image) (out : Putting) (status : ℕ) → status ≡ 0 → line ≡ [] → read_of bytes ≡ Ok i → IsDump i text → Took out.taken text
     → DumpAnswer bytes out status line
 dumps_text bytes text line i out status s l same told took =
     subst (λ x. DumpAnswer bytes out x line) (sym s) (subst (λ x. DumpAnswer bytes out 0 x) (sym l) (dumped i text same told took))
+
+-- a put of the text failed
+pub front_taken : (before after : Option (List ℕ)) (waiting : ℕ) (piece : List ℕ) → IfSome before (λ bytes. (all : List ℕ) × LeavesAtFault waiting bytes piece all × (after ≡ Some all)) → TookFront (before, after) piece
+front_taken None after waiting piece h = tt
+front_taken (Some b) after waiting piece h = (h.0, h.1.0, h.2)
+
+pub dumps_fetched : (shelf : Shelving) (out : Putting) (name image bytes : List ℕ) (result : Result Answer Refusal) → bytes ≡ image → StoresNothing shelf → IsRead shelf.held.0 name image_cap image → DumpsBytes bytes out result → Dumps shelf out name image result
+dumps_fetched shelf out name image bytes (Ok a) e s r h = record { held = s; answer = (r, subst (λ (x : List ℕ). DumpAnswer x out a.status a.line.items) e h); refusal = tt }
+dumps_fetched shelf out name image bytes (Err x) e s r h = record { held = s; answer = tt; refusal = inr (r, subst (λ (y : List ℕ). CutsDump y out x) e h) }

@@ -1,4 +1,5 @@
 pub mod Statuses
+pub mod Refusals
 pub mod Reports
 pub mod ImageCommands
 pub mod Complete

@@ -25,6 +25,10 @@ IsKept count = count.0 ≤ count.1
 abbrev pub Took : Option (List ℕ) × Option (List ℕ) → List ℕ → Type 0
 Took taken bytes = IfSome taken.0 (λ before. taken.1 ≡ Some (before ++ bytes))
 
+-- a sink has a front of what it had with these bytes behind, where it tells them
+abbrev pub TookFront : Option (List ℕ) × Option (List ℕ) → List ℕ → Type 0
+TookFront taken bytes = IfSome taken.0 (λ before. (all : List ℕ) × IsFront all (before ++ bytes) × (taken.1 ≡ Some all))
+
 -- what a shelf tells that it holds, and its counts
 pub record Shelving : Type 0 where
   pub held : Option Files × Option Files
@@ -92,9 +96,13 @@ IsGiven held (Some name) bytes = IsRead held name file_cap bytes
 abbrev pub Only : List ℕ → ℕ → List ℕ → ℕ → Type 0
 Only name cap n c = (n ≡ name) × (c ≡ cap)
 
--- the switches and the input, where they are named
-abbrev pub OfOptions : Option (List ℕ) → Option (List ℕ) → List ℕ → ℕ → Type 0
-OfOptions switches input n c = ((switches ≡ Some n) ⊎ (input ≡ Some n)) × (c ≡ file_cap)
+-- a file of switches or of input, where it is named
+abbrev pub OfNamed : Option (List ℕ) → List ℕ → ℕ → Type 0
+OfNamed given n c = (given ≡ Some n) × (c ≡ file_cap)
+
+-- the switches, where they are named; and once they were read, the input
+abbrev pub OfOptions : Option Files → Option (List ℕ) → Option (List ℕ) → List ℕ → ℕ → Type 0
+OfOptions held switches input n c = OfNamed switches n c ⊎ (((text : List ℕ) × IsGiven held switches text) × OfNamed input n c)
 
 -- ---- refusals: the status, and the front of the line and the name behind it
 
@@ -140,9 +148,9 @@ Cuts out r = (LacksMemory r × PutsNothing out) ⊎ (LacksOutput r × CountRose 
 abbrev pub Refuses : Shelving → (List ℕ → ℕ → Type 0) → Putting → Refusal → Type 0
 Refuses shelf Reads out r = (Unfetched shelf Reads r.status r.front.now r.name.now × PutsNothing out) ⊎ Cuts out r
 
--- what was given is refused with this status, or memory ran out
-abbrev pub RefusesBy : ℕ → Result Answer Refusal → Type 0
-RefusesBy status result = MatchResult result (λ a. a.status ≡ status) LacksMemory
+-- what was given is refused with this status and this line, or memory ran out
+abbrev pub RefusesBy : ℕ → List ℕ → Result Answer Refusal → Type 0
+RefusesBy status line result = MatchResult result (λ a. (a.status ≡ status) × (a.line.items ≡ line)) LacksMemory
 
 -- ---- the end of a command
 

@@ -1,6 +1,7 @@
 ghost use Rattle.std.specs.Prelude.{◌≡◌, ℕ, [], IfOk, OnOk};
 ghost use Rattle.m3_ports.specs.Files.{TakesFile};
-ghost use Rattle.m3c_image_commands.specs.Statuses.{Causes, Fetches, IsGiven, Only, OfOptions};
+ghost use Rattle.m3c_image_commands.specs.Statuses.{Causes, Fetches, IsGiven, Only};
+ghost use Rattle.m3c_image_commands.specs.Statuses.{OfNamed, OfOptions};
 ghost use Rattle.m3c_image_commands.specs.Statuses.{Shelving, Unfetched, shelving};
 ghost use Rattle.m3c_words.specs.Orders.{name_of};
 
@@ -73,7 +74,7 @@ fn fetch_named<'a, F: Shelf>(
 ) -> Result<(), Refusal<'a>>
     requires { into.old.items ≡ [] }
     ensures fetches { Fetches (shelving F.Shelf shelf.old shelf.new)
-        (OfOptions (name_of name.entry) (name_of name.entry)) result }
+        (OfNamed (name_of name.entry)) result }
     ensures ok { OnOk result (IsGiven (F.held shelf.old) (name_of name.entry) into.new.items) }
 {
     match name {
@@ -89,7 +90,8 @@ pub fn fetch_run_files<'a, F: Shelf>(
     options: RunOptions<'a>,
 ) -> Result<RunFiles, Refusal<'a>>
     ensures fetches { Fetches (shelving F.Shelf shelf.old shelf.new)
-        (OfOptions (name_of options.entry.switches) (name_of options.entry.input)) result }
+        (OfOptions (F.held shelf.old) (name_of options.entry.switches)
+        (name_of options.entry.input)) result }
     ensures switches { IfOk result (λ files. IsGiven (F.held shelf.old)
         (name_of options.entry.switches) files.switches.items) }
     ensures input { IfOk result (λ files. IsGiven (F.held shelf.old)
@@ -99,11 +101,11 @@ pub fn fetch_run_files<'a, F: Shelf>(
         switches: Vec::new(alloc),
         input: Vec::new(alloc),
     };
-    if let Err(refusal) = fetch_named(alloc, shelf, options.switches, &mut files.switches) {
-        return Err(refusal);
-    }
-    match fetch_named(alloc, shelf, options.input, &mut files.input) {
-        Ok(()) => Ok(files),
+    match fetch_named(alloc, shelf, options.switches, &mut files.switches) {
+        Ok(()) => match fetch_named(alloc, shelf, options.input, &mut files.input) {
+            Ok(()) => Ok(files),
+            Err(refusal) => Err(refusal),
+        },
         Err(refusal) => Err(refusal),
     }
 }

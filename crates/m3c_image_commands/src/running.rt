@@ -3,23 +3,25 @@ ghost use Rattle.m3_base.specs.Schedules.{IsSchedule};
 ghost use Rattle.m3_image_sections.specs.Reading.{seen};
 ghost use Rattle.m3_image.specs.Images.{read_of};
 ghost use Rattle.m3_image.specs.Views.{image_view};
-ghost use Rattle.m3c_image_commands.specs.Statuses.{Fetches, IsGiven, IsRead, Only, RefusesBy};
+ghost use Rattle.m3c_image_commands.specs.Refusals.{RefusesImage, RefusesSchedule};
+ghost use Rattle.m3c_image_commands.specs.Statuses.{Fetches, IsGiven, IsRead, Only};
 ghost use Rattle.m3c_image_commands.specs.Statuses.{image_cap, putting, shelving};
 ghost use Rattle.m3c_image_commands.specs.Reports.{setting_of};
-ghost use Rattle.m3c_image_commands.specs.ImageCommands.{Ends, IsNoSchedule, OfRun, Runs, RunsBytes};
+ghost use Rattle.m3c_image_commands.specs.ImageCommands.{Ends, OfRun, Runs, RunsBytes};
 ghost use Rattle.m3c_image_commands.specs.ImageCommands.{RunsImage, setting_of_run};
 ghost use Rattle.m3c_words.specs.Orders.{name_of};
 
 use crate::answers::{Answer, Refusal};
 use crate::fetching::{RunFiles, fetch, fetch_run_files};
 use crate::line::{LINE_ROOM, answer_of, longest_name};
+use crate::refusals::{bad_line, image_line, refuse, too_many};
 use m3_base::{Entry, ScheduleRefusal, read_schedule};
 use m3_heap::SemiSpace;
-use m3_image::{ImageRefusal, ImageView};
+use m3_image::ImageView;
 use m3_machine::Machine;
 use m3_ports::{Shelf, Sink};
 use m3c_words::{Limits, RunOptions};
-use std::alloc::{AllocError, Global};
+use std::alloc::Global;
 
 // The most bytes of an image.
 const IMAGE_CAP: u64 = 4_294_967_295;
@@ -40,32 +42,12 @@ pub fn read_image<'a>(
     bytes: &'a [u8],
 ) -> Result<ImageView<'a>, Result<Answer, Refusal<'static>>>
     ensures ok { IfOk result (λ v. read_of bytes.now ≡ Ok (image_view v)) }
-    ensures err { IfErr result (λ e. RefusesBy 8 e × IsErr (read_of bytes.now)) }
+    ensures err { IfErr result (λ e. RefusesImage bytes.now e × IsErr (read_of bytes.now)) }
 {
     match ImageView::read(bytes) {
         Ok(image) => Ok(image),
-        Err(refusal) => Err(refuse(8, image_refusal_line(alloc, refusal))),
+        Err(refusal) => Err(refuse(8, image_line(alloc, refusal))),
     }
-}
-
-/// A refusal with a line of its own, if there was memory for it.
-fn refuse(status: u8, line: Result<Vec<u8>, AllocError>) -> Result<Answer, Refusal<'static>>
-    ensures { RefusesBy status result }
-{
-    match line {
-        Ok(line) => Ok(Answer { status, line }),
-        Err(_) => Err(Refusal::NO_MEMORY),
-    }
-}
-
-fn image_refusal_line(alloc: Global, refusal: ImageRefusal) -> Result<Vec<u8>, AllocError> {
-    let text = format!(in alloc; "image refused: {refusal}\n")?;
-    Vec::from_slice(alloc, text.as_bytes())
-}
-
-fn schedule_refusal_line(alloc: Global, refusal: ScheduleRefusal) -> Result<Vec<u8>, AllocError> {
-    let text = format!(in alloc; "schedule refused: {refusal}\n")?;
-    Vec::from_slice(alloc, text.as_bytes())
 }
 
 /// The schedule that the lines of a switch file say, or what the command answers where they say
@@ -75,12 +57,13 @@ pub fn schedule_of(
     switches: &[u8],
 ) -> Result<Vec<Entry>, Result<Answer, Refusal<'static>>>
     ensures ok { IfOk result (λ entries. IsSchedule switches.now entries.items) }
-    ensures err { IfErr result (λ e. RefusesBy 9 e × IfOk e (λ a. IsNoSchedule switches.now)) }
+    ensures err { IfErr result (RefusesSchedule switches.now) }
 {
     match read_schedule(alloc, switches) {
         Ok(schedule) => Ok(schedule),
         Err(ScheduleRefusal::NoMemory) => Err(Err(Refusal::NO_MEMORY)),
-        Err(refusal) => Err(refuse(9, schedule_refusal_line(alloc, refusal))),
+        Err(ScheduleRefusal::BadLine(number)) => Err(refuse(9, bad_line(alloc, number))),
+        Err(ScheduleRefusal::TooMany) => Err(refuse(9, too_many(alloc))),
     }
 }
 
@@ -196,7 +179,8 @@ fn fetch_all<'a, F: Shelf>(
 ) -> Result<RunFiles, Refusal<'a>>
     requires { image.old.items ≡ [] }
     ensures fetches { Fetches (shelving F.Shelf shelf.old shelf.new)
-        (OfRun name.now (name_of options.entry.switches) (name_of options.entry.input)) result }
+        (OfRun (F.held shelf.old) name.now (name_of options.entry.switches)
+        (name_of options.entry.input)) result }
     ensures image { OnOk result (IsRead (F.held shelf.old) name.now image_cap image.new.items) }
     ensures switches { IfOk result (λ files. IsGiven (F.held shelf.old)
         (name_of options.entry.switches) files.switches.items) }

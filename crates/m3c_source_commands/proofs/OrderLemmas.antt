@@ -1,6 +1,6 @@
 -- From the parts of a command over sources to what it answers.
 use Rattle.std.proofs.Common.{◌≡◌, ℕ, ◌≤◌, ◌<◌, Bool, true, false, List, [], ◌∷◌, ◌++◌, Option, refl, sym, ap, ◌∙◌, subst, inl, inr, ◌⊎◌, arith}
-use Rattle.std.specs.Prelude.{Result, Ok, Err, IfOk, IfErr, IsOk, IsErr, MatchResult, is_some, None, Some, IfSome}
+use Rattle.std.specs.Prelude.{Result, Ok, Err, IfErr, IsOk, IsErr, MatchResult, is_some, None, Some, IfSome}
 use Rattle.std.specs.Option.{option_map}
 use Rattle.std.specs.FinMap.{insert}
 use Rattle.std.proofs.lemmas.Bool.{false≢true}
@@ -8,19 +8,22 @@ use Rattle.m3_ports.specs.Counts.{Rose}
 use Rattle.m3_ports.specs.Files.{Files, LeavesFront}
 use Rattle.m3_ports.specs.declared.shelves.ShelfFault.{ShelfFault}
 use Rattle.m3_ports.specs.declared.shelves.ShelfFault.TheVariants.{Absent, TooLong, Failed, NoMemory}
-use Rattle.m3_base.specs.Schedules.{IsSchedule, IsFirstBadLine, HasTooMany, lines_of}
+use Rattle.m3_base.specs.Schedules.{IsSchedule, lines_of}
 use Rattle.m3_base.specs.declared.outcomes.Entry.{Entry}
 use Rattle.m3c_image_commands.specs.Reports.{Setting, setting_of}
 use Rattle.m3_image.specs.Images.{read_of}
 use Rattle.m3c_image_commands.specs.declared.answers.Answer.{Answer}
 use Rattle.m3c_image_commands.specs.declared.answers.Refusal.{Refusal}
-use Rattle.m3c_image_commands.specs.Statuses.{Shelving, Putting, StoresNothing, StoresFront, PutsNothing, RefusesBy, Fetches, IsGiven, LacksMemory, LacksOutput}
-use Rattle.m3c_image_commands.proofs.FetchLemmas.{Follows, Rises, joined}
-use Rattle.m3c_image_commands.specs.ImageCommands.{ImageAnswer, image_refused, ended, RunsImage, IsNoSchedule, by_schedule, on_input}
+use Rattle.m3c_image_commands.specs.Statuses.{Shelving, Putting, StoresNothing, StoresFront, PutsNothing, Fetches, IsGiven, OfOptions, LacksMemory, LacksOutput}
+use Rattle.m3c_image_commands.specs.Refusals.{IsScheduleLine, of_bad_line, of_too_many, RefusesSchedule}
+use Rattle.m3_image_sections.specs.Parts.{Image}
+use Rattle.m3_image_sections.specs.declared.refusal.ImageRefusal.{ImageRefusal}
+use Rattle.m3c_image_commands.proofs.FetchLemmas.{Follows, Rises, Among, joined, options_before}
+use Rattle.m3c_image_commands.specs.ImageCommands.{ImageAnswer, image_refused, ended, RunsImage, by_schedule, on_input}
 use Rattle.m3c_words.specs.declared.limits.Limits.{Limits}
 use Rattle.m3c_words.specs.Ranges.{AreUsual, AreOfBench}
 use Rattle.m3c_source_commands.specs.Orders.{Order, Fulfils, bench_setting, usual_setting}
-use Rattle.m3c_source_commands.specs.SourceCommands.{OfFiles, RefusesSources, Stores, BuildAnswer, not_built, stored, Builds, ExecAnswer, not_run, no_schedule, run_ended, ExecsTexts, OfExec, Execs}
+use Rattle.m3c_source_commands.specs.SourceCommands.{AreAllRead, OfFiles, RefusesSources, Stores, BuildAnswer, not_built, stored, Builds, ExecAnswer, not_run, no_schedule, run_ended, ExecsTexts, OfExec, Execs}
 
 pub never_both : {A E : Type 0} (r : Result A E) → IsOk r → IsErr r → ⊥
 never_both (Ok x) h e = false≢true e
@@ -28,23 +31,23 @@ never_both (Err x) h e = false≢true h
 
 -- ---- refusals
 
-refuses_schedule : (switches : List ℕ) (result : Result Answer Refusal) → RefusesBy 9 result → IfOk result (λ a. IsNoSchedule switches) → RefusesSources switches result
-refuses_schedule switches (Ok a) h n = inr (h, n)
-refuses_schedule switches (Err r) h n = h
+refuses_schedule : (files : List (List ℕ)) (switches : List ℕ) (result : Result Answer Refusal) → RefusesSchedule switches result → RefusesSources files switches result
+refuses_schedule files switches (Ok a) h = inr h
+refuses_schedule files switches (Err r) h = h
 
-pub schedule_refused : {A : Type 0} (switches : List ℕ) (result : Result A (Result Answer Refusal)) → IfErr result (λ e. RefusesBy 9 e × IfOk e (λ a. IsNoSchedule switches)) → IfErr result (RefusesSources switches)
-schedule_refused switches (Ok x) h = h
-schedule_refused switches (Err e) h = refuses_schedule switches e h.0 h.1
+pub schedule_refused : {A : Type 0} (files : List (List ℕ)) (switches : List ℕ) (result : Result A (Result Answer Refusal)) → IfErr result (RefusesSchedule switches) → IfErr result (RefusesSources files switches)
+schedule_refused files switches (Ok x) h = h
+schedule_refused files switches (Err e) h = refuses_schedule files switches e h
 
 nothing_in : (good rest : List (List ℕ)) (line : List ℕ) → [] ≡ good ++ line ∷ rest → ⊥
 nothing_in [] rest line e = cc
 nothing_in (g ∷ good) rest line e = cc
 
 -- the empty text is a schedule
-is_schedule : IsNoSchedule [] → ⊥
+is_schedule : (line : List ℕ) → IsScheduleLine [] line → ⊥
 unfolding lines_of
-is_schedule (inl b) = nothing_in b.1.good b.1.rest b.1.bad b.1.lines
-is_schedule (inr m) = nothing_in m.good m.rest m.next m.lines
+is_schedule line (of_bad_line number b) = nothing_in b.good b.rest b.bad b.lines
+is_schedule line (of_too_many m) = nothing_in m.good m.rest m.next m.lines
 
 -- ---- build
 
@@ -82,41 +85,45 @@ module _ (a b : Shelving) (f : Follows a b) (k : Rises a) (name bytes : List ℕ
   stores_on (Err r) h = refused_on r h
 
 module _ (shelf : Shelving) (name : List ℕ) (files : List (List ℕ)) (image : List ℕ) where
-  pub builds_refused : (result : Result Answer Refusal) → RefusesSources [] result → StoresNothing shelf → Builds shelf name files image result
-  builds_refused (Ok a) (inl one) s = subst (λ x. BuildAnswer shelf name image x a.line.items) (sym one) (not_built a.line.items s)
-  builds_refused (Ok a) (inr nine) s = absurd (is_schedule nine.1)
-  builds_refused (Err r) h s = inr (inl (h, s))
+  pub builds_refused : (result : Result Answer Refusal) → AreAllRead shelf.held.0 files → RefusesSources files [] result → StoresNothing shelf → Builds shelf name files image result
+  builds_refused (Ok a) r (inl one) s = (r, subst (λ x. BuildAnswer shelf files name image x a.line.items) (sym one.0) (not_built a.line.items one.1 s))
+  builds_refused (Ok a) r (inr nine) s = absurd (is_schedule a.line.items nine.1)
+  builds_refused (Err x) r h s = inr (inl (h, s))
 
-  builds_image : (result : Result Answer Refusal) → Stores shelf name image result → IsOk (read_of image) → Builds shelf name files image result
-  builds_image (Ok a) h ok =
-      subst (λ x. BuildAnswer shelf name image x a.line.items) (sym h.0) (subst (λ l. BuildAnswer shelf name image 0 l) (sym h.1) (stored ok h.2))
-  builds_image (Err r) h ok = inr h
+  builds_image : (result : Result Answer Refusal) → AreAllRead shelf.held.0 files → Stores shelf name image result → IsOk (read_of image) → Builds shelf name files image result
+  builds_image (Ok a) r h ok =
+      (r, subst (λ x. BuildAnswer shelf files name image x a.line.items) (sym h.0) (subst (λ l. BuildAnswer shelf files name image 0 l) (sym h.1) (stored ok h.2)))
+  builds_image (Err x) r (inl h) ok = inr (inl h)
+  builds_image (Err x) r (inr h) ok = inr (inr (h.0, h.1, r))
 
-  pub builds_stored : (bytes : List ℕ) (result : Result Answer Refusal) → bytes ≡ image → Stores shelf name bytes result → IsOk (read_of image) → Builds shelf name files image result
-  builds_stored bytes result e h ok = builds_image result (subst (λ (b : List ℕ). Stores shelf name b result) e h) ok
+  pub builds_stored : (bytes : List ℕ) (result : Result Answer Refusal) → bytes ≡ image → AreAllRead shelf.held.0 files → Stores shelf name bytes result → IsOk (read_of image) → Builds shelf name files image result
+  builds_stored bytes result e r h ok = builds_image result r (subst (λ (b : List ℕ). Stores shelf name b result) e h) ok
 
   pub builds_unfetched : {A : Type 0} (r : Refusal) → Fetches {A = A} shelf (OfFiles shelf.held.0 files) (Err r) → Builds shelf name files image (Err r)
   builds_unfetched r f = inl (f.unfetched, f.held)
 
 -- ---- exec
 
-module _ (image switches : List ℕ) (MayRunBy : List Entry → Type 0) (setting : Setting) (tells : Bool) (out : Putting) where
-  pub execs_refused : (result : Result Answer Refusal) → RefusesSources switches result → PutsNothing out → ExecsTexts image switches MayRunBy setting tells out result
-  execs_refused (Ok a) (inl one) p = subst (λ x. ExecAnswer image switches MayRunBy setting tells out x a.line.items) (sym one) (not_run a.line.items p)
+module _ (files : List (List ℕ)) (image switches : List ℕ) (MayRunBy : List Entry → Type 0) (setting : Setting) (tells : Bool) (out : Putting) where
+  pub execs_refused : (result : Result Answer Refusal) → RefusesSources files switches result → PutsNothing out → ExecsTexts files image switches MayRunBy setting tells out result
+  execs_refused (Ok a) (inl one) p = subst (λ x. ExecAnswer files image switches MayRunBy setting tells out x a.line.items) (sym one.0) (not_run a.line.items one.1 p)
   execs_refused (Ok a) (inr nine) p = no_schedule a.status a.line.items (nine.0, nine.1, p)
   execs_refused (Err r) h p = inl (h, p)
 
+  never_image : (refusal : ImageRefusal) → IsOk (read_of image) → read_of image ≡ Err refusal → ⊥
+  never_image refusal ok e = never_both (read_of image) ok (subst (λ (r : Result Image ImageRefusal). IsErr r) (sym e) refl)
+
   module _ (schedule : List Entry) (may : MayRunBy schedule) where
-    answer_ran : (status : ℕ) (line : List ℕ) → IsOk (read_of image) → ImageAnswer image (by_schedule setting schedule) tells out status line → ExecAnswer image switches MayRunBy setting tells out status line
-    answer_ran status line ok (image_refused l e p) = absurd (never_both (read_of image) ok e)
+    answer_ran : (status : ℕ) (line : List ℕ) → IsOk (read_of image) → ImageAnswer image (by_schedule setting schedule) tells out status line → ExecAnswer files image switches MayRunBy setting tells out status line
+    answer_ran status line ok (image_refused r e p) = absurd (never_image r ok e)
     answer_ran status line ok (ended i s l e r) = run_ended i schedule s l e may r
 
-    runs_answer : (result : Result Answer Refusal) → IsOk (read_of image) → RunsImage image (by_schedule setting schedule) tells out result → ExecsTexts image switches MayRunBy setting tells out result
+    runs_answer : (result : Result Answer Refusal) → IsOk (read_of image) → RunsImage image (by_schedule setting schedule) tells out result → ExecsTexts files image switches MayRunBy setting tells out result
     runs_answer (Ok a) ok h = answer_ran a.status a.line.items ok h
     runs_answer (Err r) ok h = h
 
     pub execs_ran : (bytes : List ℕ) (told : Bool) (done : Setting) (result : Result Answer Refusal) → bytes ≡ image → told ≡ tells → done ≡ by_schedule setting schedule → IsOk (read_of image) → RunsImage bytes done told out result
-        → ExecsTexts image switches MayRunBy setting tells out result
+        → ExecsTexts files image switches MayRunBy setting tells out result
     execs_ran bytes told done result b t d ok h =
         runs_answer result ok
         (subst (λ (x : Setting). RunsImage image x tells out result) d (subst (λ x. RunsImage image done x out result) t (subst (λ (x : List ℕ). RunsImage x done told out result) b h)))
@@ -141,27 +148,34 @@ given_now : (a b : Option Files) (name : Option (List ℕ)) (text : List ℕ) �
 given_now a b name text e h = subst (λ (o : Option Files). IsGiven o name text) e h
 
 module _ (shelf : Shelving) (out : Putting) (files : List (List ℕ)) (switches input : Option (List ℕ)) (limits : Setting) (image : List ℕ) where
-  pub execs_fetched : (result : Result Answer Refusal) (held : Option Files) (text bytes : List ℕ) → held ≡ shelf.held.0 → StoresNothing shelf → IsGiven held switches text → IsGiven held input bytes
-      → ExecsTexts image text (IsSchedule text) (on_input limits bytes) (is_some switches) out result → Execs shelf out files switches input limits image result
-  execs_fetched (Ok a) held text bytes e s g k h = record { held = s; answer = (text, bytes, given_now held shelf.held.0 switches text e g, given_now held shelf.held.0 input bytes e k, h); refusal = tt }
-  execs_fetched (Err r) held text bytes e s g k h = record { held = s; answer = tt; refusal = inr h }
+  pub execs_fetched : (result : Result Answer Refusal) (held : Option Files) (text bytes : List ℕ) → held ≡ shelf.held.0 → StoresNothing shelf → AreAllRead shelf.held.0 files → IsGiven held switches text → IsGiven held input bytes
+      → ExecsTexts files image text (IsSchedule text) (on_input limits bytes) (is_some switches) out result → Execs shelf out files switches input limits image result
+  execs_fetched (Ok a) held text bytes e s r g k h = record { held = s; answer = (r, (text, bytes, given_now held shelf.held.0 switches text e g, given_now held shelf.held.0 input bytes e k, h)); refusal = tt }
+  execs_fetched (Err x) held text bytes e s r g k h = record { held = s; answer = tt; refusal = inr h }
 
-  pub execs_told : (result : Result Answer Refusal) (held : Option Files) (text bytes : List ℕ) (told : Bool) → told ≡ is_some switches → held ≡ shelf.held.0 → StoresNothing shelf → IsGiven held switches text → IsGiven held input bytes
-      → ExecsTexts image text (IsSchedule text) (on_input limits bytes) told out result → Execs shelf out files switches input limits image result
-  execs_told result held text bytes told t e s g k h =
-      execs_fetched result held text bytes e s g k (subst (λ (x : Bool). ExecsTexts image text (IsSchedule text) (on_input limits bytes) x out result) t h)
+  pub execs_told : (result : Result Answer Refusal) (held : Option Files) (names : List (List ℕ)) (text bytes : List ℕ) (told : Bool) → names ≡ files → told ≡ is_some switches → held ≡ shelf.held.0 → StoresNothing shelf → AreAllRead shelf.held.0 files
+      → IsGiven held switches text → IsGiven held input bytes → ExecsTexts names image text (IsSchedule text) (on_input limits bytes) told out result → Execs shelf out files switches input limits image result
+  execs_told result held names text bytes told n t e s r g k h =
+      execs_fetched result held text bytes e s r g k
+      (subst (λ (x : Bool). ExecsTexts files image text (IsSchedule text) (on_input limits bytes) x out result) t
+      (subst (λ (x : List (List ℕ)). ExecsTexts x image text (IsSchedule text) (on_input limits bytes) told out result) n h))
 
   pub execs_unfetched : {A : Type 0} (r : Refusal) → PutsNothing out → Fetches {A = A} shelf (OfExec shelf.held.0 files switches input) (Err r) → Execs shelf out files switches input limits image (Err r)
   execs_unfetched r p f = record { held = f.held; answer = tt; refusal = inl (f.unfetched, p) }
 
+-- the options, once the FILEs were read
+pub among_exec : (a b : Option Files) (files : List (List ℕ)) (switches input : Option (List ℕ)) → a ≡ b → AreAllRead b files → Among (OfOptions a switches input) (OfExec b files switches input)
+among_exec a b files switches input e r n c o = inr (r, options_before a b switches input e n c o)
+
 -- without options
-pub execs_plain : (image : List ℕ) (out : Putting) (result : Result Answer Refusal) (text bytes : List ℕ) (told : Bool) (limits usual : Setting) → text ≡ [] → bytes ≡ [] → told ≡ false → limits ≡ usual
-    → ExecsTexts image text (IsSchedule text) (on_input limits bytes) told out result → ExecsTexts image [] (IsSchedule []) (on_input usual []) false out result
-execs_plain image out result text bytes told limits usual e b t l h =
-    subst (λ (s : Setting). ExecsTexts image [] (IsSchedule []) (on_input s []) false out result) l
-    (subst (λ (x : Bool). ExecsTexts image [] (IsSchedule []) (on_input limits []) x out result) t
-    (subst (λ (x : List ℕ). ExecsTexts image x (IsSchedule x) (on_input limits []) told out result) e
-    (subst (λ (x : List ℕ). ExecsTexts image text (IsSchedule text) (on_input limits x) told out result) b h)))
+pub execs_plain : (files names : List (List ℕ)) (image : List ℕ) (out : Putting) (result : Result Answer Refusal) (text bytes : List ℕ) (told : Bool) (limits usual : Setting) → names ≡ files → text ≡ [] → bytes ≡ [] → told ≡ false → limits ≡ usual
+    → ExecsTexts names image text (IsSchedule text) (on_input limits bytes) told out result → ExecsTexts files image [] (IsSchedule []) (on_input usual []) false out result
+execs_plain files names image out result text bytes told limits usual n e b t l h =
+    subst (λ (s : Setting). ExecsTexts files image [] (IsSchedule []) (on_input s []) false out result) l
+    (subst (λ (x : Bool). ExecsTexts files image [] (IsSchedule []) (on_input limits []) x out result) t
+    (subst (λ (x : List ℕ). ExecsTexts files image x (IsSchedule x) (on_input limits []) told out result) e
+    (subst (λ (x : List ℕ). ExecsTexts files image text (IsSchedule text) (on_input limits x) told out result) b
+    (subst (λ (x : List (List ℕ)). ExecsTexts x image text (IsSchedule text) (on_input limits bytes) told out result) n h))))
 
 -- the files as they were handed on
 pub builds_of : (shelf : Shelving) (name : List ℕ) (files given : List (List ℕ)) (image : List ℕ) (result : Result Answer Refusal) → given ≡ files → Builds shelf name given image result → Builds shelf name files image result

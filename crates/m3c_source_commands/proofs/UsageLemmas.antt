@@ -7,9 +7,9 @@ use Rattle.m3_base.specs.declared.outcomes.Outcome.TheVariants.{Done, Fault, Unc
 use Rattle.m3_image_sections.specs.Parts.{Image}
 use Rattle.m3c_image_commands.specs.declared.answers.Answer.{Answer}
 use Rattle.m3c_image_commands.specs.declared.answers.Refusal.{Refusal}
-use Rattle.m3c_image_commands.specs.Statuses.{Shelving, Putting, LacksMemory, LacksOutput, Cuts, Refuses, Unfetched, read_fault, no_memory, absent, too_long, Tells}
+use Rattle.m3c_image_commands.specs.Statuses.{Shelving, Putting, PutsNothing, Only, IsRead, image_cap, LacksMemory, LacksOutput, Cuts, Refuses, Unfetched, read_fault, no_memory, absent, too_long, Tells}
 use Rattle.m3c_image_commands.specs.Reports.{Setting, Ended, end_status, within}
-use Rattle.m3c_image_commands.specs.ImageCommands.{on_input, ImageAnswer, image_refused, ended, RunAnswer, DumpAnswer, not_dumped, dumped}
+use Rattle.m3c_image_commands.specs.ImageCommands.{on_input, ImageAnswer, image_refused, ended, RunAnswer, DumpAnswer, not_dumped, dumped, CutsDump, no_memory as no_more, not_put}
 use Rattle.m3c_source_commands.specs.SourceCommands.{BuildAnswer, not_built, stored, ExecAnswer, not_run, no_schedule, run_ended, IsOfNumber}
 use Rattle.m3c_source_commands.specs.Orders.{Order, build, run, exec, dump, bench, Fulfils, bench_setting}
 
@@ -33,7 +33,7 @@ nine_other : (status : ℕ) → status ≡ 9 → status ≡ 2 → ⊥
 nine_other status n e = omega arith
 
 image_other : (image : List ℕ) (setting : Setting) (tells : Bool) (out : Putting) (status : ℕ) (line : List ℕ) → ImageAnswer image setting tells out status line → status ≡ 2 → ⊥
-image_other image setting tells out status line (image_refused l bad p) e = omega arith
+image_other image setting tells out status line (image_refused r bad p) e = omega arith
 image_other image setting tells out status line (ended i s l read h) e = ended_other i setting tells out status line h e
 
 run_other : (image switches : List ℕ) (setting : Setting) (tells : Bool) (out : Putting) (status : ℕ) (line : List ℕ) → RunAnswer image switches setting tells out status line → status ≡ 2 → ⊥
@@ -41,17 +41,17 @@ run_other image switches setting tells out status line (inl h) e = image_other i
 run_other image switches setting tells out status line (inr h) e = nine_other status h.0.0 e
 
 dump_other : (image : List ℕ) (out : Putting) (status : ℕ) (line : List ℕ) → DumpAnswer image out status line → status ≡ 2 → ⊥
-dump_other image out status line (not_dumped l bad p) e = omega arith
+dump_other image out status line (not_dumped r bad p) e = omega arith
 dump_other image out status line (dumped i text read says took) e = omega arith
 
-build_other : (shelf : Shelving) (name image : List ℕ) (status : ℕ) (line : List ℕ) → BuildAnswer shelf name image status line → status ≡ 2 → ⊥
-build_other shelf name image status line (not_built l s) e = omega arith
-build_other shelf name image status line (stored ok s) e = omega arith
+build_other : (shelf : Shelving) (files : List (List ℕ)) (name image : List ℕ) (status : ℕ) (line : List ℕ) → BuildAnswer shelf files name image status line → status ≡ 2 → ⊥
+build_other shelf files name image status line (not_built l r s) e = omega arith
+build_other shelf files name image status line (stored ok s) e = omega arith
 
-exec_other : (image switches : List ℕ) (MayRunBy : List Entry → Type 0) (setting : Setting) (tells : Bool) (out : Putting) (status : ℕ) (line : List ℕ) → ExecAnswer image switches MayRunBy setting tells out status line → status ≡ 2 → ⊥
-exec_other image switches MayRunBy setting tells out status line (not_run l p) e = omega arith
-exec_other image switches MayRunBy setting tells out status line (no_schedule s l h) e = nine_other status h.0 e
-exec_other image switches MayRunBy setting tells out status line (run_ended i schedule s l read may h) e = ended_other i _ tells out status line h e
+exec_other : (files : List (List ℕ)) (image switches : List ℕ) (MayRunBy : List Entry → Type 0) (setting : Setting) (tells : Bool) (out : Putting) (status : ℕ) (line : List ℕ) → ExecAnswer files image switches MayRunBy setting tells out status line → status ≡ 2 → ⊥
+exec_other files image switches MayRunBy setting tells out status line (not_run l r p) e = omega arith
+exec_other files image switches MayRunBy setting tells out status line (no_schedule s l h) e = nine_other status h.0 e
+exec_other files image switches MayRunBy setting tells out status line (run_ended i schedule s l read may h) e = ended_other i _ tells out status line h e
 
 -- ---- refusals
 
@@ -75,6 +75,15 @@ refused_other : (shelf : Shelving) (Reads : List ℕ → ℕ → Type 0) (out : 
 refused_other shelf Reads out r (inl h) e = unfetched_other shelf Reads r.status r.front.now r.name.now h.0 e
 refused_other shelf Reads out r (inr h) e = cut_other out r h e
 
+cut_dump_other : (image : List ℕ) (out : Putting) (r : Refusal) → CutsDump image out r → r.status ≡ 2 → ⊥
+cut_dump_other image out r (no_more m p) e = memory_other r m e
+cut_dump_other image out r (not_put i text read says lacks rose front) e = output_other r lacks e
+
+not_dumped_other : (shelf : Shelving) (name image : List ℕ) (out : Putting) (r : Refusal)
+    → (Unfetched shelf (Only name image_cap) r.status r.front.now r.name.now × PutsNothing out) ⊎ (IsRead shelf.held.0 name image_cap image × CutsDump image out r) → r.status ≡ 2 → ⊥
+not_dumped_other shelf name image out r (inl u) e = unfetched_other shelf (Only name image_cap) r.status r.front.now r.name.now u.0 e
+not_dumped_other shelf name image out r (inr d) e = cut_dump_other image out r d.1 e
+
 -- ---- commands
 
 -- the status of an answer or of a refusal
@@ -83,17 +92,17 @@ result_status (Ok a) = a.status
 result_status (Err r) = r.status
 
 fulfilled_other : (order : Order) (shelf : Shelving) (out : Putting) (image : List ℕ) (result : Result Answer Refusal) → Fulfils order shelf out image result → result_status result ≡ 2 → ⊥
-fulfilled_other (build name files) shelf out image (Ok a) h e = build_other shelf name image a.status a.line.items h.0 e
+fulfilled_other (build name files) shelf out image (Ok a) h e = build_other shelf files name image a.status a.line.items h.0.1 e
 fulfilled_other (build name files) shelf out image (Err r) (inl f, p) e = unfetched_other shelf _ r.status r.front.now r.name.now f.0 e
 fulfilled_other (build name files) shelf out image (Err r) (inr (inl m), p) e = memory_other r m.0 e
 fulfilled_other (build name files) shelf out image (Err r) (inr (inr o), p) e = output_other r o.0 e
 fulfilled_other (run name options) shelf out image (Ok a) h e = run_other image h.answer.1.0 (on_input (within options.bounds) h.answer.1.1) (is_some options.switches) out a.status a.line.items h.answer.1.4 e
 fulfilled_other (run name options) shelf out image (Err r) h e = refused_other shelf _ out r h.refusal e
-fulfilled_other (exec files options) shelf out image (Ok a) h e = exec_other image _ _ _ (is_some options.switches) out a.status a.line.items h.answer.4 e
+fulfilled_other (exec files options) shelf out image (Ok a) h e = exec_other files image _ _ _ (is_some options.switches) out a.status a.line.items h.answer.1.4 e
 fulfilled_other (exec files options) shelf out image (Err r) h e = refused_other shelf _ out r h.refusal e
 fulfilled_other (dump name) shelf out image (Ok a) h e = dump_other image out a.status a.line.items h.answer.1 e
-fulfilled_other (dump name) shelf out image (Err r) h e = refused_other shelf _ out r h.refusal e
-fulfilled_other (bench number) shelf out image (Ok a) h e = exec_other image [] (IsOfNumber number) bench_setting false out a.status a.line.items h.0 e
+fulfilled_other (dump name) shelf out image (Err r) h e = not_dumped_other shelf name image out r h.refusal e
+fulfilled_other (bench number) shelf out image (Ok a) h e = exec_other [] image [] (IsOfNumber number) bench_setting false out a.status a.line.items h.0 e
 fulfilled_other (bench number) shelf out image (Err r) h e = cut_other out r h.0 e
 
 told_other : (err : Putting) (result : Result Answer Refusal) → Tells err result 2 → result_status result ≡ 2

@@ -17,7 +17,7 @@ abbrev pub bench_setting : Setting
 bench_setting = within (record { points = 1000000; heap = 32768; stack = 16384; threads = 8 })
 
 -- what each command answers, and what it does to the shelf and to out; that of `bench` is a run by the schedule of its
--- number
+-- number, of a workload that breaks no rule
 abbrev pub Fulfils : Order → Shelving → Putting → List ℕ → Result Answer Refusal → Type 0
 Fulfils (build name files) shelf out image result = Builds shelf name files image result × PutsNothing out
 Fulfils (run name options) shelf out image result =
@@ -26,7 +26,7 @@ Fulfils (exec files options) shelf out image result =
     Execs shelf out files options.switches options.input (within options.bounds) image result
 Fulfils (dump name) shelf out image result = Dumps shelf out name image result
 Fulfils (bench number) shelf out image result =
-    ExecsTexts image [] (IsOfNumber number) bench_setting false out result × StoresNothing shelf
+    ExecsTexts [] image [] (IsOfNumber number) bench_setting false out result × StoresNothing shelf
 
 abbrev pub usage_line : List ℕ
 usage_line = codes "usage: m3c build, run, exec, dump or bench\n"

@@ -1,17 +1,18 @@
 -- What `build`, `exec` and `bench` answer.
-use Rattle.std.specs.Prelude.{ℕ, ◌≡◌, ◌+◌, ◌-◌, ◌⊎◌, min, Bool, Option, Some, IfSome, is_some, Result, Ok, IfOk, IfErr, IsOk, MatchResult, List, [], ◌∷◌, length, slice_get}
-use Rattle.std.specs.FinMap.{get}
+use Rattle.std.specs.Prelude.{ℕ, ◌≡◌, ◌+◌, ◌-◌, ◌⊎◌, min, Bool, Option, Some, is_some, Result, Ok, IfOk, IfErr, IsOk, MatchResult, List, [], ◌∷◌, ◌++◌, length, slice_get, codes, decimal}
 use Rattle.m3_ports.specs.Files.{Files}
 use Rattle.m3_image.specs.Images.{read_of}
 use Rattle.m3_image_sections.specs.Parts.{Image}
 use Rattle.m3c_image_commands.specs.declared.answers.Answer.{Answer}
 use Rattle.m3c_image_commands.specs.declared.answers.Refusal.{Refusal}
-use Rattle.m3c_image_commands.specs.Statuses.{Shelving, Putting, StoresNothing, StoresUnder, StoresFront, PutsNothing, IsGiven, OfOptions, Unfetched, LacksMemory, LacksOutput, Cuts, Refuses}
+use Rattle.m3c_image_commands.specs.Statuses.{Shelving, Putting, StoresNothing, StoresUnder, StoresFront, PutsNothing, IsRead, IsGiven, OfOptions, Unfetched, LacksMemory, LacksOutput, Cuts, Refuses}
 use Rattle.m3_base.specs.declared.outcomes.Entry.{Entry}
+use Rattle.m3_base.specs.Rules.{rule_text_of}
 use Rattle.m3_base.specs.Schedules.{IsSchedule}
 use Rattle.m3_workload.specs.Schedules.{schedule_of}
+use Rattle.m3c_image_commands.specs.Refusals.{IsScheduleLine}
 use Rattle.m3c_image_commands.specs.Reports.{Setting, Ended}
-use Rattle.m3c_image_commands.specs.ImageCommands.{IsNoSchedule, RefusesSwitches, by_schedule, on_input}
+use Rattle.m3c_image_commands.specs.ImageCommands.{RefusesSwitches, by_schedule, on_input}
 
 -- ---- the FILEs
 
@@ -26,24 +27,45 @@ abbrev pub total : List (List ℕ) → ℕ
 total [] = 0
 total (text ∷ texts) = length text + total texts
 
--- the texts of the first files, where the shelf tells what it holds
-abbrev pub AreRead : Option Files → List (List ℕ) → List (List ℕ) → Type 0
-AreRead held files texts =
-    (k : ℕ) (name text : List ℕ) → slice_get files k ≡ Some name → slice_get texts k ≡ Some text → IfSome held (λ all. get all name ≡ Some text)
+-- these are the texts of the first files: each was read within its cap and what the ones before it left for all
+abbrev pub AreRead : Option Files → ℕ → List (List ℕ) → List (List ℕ) → Type 0
+AreRead held left files [] = Unit {0}
+AreRead held left [] (text ∷ texts) = ⊥
+AreRead held left (name ∷ files) (text ∷ texts) = IsRead held name (min left source_cap) text × AreRead held (left - length text) files texts
 
--- one of the files, with the most bytes that it may have behind those that were read before it
+-- all of the files were read
+abbrev pub AreAllRead : Option Files → List (List ℕ) → Type 0
+AreAllRead held files = (texts : List (List ℕ)) × AreRead held sources_cap files texts × (length texts ≡ length files)
+
+-- one of the files, once those before it were read, with the most bytes that it may have behind them
 pub record OfFiles (held : Option Files) (files : List (List ℕ)) (name : List ℕ) (cap : ℕ) : Type 0 where
   pub texts : List (List ℕ)
-  pub read : AreRead held files texts
+  pub read : AreRead held sources_cap files texts
   pub next : slice_get files (length texts) ≡ Some name
   pub left : cap ≡ min (sources_cap - total texts) source_cap
 
 -- ---- sources that are refused
 
--- the sources break a rule, or the switches are no schedule; or memory ran out
-abbrev pub RefusesSources : List ℕ → Result Answer Refusal → Type 0
-RefusesSources switches result =
-    MatchResult result (λ a. (a.status ≡ 1) ⊎ ((a.status ≡ 9) × IsNoSchedule switches)) LacksMemory
+abbrev pub rule_line : List ℕ → ℕ → ℕ → ℕ → List ℕ → List ℕ
+rule_line name at column rule text =
+    name ++ codes ":" ++ decimal at ++ codes ":" ++ decimal column ++ codes ": rule " ++ decimal rule ++ codes " " ++ text ++ codes "\n"
+
+-- a line tells a rule, by its number and its text, and a line and a column of one of the files
+pub record IsRuleLine (files : List (List ℕ)) (line : List ℕ) : Type 0 where
+  pub file : ℕ
+  pub name : List ℕ
+  pub at : ℕ
+  pub column : ℕ
+  pub rule : ℕ
+  pub text : List ℕ
+  pub named : slice_get files file ≡ Some name
+  pub listed : rule_text_of rule ≡ Some text
+  pub said : line ≡ rule_line name at column rule text
+
+-- the sources break a rule, or the switches are no schedule, as the line tells; or memory ran out
+abbrev pub RefusesSources : List (List ℕ) → List ℕ → Result Answer Refusal → Type 0
+RefusesSources files switches result =
+    MatchResult result (λ a. ((a.status ≡ 1) × IsRuleLine files a.line.items) ⊎ ((a.status ≡ 9) × IsScheduleLine switches a.line.items)) LacksMemory
 
 -- ---- build
 
@@ -54,19 +76,20 @@ Stores shelf name bytes result =
     (λ r. (LacksMemory r × StoresNothing shelf) ⊎ (LacksOutput r × StoresFront shelf name bytes))
 
 -- the sources break a rule; or their image was stored
-pub data BuildAnswer (shelf : Shelving) (name image : List ℕ) : ℕ → List ℕ → Type 0 where
-  not_built : (line : List ℕ) → StoresNothing shelf → BuildAnswer shelf name image 1 line
-  stored : IsOk (read_of image) → StoresUnder shelf name image → BuildAnswer shelf name image 0 []
+pub data BuildAnswer (shelf : Shelving) (files : List (List ℕ)) (name image : List ℕ) : ℕ → List ℕ → Type 0 where
+  not_built : (line : List ℕ) → IsRuleLine files line → StoresNothing shelf → BuildAnswer shelf files name image 1 line
+  stored : IsOk (read_of image) → StoresUnder shelf name image → BuildAnswer shelf files name image 0 []
 
 -- a file can't be read or memory ran out, and all stays; or the store failed
 abbrev pub BuildRefuses : Shelving → List (List ℕ) → List ℕ → List ℕ → Refusal → Type 0
 BuildRefuses shelf files name image r =
     (Unfetched shelf (OfFiles shelf.held.0 files) r.status r.front.now r.name.now × StoresNothing shelf)
-    ⊎ ((LacksMemory r × StoresNothing shelf) ⊎ (LacksOutput r × StoresFront shelf name image))
+    ⊎ ((LacksMemory r × StoresNothing shelf) ⊎ (LacksOutput r × StoresFront shelf name image × AreAllRead shelf.held.0 files))
 
+-- `build`: where a rule is broken or an image was stored, all of the files were read
 abbrev pub Builds : Shelving → List ℕ → List (List ℕ) → List ℕ → Result Answer Refusal → Type 0
 Builds shelf name files image result =
-    MatchResult result (λ a. BuildAnswer shelf name image a.status a.line.items) (BuildRefuses shelf files name image)
+    MatchResult result (λ a. AreAllRead shelf.held.0 files × BuildAnswer shelf files name image a.status a.line.items) (BuildRefuses shelf files name image)
 
 -- ---- exec and bench
 
@@ -75,24 +98,25 @@ abbrev pub IsOfNumber : ℕ → List Entry → Type 0
 IsOfNumber number schedule = schedule ≡ schedule_of number
 
 -- the sources break a rule; the switches are no schedule; or the run of the sources' image by a schedule ended
-pub data ExecAnswer (image switches : List ℕ) (MayRunBy : List Entry → Type 0) (setting : Setting) (tells : Bool) (out : Putting) : ℕ → List ℕ → Type 0 where
-  not_run : (line : List ℕ) → PutsNothing out → ExecAnswer image switches MayRunBy setting tells out 1 line
-  no_schedule : (status : ℕ) (line : List ℕ) → RefusesSwitches switches out status → ExecAnswer image switches MayRunBy setting tells out status line
+pub data ExecAnswer (files : List (List ℕ)) (image switches : List ℕ) (MayRunBy : List Entry → Type 0) (setting : Setting) (tells : Bool) (out : Putting) : ℕ → List ℕ → Type 0 where
+  not_run : (line : List ℕ) → IsRuleLine files line → PutsNothing out → ExecAnswer files image switches MayRunBy setting tells out 1 line
+  no_schedule : (status : ℕ) (line : List ℕ) → RefusesSwitches switches out status line → ExecAnswer files image switches MayRunBy setting tells out status line
   run_ended : (i : Image) (schedule : List Entry) (status : ℕ) (line : List ℕ) → read_of image ≡ Ok i → MayRunBy schedule
-      → Ended i (by_schedule setting schedule) tells out status line → ExecAnswer image switches MayRunBy setting tells out status line
+      → Ended i (by_schedule setting schedule) tells out status line → ExecAnswer files image switches MayRunBy setting tells out status line
 
 -- what comes of sources and switches that are there
-abbrev pub ExecsTexts : List ℕ → List ℕ → (List Entry → Type 0) → Setting → Bool → Putting → Result Answer Refusal → Type 0
-ExecsTexts image switches MayRunBy setting tells out result =
-    MatchResult result (λ a. ExecAnswer image switches MayRunBy setting tells out a.status a.line.items) (Cuts out)
+abbrev pub ExecsTexts : List (List ℕ) → List ℕ → List ℕ → (List Entry → Type 0) → Setting → Bool → Putting → Result Answer Refusal → Type 0
+ExecsTexts files image switches MayRunBy setting tells out result =
+    MatchResult result (λ a. ExecAnswer files image switches MayRunBy setting tells out a.status a.line.items) (Cuts out)
 
--- the files that `exec` reads
+-- the files that `exec` reads, in this order: the FILEs, and once all of them were read, those of the options
 abbrev pub OfExec : Option Files → List (List ℕ) → Option (List ℕ) → Option (List ℕ) → List ℕ → ℕ → Type 0
-OfExec held files switches input n c = OfFiles held files n c ⊎ OfOptions switches input n c
+OfExec held files switches input n c = OfFiles held files n c ⊎ (AreAllRead held files × OfOptions held switches input n c)
 
 -- `exec`: the switches and the input are those that are named, and the line tells collections where switches are named
 pub record Execs (shelf : Shelving) (out : Putting) (files : List (List ℕ)) (switches input : Option (List ℕ)) (limits : Setting) (image : List ℕ) (result : Result Answer Refusal) : Type 0 where
   pub held : StoresNothing shelf
-  pub answer : IfOk result (λ a. (text : List ℕ) × (bytes : List ℕ) × IsGiven shelf.held.0 switches text × IsGiven shelf.held.0 input bytes
-      × ExecAnswer image text (IsSchedule text) (on_input limits bytes) (is_some switches) out a.status a.line.items)
+  pub answer : IfOk result (λ a. AreAllRead shelf.held.0 files
+      × ((text : List ℕ) × (bytes : List ℕ) × IsGiven shelf.held.0 switches text × IsGiven shelf.held.0 input bytes
+      × ExecAnswer files image text (IsSchedule text) (on_input limits bytes) (is_some switches) out a.status a.line.items))
   pub refusal : IfErr result (Refuses shelf (OfExec shelf.held.0 files switches input) out)

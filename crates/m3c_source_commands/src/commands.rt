@@ -1,5 +1,6 @@
 //! The commands.
-ghost use Rattle.std.specs.Prelude.{◌≡◌, false, [], None, Result, IfOk, IfErr, IsOk, is_some, map};
+ghost use Rattle.std.specs.Prelude.{◌≡◌, false, [], ◌∷◌, None, Result, IfOk, IfErr};
+ghost use Rattle.std.specs.Prelude.{IsOk, is_some, map};
 ghost use Rattle.m3c_words.specs.Ranges.{AreUsual};
 ghost use Rattle.m3c_words.specs.Orders.{name_of};
 ghost use Rattle.m3_image.specs.Images.{read_of};
@@ -12,6 +13,7 @@ ghost use Rattle.m3_base.specs.Schedules.{IsSchedule};
 ghost use Rattle.m3c_image_commands.specs.ImageCommands.{on_input};
 ghost use Rattle.m3c_source_commands.specs.SourceCommands.{Builds, Execs, ExecsTexts, IsOfNumber};
 ghost use Rattle.m3c_source_commands.specs.SourceCommands.{RefusesSources, Stores};
+ghost use Rattle.m3c_source_commands.specs.Texts.{names_of};
 ghost use Rattle.m3c_source_commands.specs.Orders.{Fulfils, Commands, bench_setting, order_of};
 ghost use Rattle.m3c_source_commands.specs.Orders.{usual_setting};
 
@@ -55,18 +57,20 @@ fn store_refusal(fault: ShelfFault) -> Refusal<'static>
 /// Puts the bytes of a program's image into `image`, and gives the schedule of its switch file.
 fn compile_into(
     alloc: Global,
+    names: &[&str],
     sources: Result<Vec<Source<'_>>, NoMemory>,
     switches: &[u8],
     image: &mut Vec<u8>,
 ) -> Result<Vec<Entry>, Result<Answer, Refusal<'static>>>
     ensures ok { IfOk result (λ entries. IsOk (read_of image.new.items)) }
     ensures schedule { IfOk result (λ entries. IsSchedule switches.now entries.items) }
-    ensures err { IfErr result (RefusesSources switches.now) }
+    ensures err { IfErr result
+        (RefusesSources (map (λ n. n.now) names.now) switches.now) }
 {
     let Ok(sources) = sources else {
         return Err(Err(Refusal::NO_MEMORY));
     };
-    let (bytes, schedule) = compile(alloc, &sources, switches)?;
+    let (bytes, schedule) = compile(alloc, names, &sources, switches)?;
     *image = bytes;
     Ok(schedule)
 }
@@ -84,7 +88,7 @@ fn build_files<'a, F: Shelf>(
 {
     let sources = fetch_sources(alloc, shelf, files)?;
     let views = views_of(alloc, &sources.names, &sources.texts);
-    match compile_into(alloc, views, b"", image) {
+    match compile_into(alloc, files, views, b"", image) {
         Ok(_) => store_image(alloc, name, shelf, image),
         Err(answer) => answer,
     }
@@ -124,13 +128,13 @@ fn exec_sources<'a, O: Sink>(
     out: &mut O,
     image: &mut Vec<u8>,
 ) -> Result<Answer, Refusal<'static>>
-    ensures { ExecsTexts image.new.items given.now.switches.items
+    ensures { ExecsTexts (names_of sources.now) image.new.items given.now.switches.items
         (IsSchedule given.now.switches.items)
         (on_input (setting_of options.entry.limits) given.now.input.items)
         (is_some options.entry.switches) (putting O.Sink out.old out.new) result }
 {
     let views = views_of(alloc, &sources.names, &sources.texts);
-    match compile_into(alloc, views, &given.switches, image) {
+    match compile_into(alloc, &sources.names, views, &given.switches, image) {
         Ok(schedule) => {
             let run = Run {
                 limits: options.limits,
@@ -175,15 +179,17 @@ fn exec_one<O: Sink>(
     out: &mut O,
     image: &mut Vec<u8>,
 ) -> Result<Answer, Refusal<'static>>
-    ensures { ExecsTexts image.new.items [] (IsSchedule []) usual_setting false
+    ensures { ExecsTexts (name.now ∷ []) image.new.items [] (IsSchedule []) usual_setting false
         (putting O.Sink out.old out.new) result }
 {
     let mut sources = Sources::new(alloc);
-    if sources.add(name, text).is_err() {
-        return Err(Refusal::NO_MEMORY);
+    match sources.add(name, text) {
+        Ok(()) => {
+            let given = no_files(alloc);
+            exec_sources(alloc, &sources, &given, no_options(), out, image)
+        }
+        Err(_) => Err(Refusal::NO_MEMORY),
     }
-    let given = no_files(alloc);
-    exec_sources(alloc, &sources, &given, no_options(), out, image)
 }
 
 /// Runs the program of one file, without options: `exec FILE` where its text is there already.
@@ -198,7 +204,7 @@ pub fn exec_text<O: Sink, E: Sink>(
     image: &mut Vec<u8>,
 ) -> u8
     ensures { (answer : Result AnswerValue RefusalValue)
-        × ExecsTexts image.new.items [] (IsSchedule []) usual_setting false
+        × ExecsTexts (name.now ∷ []) image.new.items [] (IsSchedule []) usual_setting false
         (putting O.Sink out.old out.new) answer
         × Tells (putting E.Sink err.old err.new) answer result }
 {
@@ -213,14 +219,15 @@ fn bench<O: Sink>(
     out: &mut O,
     image: &mut Vec<u8>,
 ) -> Result<Answer, Refusal<'static>>
-    ensures { ExecsTexts image.new.items [] (IsOfNumber number) bench_setting false
+    ensures { ExecsTexts [] image.new.items [] (IsOfNumber number) bench_setting false
         (putting O.Sink out.old out.new) result }
 {
     let Ok(workload) = make(alloc, number) else {
         return Err(Refusal::NO_MEMORY);
     };
     let views = views_of_bytes(alloc, &workload.names, &workload.texts);
-    match compile_into(alloc, views, b"", image) {
+    // The workload breaks no rule, so no line names a file of it.
+    match compile_into(alloc, &[], views, b"", image) {
         Ok(_) => {
             let run = Run {
                 limits: Limits::of_bench(),

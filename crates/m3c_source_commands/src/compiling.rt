@@ -1,44 +1,77 @@
 //! From sources to the bytes of an image.
-ghost use Rattle.std.specs.Prelude.{◌≡◌, ◌<◌, ℕ, List, true, length, All, IfOk, IfErr, IsOk};
+ghost use Rattle.std.specs.Prelude.{◌≡◌, ◌<◌, ◌++◌, ℕ, List, true, length, map, All, IfOk};
+ghost use Rattle.std.specs.Prelude.{IfErr, IsOk, OnOk, codes, decimal};
 ghost use Rattle.m3_base.specs.Schedules.{IsSchedule};
 ghost use Rattle.m3_image.specs.Images.{read_of};
-ghost use Rattle.m3c_source_commands.specs.SourceCommands.{RefusesSources};
+ghost use Rattle.m3c_source_commands.specs.SourceCommands.{IsRuleLine, RefusesSources, rule_line};
 
 use bumpalo::Bump;
 use bumpalo::collections::into_bump_slice;
-use m3_base::{Entry, NoMemory, Refusal as Broken, Refused, Source, rule_text};
+use m3_base::{Entry, NoMemory, Refusal as Broken, Refused, Source, gap, rule_text};
 use m3_build::build;
 use m3_checker::check;
 use m3_core::Core;
-use m3c_image_commands::{Answer, Refusal, schedule_of};
+use m3c_image_commands::{Answer, Refusal, push_number, schedule_of};
 use std::alloc::{AllocError, Global};
 
 /// What a command goes on with, or what it answers.
 pub type Step<'r, T> = Result<T, Result<Answer, Refusal<'r>>>;
 
-/// The line of the least broken rule.
-fn rule_line(alloc: Global, sources: &[Source<'_>], broken: Broken) -> Result<Vec<u8>, AllocError> {
+/// Adds a place in a file: its name, a line and a column.
+fn push_place(line: &mut Vec<u8>, name: &str, at: u32, column: u32) -> Result<(), AllocError>
+    ensures { OnOk result (line.new.items ≡ line.old.items
+        ++ (name.now ++ codes ":" ++ decimal at ++ codes ":" ++ decimal column)) }
+{
+    line.extend_from_slice(name.as_bytes())?;
+    line.extend_from_slice(b":")?;
+    push_number(line, at)?;
+    line.extend_from_slice(b":")?;
+    push_number(line, column)
+}
+
+/// Adds a rule: its number and its text.
+fn push_rule(line: &mut Vec<u8>, rule: u16, text: &str) -> Result<(), AllocError>
+    ensures { OnOk result (line.new.items ≡ line.old.items
+        ++ (codes ": rule " ++ decimal rule ++ codes " " ++ text.now ++ codes "\n")) }
+{
+    line.extend_from_slice(b": rule ")?;
+    push_number(line, u32::from(rule))?;
+    line.extend_from_slice(b" ")?;
+    line.extend_from_slice(text.as_bytes())?;
+    Ok(line.extend_from_slice(b"\n")?)
+}
+
+/// The line of a broken rule, at its place in a file of this name.
+fn rule_line(alloc: Global, name: &str, broken: Broken, text: &str) -> Result<Vec<u8>, AllocError>
+    ensures { IfOk result (λ line. line.items
+        ≡ rule_line name.now broken.pos.line broken.pos.col broken.rule text.now) }
+{
     let mut line = Vec::new(alloc);
-    if let Some(source) = sources.get(broken.pos.file as usize) {
-        line.extend_from_slice(source.name)?;
-    }
-    let text = rule_text(broken.rule).unwrap_or("");
-    let (at, column, rule) = (broken.pos.line, broken.pos.col, broken.rule);
-    let rest = format!(in alloc; ":{at}:{column}: rule {rule} {text}\n")?;
-    line.extend_from_slice(rest.as_bytes())?;
+    push_place(&mut line, name, broken.pos.line, broken.pos.col)?;
+    push_rule(&mut line, broken.rule, text)?;
     Ok(line)
 }
 
-fn refuse(
-    alloc: Global,
-    sources: &[Source<'_>],
-    refused: Refused,
-) -> Result<Answer, Refusal<'static>>
-    ensures { (switches : List ℕ) → RefusesSources switches result }
+/// The line of a broken rule of files of these names.
+fn line_of(alloc: Global, names: &[&str], broken: Broken) -> Result<Vec<u8>, NoMemory>
+    ensures { IfOk result (λ line. IsRuleLine (map (λ n. n.now) names.now) line.items) }
+{
+    let Some(name) = names.get(broken.pos.file as usize) else {
+        return Err(gap());
+    };
+    let Some(text) = rule_text(broken.rule) else {
+        return Err(gap());
+    };
+    Ok(rule_line(alloc, *name, broken, text)?)
+}
+
+fn refuse(alloc: Global, names: &[&str], refused: Refused) -> Result<Answer, Refusal<'static>>
+    ensures { (switches : List ℕ)
+        → RefusesSources (map (λ n. n.now) names.now) switches result }
 {
     match refused {
         Refused::NoMemory => Err(Refusal::NO_MEMORY),
-        Refused::Rule(broken) => match rule_line(alloc, sources, broken) {
+        Refused::Rule(broken) => match line_of(alloc, names, broken) {
             Ok(line) => Ok(Answer { status: 1, line }),
             Err(_) => Err(Refusal::NO_MEMORY),
         },
@@ -90,21 +123,23 @@ fn image_of<'a>(alloc: Global, arena: &'a Bump, core: Core<'a>) -> Result<Vec<u8
 /// The schedule that the lines of a switch file say.
 fn schedule_in(alloc: Global, switches: &[u8]) -> Step<'static, Vec<Entry>>
     ensures ok { IfOk result (λ entries. IsSchedule switches.now entries.items) }
-    ensures err { IfErr result (RefusesSources switches.now) }
+    ensures err { (files : List (List ℕ)) → IfErr result (RefusesSources files switches.now) }
 {
     schedule_of(alloc, switches)
 }
 
 /// The image of a program, and the schedule of a switch file, whose lines are read once the sources
-/// are accepted.
+/// are accepted. The names are those of the sources.
 pub fn compile(
     alloc: Global,
+    names: &[&str],
     sources: &[Source<'_>],
     switches: &[u8],
 ) -> Step<'static, (Vec<u8>, Vec<Entry>)>
     ensures ok { IfOk result (λ built. IsOk (read_of built.0.items)) }
     ensures schedule { IfOk result (λ built. IsSchedule switches.now built.1.items) }
-    ensures err { IfErr result (RefusesSources switches.now) }
+    ensures err { IfErr result
+        (RefusesSources (map (λ n. n.now) names.now) switches.now) }
 {
     let owner = Bump::new(alloc);
     let arena = &owner;
@@ -116,7 +151,7 @@ pub fn compile(
     }
     let core = match check(alloc, arena, copies.as_slice()) {
         Ok(core) => core,
-        Err(refused) => return Err(refuse(alloc, sources, refused)),
+        Err(refused) => return Err(refuse(alloc, names, refused)),
     };
     let schedule = schedule_in(alloc, switches)?;
     match image_of(alloc, arena, core) {

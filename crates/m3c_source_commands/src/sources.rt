@@ -1,8 +1,8 @@
 //! The FILEs of a command.
 ghost use Rattle.std.specs.Prelude.{◌≡◌, [], ◌∷◌, ◌++◌, OnOk, IfOk, map, min};
 ghost use Rattle.m3c_image_commands.specs.Statuses.{Fetches, Only, shelving};
-ghost use Rattle.m3c_source_commands.specs.SourceCommands.{OfFiles, source_cap};
-ghost use Rattle.m3c_source_commands.specs.Texts.{texts_of, IsNext};
+ghost use Rattle.m3c_source_commands.specs.SourceCommands.{AreAllRead, OfFiles, source_cap};
+ghost use Rattle.m3c_source_commands.specs.Texts.{names_of, texts_of, IsNext};
 
 use m3_base::{Bytes, NoMemory, Source};
 use m3_ports::Shelf;
@@ -25,7 +25,8 @@ pub struct Sources<'a> {
 impl<'a> Sources<'a> {
     /// No file yet.
     pub fn new(alloc: Global) -> Sources<'a>
-        ensures { result.texts.items ≡ [] }
+        ensures names { result.names.items ≡ [] }
+        ensures texts { result.texts.items ≡ [] }
     {
         Sources {
             names: Vec::new(alloc),
@@ -35,7 +36,9 @@ impl<'a> Sources<'a> {
 
     /// Adds a file behind the others.
     pub fn add(&mut self, name: &'a str, text: Vec<u8>) -> Result<(), NoMemory>
-        ensures { OnOk result (self.new.texts.items ≡ self.old.texts.items ++ text ∷ []) }
+        ensures names { OnOk result (self.new.names.items ≡ self.old.names.items
+            ++ name.entry ∷ []) }
+        ensures texts { OnOk result (self.new.texts.items ≡ self.old.texts.items ++ text ∷ []) }
     {
         self.names.push(name)?;
         self.texts.push(text)?;
@@ -56,6 +59,7 @@ fn fetch_next<'a, F: Shelf>(
         (Only name.now (min left source_cap)) result }
     ensures read { IfOk result
         (IsNext (F.held shelf.old) name.now left (texts_of sources.old) (texts_of sources.new)) }
+    ensures named { OnOk result (names_of sources.new ≡ names_of sources.old ++ name.now ∷ []) }
 {
     let mut text = Vec::new(alloc);
     fetch(alloc, shelf, name, left.min(SOURCE_CAP), &mut text)?;
@@ -66,20 +70,22 @@ fn fetch_next<'a, F: Shelf>(
     }
 }
 
-/// Fetches the FILEs, each within its cap and what is left for all.
+/// Fetches the FILEs in their order, each within its cap and what is left for all.
 pub fn fetch_sources<'a, F: Shelf>(
     alloc: Global,
     shelf: &mut F,
     files: &[&'a str],
 ) -> Result<Sources<'a>, Refusal<'a>>
-    ensures { Fetches (shelving F.Shelf shelf.old shelf.new)
+    ensures fetches { Fetches (shelving F.Shelf shelf.old shelf.new)
         (OfFiles (F.held shelf.old) (map (λ n. n.now) files.entry.now)) result }
+    ensures read { OnOk result (AreAllRead (F.held shelf.old) (map (λ n. n.now) files.entry.now)) }
+    ensures named { IfOk result (λ sources. names_of sources ≡ map (λ n. n.now) files.entry.now) }
 {
     let mut sources = Sources::new(alloc);
     let mut left = SOURCES_CAP;
     'files: for place in 0..files.len() {
         let Some(name) = files.get(place) else {
-            break;
+            unreachable!();
         };
         match fetch_next(alloc, shelf, *name, left, &mut sources) {
             Ok(rest) => left = rest,

@@ -2,4 +2,4 @@ use Rattle.std.proofs.Common.{◌≡◌, false}
 use Rattle.m3_heap_bench.proofs.builders.list.Given as goal
 
 abbrev pub invariant-loop-number : goal.invariant-loop-number
-invariant-loop-number l = l.heap.halves.heap.is_open ≡ false
+invariant-loop-number l = l.heap.halves.is_open ≡ false

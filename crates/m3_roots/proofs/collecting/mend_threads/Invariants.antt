@@ -1,4 +1,4 @@
-use Rattle.std.specs.Prelude.{◌≡◌, ℕ, List}
+use Rattle.std.specs.Prelude.{◌≡◌, ◌≤◌, ◌+◌, ℕ, List, take}
 use Rattle.m3_heap.specs.Cells.{Cell}
 use Rattle.m3_heap.specs.Moves.{Move}
 use Rattle.m3_threads.specs.All.{Everyone}
@@ -6,6 +6,7 @@ use Rattle.m3_image_decoded.specs.Ready.{image_of}
 use Rattle.m3_roots.specs.RoomSizes.{IsRoomFor}
 use Rattle.m3_roots.specs.Gathering.{GoesOn}
 use Rattle.m3_roots.specs.ThreadsGathered.{AllGathered, Mended}
+use Rattle.m3_roots.specs.Steps.{all_list}
 use Rattle.m3_roots.proofs.collecting.mend_threads.Given as goal
 
 abbrev pub invariant-loop-place : goal.invariant-loop-place
@@ -16,4 +17,6 @@ invariant-loop-place g l =
       forks : l.threads.forks ≡ l.initial.threads.forks;
       waits : l.threads.waits ≡ l.initial.threads.waits;
       mended : (cells : List Cell) (first : Everyone) (start moves last : List Move) → (all : AllGathered p cells first l.initial.threads start moves) → GoesOn moves last → IsRoomFor l.initial.threads.stack l.initial.room → Mended p last all.walks first l.initial.threads l.threads l.place;
+      cost : (cells : List Cell) (first : Everyone) (start moves last : List Move) → (all : AllGathered p cells first l.initial.threads start moves) → GoesOn moves last → IsRoomFor l.initial.threads.stack l.initial.room
+          → l.steps ≤ l.initial.steps + all_list p (take l.place all.walks);
     }

@@ -1,8 +1,11 @@
-use Rattle.std.proofs.Common.{◌≡◌, ℕ, length, refl, sym, ap, subst, rules}
+use Rattle.std.proofs.Common.{◌≡◌, ℕ, ◌+◌, length, take, refl, arith, sym, ap, subst, rules}
 use Rattle.m3_heap.specs.Heap.{Heap}
 use Rattle.m3_threads.specs.All.{words_of}
 use Rattle.m3_image_decoded.specs.Ready.{image_of}
 use Rattle.m3_roots.specs.RoomSizes.{IsRoomFor}
+use Rattle.m3_roots.specs.Collected.{frames_at}
+use Rattle.m3_roots.specs.Steps.{rows_list, all_list}
+use Rattle.m3_roots.proofs.StepCounts.{frames_still, cost_add, all_more, all_taken}
 use Rattle.m3_roots.proofs.GoodLemmas.{IsGood, good_of}
 use Rattle.m3_roots.proofs.VisitLemmas.{keeps_twice}
 use Rattle.m3_roots.proofs.CollectedLemmas.{thread_at, stack_words, gathered_to_none, visit_step, visit_stop, all_visited, all_at_last}
@@ -64,6 +67,7 @@ loop-place-init g c = record {
   forks = refl;
   waits = refl;
   gathered = λ room. (let first = g.S.Store.heap c.args.store.now in gathered_to_none (image_of c.args.image.now).program first.cells c.args.threads.now first.moves);
+  cost = λ room walks framed. omega arith;
 }
 
 pub loop-place-preserved : goal.loop-place-preserved
@@ -88,4 +92,43 @@ loop-place-preserved g c = record {
       let room_now = subst (λ (m : ℕ). IsRoomFor m c.loop-place.room) (sym depth) (inv.room all.stack room) in
       let same : mid.cells ≡ first.cells = ap (λ (x : Heap). x.cells) inv.heap in
       visit_step p good first.cells mid.cells all now c.visit_thread.new.threads first.moves mid.moves (g.S.Store.heap c.visit_thread.new.store).moves n th.t same c.in-Some.ensures.sound th.at h (c.if-not-visit_thread.ensures.gathered th.t th.named room_now));
+  cost = λ room walks framed. (let p = (image_of c.args.image.now).program in
+      let first = g.S.Store.heap c.args.store.now in
+      let mid = g.S.Store.heap c.loop-place.store in
+      let new = g.S.Store.heap c.visit_thread.new.store in
+      let n = c.loop-place.place in
+      let inv = c.loop-place.invariant in
+      let h = inv.gathered room in
+      let th = thread_at c.loop-place.threads n c.in-Some.thread c.in-Some.ensures.sound c.in-Some.ensures.number in
+      let still = frames_still p first.cells c.args.threads.now c.loop-place.threads first.moves mid.moves n h.walks walks th.t h.gathered framed th.at in
+      let all = cost_add first mid new c.args.steps.now c.loop-place.steps c.visit_thread.new.steps (all_list p (take n walks)) (rows_list p (frames_at walks n)) inv.heap (c.if-not-visit_thread.ensures.cost th.t (frames_at walks n) th.named still.0) (inv.cost room walks framed) in
+      let one = all_more p walks n still.1 in
+      omega (arith, all, one));
 }
+
+pub returns-then-not-visit_thread-clause-cost : goal.returns-then-not-visit_thread-clause-cost
+returns-then-not-visit_thread-clause-cost g c = λ room walks framed. (let p = (image_of c.args.image.now).program in
+    let first = g.S.Store.heap c.args.store.now in
+    let mid = g.S.Store.heap c.loop-place.store in
+    let new = g.S.Store.heap c.visit_thread.new.store in
+    let n = c.loop-place.place in
+    let inv = c.loop-place.invariant in
+    let h = inv.gathered room in
+    let th = thread_at c.loop-place.threads n c.in-Some.thread c.in-Some.ensures.sound c.in-Some.ensures.number in
+    let still = frames_still p first.cells c.args.threads.now c.loop-place.threads first.moves mid.moves n h.walks walks th.t h.gathered framed th.at in
+    let all = cost_add first mid new c.args.steps.now c.loop-place.steps c.visit_thread.new.steps (all_list p (take n walks)) (rows_list p (frames_at walks n)) inv.heap (c.if-not-visit_thread.ensures.cost th.t (frames_at walks n) th.named still.0) (inv.cost room walks framed) in
+    let one = all_more p walks n still.1 in
+    let most = all_taken p (n + 1) walks in
+    omega (arith, all, one, most))
+
+pub returns-in_default-clause-cost : goal.returns-in_default-clause-cost
+returns-in_default-clause-cost g c = λ room walks framed.
+    (let so_far = c.loop-place.invariant.cost room walks framed in
+    let most = all_taken (image_of c.args.image.now).program c.loop-place.place walks in
+    omega (arith, so_far, most))
+
+pub returns-clause-cost : goal.returns-clause-cost
+returns-clause-cost g c = λ room walks framed.
+    (let so_far = c.loop-place.invariant.cost room walks framed in
+    let most = all_taken (image_of c.args.image.now).program c.loop-place.place walks in
+    omega (arith, so_far, most))

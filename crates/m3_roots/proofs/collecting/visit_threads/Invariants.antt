@@ -1,7 +1,10 @@
-use Rattle.std.specs.Prelude.{◌≡◌, ℕ, List, true}
+use Rattle.std.specs.Prelude.{◌≡◌, ℕ, List, true, take}
 use Rattle.m3_heap.specs.Shapes.{Shape}
 use Rattle.m3_image_decoded.specs.Ready.{image_of}
 use Rattle.m3_roots.specs.RoomSizes.{IsRoomFor}
+use Rattle.m3_run_frames.specs.declared.frame.Frame.{Frame}
+use Rattle.m3_roots.specs.Collected.{AllFramed}
+use Rattle.m3_roots.specs.Steps.{VisitCosts, all_list}
 use Rattle.m3_roots.specs.Visiting.{KeepsHeap}
 use Rattle.m3_roots.proofs.CollectedLemmas.{GatheredTo}
 use Rattle.m3_roots.proofs.collecting.visit_threads.Given as goal
@@ -18,4 +21,6 @@ invariant-loop-place g l =
       forks : l.threads.forks ≡ l.initial.threads.forks;
       waits : l.threads.waits ≡ l.initial.threads.waits;
       gathered : IsRoomFor l.initial.threads.stack l.initial.room → GatheredTo (image_of l.image).program first.cells l.initial.threads l.threads first.moves now.moves l.place;
+      cost : IsRoomFor l.initial.threads.stack l.initial.room → (walks : List (List Frame)) → AllFramed (image_of l.image).program l.initial.threads walks
+          → VisitCosts first now l.initial.steps l.steps (all_list (image_of l.image).program (take l.place walks));
     }

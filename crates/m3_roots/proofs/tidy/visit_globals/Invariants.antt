@@ -1,5 +1,6 @@
-use Rattle.std.specs.Prelude.{◌≡◌, true, List}
+use Rattle.std.specs.Prelude.{◌≡◌, ◌+◌, ◌≤◌, true, List, length}
 use Rattle.m3_tables.specs.Views.{numbers_of}
+use Rattle.m3_heap.specs.Moves.{kept_words}
 use Rattle.m3_heap.specs.Shapes.{Shape}
 use Rattle.m3_image_decoded.specs.Ready.{image_of}
 use Rattle.m3_roots.specs.Visiting.{VisitsPart, KeepsHeap}
@@ -14,4 +15,5 @@ invariant-loop-number g l =
       heap : KeepsHeap first now;
       fitting : (shapes : List Shape) → g.S.Store.fits l.initial.store shapes → g.S.Store.fits l.store shapes;
       part : VisitsPart first.cells (image_of l.image).program.globals.pointers l.initial.globals first.moves (numbers_of l.number-iterator) l.globals now.moves;
+      cost : l.steps + kept_words first.cells first.moves + length (numbers_of l.number-iterator) ≤ l.initial.steps + length (image_of l.image).program.globals.pointers + kept_words first.cells now.moves;
     }

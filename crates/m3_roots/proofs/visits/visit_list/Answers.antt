@@ -1,7 +1,8 @@
-use Rattle.std.proofs.Common.{◌+◌, ◌<◌, [], ◌∷◌, ◌++◌, length, get_or, drop, rules, arith}
+use Rattle.std.proofs.Common.{ℕ, List, ap, ◌∙◌, ◌+◌, ◌<◌, [], ◌∷◌, ◌++◌, length, get_or, drop, rules, arith}
 use Rattle.std.proofs.lemmas.List.{drop_more}
 use Rattle.m3_roots.specs.ThreadWords.{place_from, places_from}
 use Rattle.m3_roots.proofs.VisitLemmas.{keeps_twice, part_more}
+use Rattle.m3_roots.proofs.StepCounts.{cost_more}
 use Rattle.m3_roots.proofs.visits.visit_list.Goals as goal
 
 pub loop-number-preserved : goal.loop-number-preserved
@@ -21,4 +22,5 @@ loop-number-preserved g c =
       heap = keeps_twice first before after c.loop-number.invariant.heap c.if-not-visit_at.ensures.heap;
       fitting = search rules;
       part = part_more first before after (places_from c.args.first all) (c.args.r.now ++ c.args.stack.now) (place_from c.args.first number ∷ []) (places_from c.args.first rest) words (c.visit_at.new.r ++ c.visit_at.new.stack) c.loop-number.invariant.heap part c.if-not-visit_at.ensures.heap c.if-not-visit_at.ensures.visited;
+      cost = cost_more first before after c.args.steps.now c.loop-number.steps c.visit_at.new.steps 1 (length (drop index all)) (length rest) (length all) c.loop-number.invariant.heap c.if-not-visit_at.ensures.cost (ap (λ (ns : List ℕ). length ns) (drop_more all index 0 lt) ∙ (omega arith)) c.loop-number.invariant.cost;
     }

@@ -1,4 +1,5 @@
-use Rattle.std.specs.Prelude.{◌≡◌, ◌++◌, true, List, drop}
+use Rattle.std.specs.Prelude.{◌≡◌, ◌++◌, ◌+◌, ◌≤◌, true, List, length, drop}
+use Rattle.m3_heap.specs.Moves.{kept_words}
 use Rattle.m3_heap.specs.Shapes.{Shape}
 use Rattle.m3_roots.specs.ThreadWords.{places_from}
 use Rattle.m3_roots.specs.Visiting.{VisitsPart, KeepsHeap}
@@ -13,4 +14,5 @@ invariant-loop-number g l =
       heap : KeepsHeap first now;
       fitting : (shapes : List Shape) → g.S.Store.fits l.initial.store shapes → g.S.Store.fits l.store shapes;
       part : VisitsPart first.cells (places_from l.first l.numbers) (l.initial.r ++ l.initial.stack) first.moves (places_from l.first (drop l.number-index l.numbers)) (l.r ++ l.stack) now.moves;
+      cost : l.steps + kept_words first.cells first.moves + length (drop l.number-index l.numbers) ≤ l.initial.steps + length l.numbers + kept_words first.cells now.moves;
     }

@@ -1,7 +1,8 @@
-use Rattle.std.proofs.Common.{[], ◌∷◌, ◌++◌, rules}
+use Rattle.std.proofs.Common.{ℕ, List, length, [], ◌∷◌, ◌++◌, ap, ◌∙◌, arith, rules}
 use Rattle.m3_tables.specs.Views.{numbers_of}
 use Rattle.m3_roots.specs.ThreadWords.{place_from, places_from}
 use Rattle.m3_roots.proofs.VisitLemmas.{keeps_twice, part_more}
+use Rattle.m3_roots.proofs.StepCounts.{cost_more}
 use Rattle.m3_roots.proofs.visits.visit_numbers.Goals as goal
 
 pub loop-number-preserved : goal.loop-number-preserved
@@ -19,4 +20,5 @@ loop-number-preserved g c =
       heap = keeps_twice first before after c.loop-number.invariant.heap c.if-not-visit_at.ensures.heap;
       fitting = search rules;
       part = part_more first before after (places_from c.args.first all) (c.args.r.now ++ c.args.stack.now) (place_from c.args.first number ∷ []) (places_from c.args.first rest) words (c.visit_at.new.r ++ c.visit_at.new.stack) c.loop-number.invariant.heap part c.if-not-visit_at.ensures.heap c.if-not-visit_at.ensures.visited;
+      cost = cost_more first before after c.args.steps.now c.loop-number.steps c.visit_at.new.steps 1 (length (numbers_of c.loop-number.number-iterator)) (length rest) (length all) c.loop-number.invariant.heap c.if-not-visit_at.ensures.cost (ap (λ (ns : List ℕ). length ns) c.in-Some.ensures.steps ∙ (omega arith)) c.loop-number.invariant.cost;
     }

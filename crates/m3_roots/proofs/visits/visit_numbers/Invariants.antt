@@ -1,5 +1,6 @@
-use Rattle.std.specs.Prelude.{◌≡◌, ◌++◌, true, List}
+use Rattle.std.specs.Prelude.{◌≡◌, ◌++◌, ◌+◌, ◌≤◌, true, List, length}
 use Rattle.m3_tables.specs.Views.{numbers_of}
+use Rattle.m3_heap.specs.Moves.{kept_words}
 use Rattle.m3_heap.specs.Shapes.{Shape}
 use Rattle.m3_roots.specs.ThreadWords.{places_from}
 use Rattle.m3_roots.specs.Visiting.{VisitsPart, KeepsHeap}
@@ -14,4 +15,5 @@ invariant-loop-number g l =
       heap : KeepsHeap first now;
       fitting : (shapes : List Shape) → g.S.Store.fits l.initial.store shapes → g.S.Store.fits l.store shapes;
       part : VisitsPart first.cells (places_from l.first (numbers_of l.fn.numbers)) (l.initial.r ++ l.initial.stack) first.moves (places_from l.first (numbers_of l.number-iterator)) (l.r ++ l.stack) now.moves;
+      cost : l.steps + kept_words first.cells first.moves + length (numbers_of l.number-iterator) ≤ l.initial.steps + length (numbers_of l.fn.numbers) + kept_words first.cells now.moves;
     }

@@ -1,5 +1,5 @@
 use Rattle.std.proofs.Common.{◌≡◌, true, arith}
-use Rattle.m3_types_subtype.proofs.Stepping.{no_reveal, reveals_more, reveals_all}
+use Rattle.m3_types_subtype.proofs.Stepping.{reveals_more, reveals_all}
 use Rattle.m3_types_subtype.proofs.seen.full_among.Goals as goal
 
 pub loop-reveal-preserved : goal.loop-reveal-preserved

@@ -1,4 +1,4 @@
-use Rattle.std.proofs.Common.{◌<◌, length, get_or, arith}
+use Rattle.std.proofs.Common.{◌<◌, length, arith}
 use Rattle.std.specs.Prelude.{Contains}
 use Rattle.std.proofs.lemmas.List.Elements.{All-get_or, All-contains_itself}
 use Rattle.m3_types_subtype.specs.Reaching.{Has, BoundAbove}

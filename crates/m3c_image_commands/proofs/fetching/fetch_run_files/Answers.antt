@@ -2,8 +2,9 @@ use Rattle.std.proofs.Common.{refl}
 use Rattle.m3c_image_commands.proofs.FetchLemmas.{fails_as, fails_after, among_switches, among_input}
 use Rattle.m3c_image_commands.proofs.fetching.fetch_run_files.Goals as goal
 
-pub returns-in-Err-clause-fetches : goal.returns-in-Err-clause-fetches
-returns-in-Err-clause-fetches g c = fails_as (among_switches _ _) c.in-Err.ensures.fetches
+pub returns-in-Ok-clause-fetches : goal.returns-in-Ok-clause-fetches
+returns-in-Ok-clause-fetches g c =
+    fails_after (among_input _ _ _ _ c.in-Ok.ensures.ok) c.fetch_named.ensures.fetches c.in-Err-fetch_named.ensures.fetches (record { held = refl; faults = refl; store_faults = refl; absences = refl; excesses = refl })
 
 pub returns-clause-fetches : goal.returns-clause-fetches
-returns-clause-fetches g c = fails_after (among_input _ _) c.fetch_named.ensures.fetches c.in-Err-fetch_named.ensures.fetches (record { held = refl; faults = refl; store_faults = refl; absences = refl; excesses = refl })
+returns-clause-fetches g c = fails_as (among_switches _ _ _) c.in-Err.ensures.fetches

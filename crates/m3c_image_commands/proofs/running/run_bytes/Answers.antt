@@ -6,4 +6,4 @@ pub returns-in-Ok : goal.returns-in-Ok
 returns-in-Ok g c = ends_image c.args.bytes.now _ _ _ c.run_view.result _ c.in-Ok.ensures.ok c.run_view.ensures
 
 pub returns-in-Err : goal.returns-in-Err
-returns-in-Err g c = refuses_image c.args.bytes.now _ _ _ c.in-Err.answer c.in-Err.ensures.err.0 c.in-Err.ensures.err.1 refl
+returns-in-Err g c = refuses_image c.args.bytes.now _ _ _ c.in-Err.answer c.in-Err.ensures.err.0 refl

@@ -9,7 +9,7 @@ use Rattle.m3c_image_commands.proofs.running.run_fetched.Goals as goal
 pub returns-in-Err : goal.returns-in-Err
 returns-in-Err g c =
     let setting = setting_of_run c.args.run in
-    refused_bytes c.args.bytes.now setting _ _ c.args.switches.now c.in-Err.answer c.in-Err.ensures.err.1 (refuses_image c.args.bytes.now setting _ _ c.in-Err.answer c.in-Err.ensures.err.0 c.in-Err.ensures.err.1 refl)
+    refused_bytes c.args.bytes.now setting _ _ c.args.switches.now c.in-Err.answer c.in-Err.ensures.err.1 (refuses_image c.args.bytes.now setting _ _ c.in-Err.answer c.in-Err.ensures.err.0 refl)
 
 pub returns-in-Ok-schedule_of : goal.returns-in-Ok-schedule_of
 returns-in-Ok-schedule_of g c =

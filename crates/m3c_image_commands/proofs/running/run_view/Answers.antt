@@ -1,5 +1,3 @@
-use Rattle.std.proofs.Common.{ap}
-use Rattle.m3_heap.specs.Semi.{Semi}
 use Rattle.m3_image.specs.Views.{image_view}
 use Rattle.m3_run_state.specs.Seen.{state_of, program_of}
 use Rattle.m3c_image_commands.proofs.RunLemmas.{begins_first, ends_run}
@@ -14,4 +12,4 @@ returns-in-Ok-run g c =
     let few = begins_first i.program _ limits.threads limits.stack limits.points (state_of m) begun limits.points_fit in
     let ran = c.in-Ok-run.ensures.ran c.in-Ok-made.ensures.ready few in
     ends_run i _ c.args.run.tells_collections _ (program_of m) m.input.now _ (state_of m) (state_of c.run.new.self.parts) c.in-Ok-run.outcome c.answer_of.result.status c.answer_of.result.line.items c.in-Ok-made.ensures.program c.in-Ok-made.ensures.input
-    (ap (λ (s : Semi). s.heap) c.in-Ok-new.ensures) begun ran c.answer_of.ensures.status c.answer_of.ensures.line
+    c.in-Ok-new.ensures begun ran c.answer_of.ensures.status c.answer_of.ensures.line

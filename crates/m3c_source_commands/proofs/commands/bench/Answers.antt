@@ -8,9 +8,9 @@ use Rattle.m3c_source_commands.proofs.commands.bench.Goals as goal
 
 pub returns-in-Ok-compile_into : goal.returns-in-Ok-compile_into
 returns-in-Ok-compile_into g c =
-    execs_ran c.compile_into.new.image.items [] (IsOfNumber c.args.number) bench_setting false _ c.deref-in-Ok-compile_into.result.now (c.deref-in-Ok-compile_into.ensures.value ∙ c.in-Ok.ensures.schedule)
+    execs_ran [] c.compile_into.new.image.items [] (IsOfNumber c.args.number) bench_setting false _ c.deref-in-Ok-compile_into.result.now (c.deref-in-Ok-compile_into.ensures.value ∙ c.in-Ok.ensures.schedule)
     c.deref-in-Ok-compile_into-2.result.now false _ c.run_bytes.result c.deref-in-Ok-compile_into-2.ensures.value refl
     (ap (λ (s : Setting). by_schedule s c.deref-in-Ok-compile_into.result.now) (bench_limits c.of_bench.result c.of_bench.ensures)) c.in-Ok-compile_into.ensures.ok c.run_bytes.ensures
 
 pub returns : goal.returns
-returns g c = execs_refused _ [] (IsOfNumber c.args.number) bench_setting false _ c.in-Err.answer c.in-Err.ensures.err refl
+returns g c = execs_refused [] _ [] (IsOfNumber c.args.number) bench_setting false _ c.in-Err.answer c.in-Err.ensures.err refl

@@ -8,8 +8,8 @@ pub returns-in-Ok : goal.returns-in-Ok
 returns-in-Ok g c =
     let a : Shelving = shelving g.F.Shelf c.args.shelf.now c.fetch_sources.new.shelf in
     let b : Shelving = shelving g.F.Shelf c.fetch_sources.new.shelf c.store_image.new.shelf in
-    builds_stored _ c.args.name.now (map (λ n. n.now) c.args.files.now) c.compile_into.new.image.items c.deref-in-Ok.result.now c.store_image.result c.deref-in-Ok.ensures.value
-    (stores_on a b (record { held = refl; faults = refl; store_faults = refl; absences = refl; excesses = refl }) (rises c.fetch_sources.ensures) c.args.name.now c.deref-in-Ok.result.now c.store_image.result c.store_image.ensures) c.in-Ok.ensures.ok
+    builds_stored _ c.args.name.now (map (λ n. n.now) c.args.files.now) c.compile_into.new.image.items c.deref-in-Ok.result.now c.store_image.result c.deref-in-Ok.ensures.value c.in_ok-sources.ensures.read
+    (stores_on a b (record { held = refl; faults = refl; store_faults = refl; absences = refl; excesses = refl }) (rises c.fetch_sources.ensures.fetches) c.args.name.now c.deref-in-Ok.result.now c.store_image.result c.store_image.ensures) c.in-Ok.ensures.ok
 
 pub returns : goal.returns
-returns g c = builds_refused _ c.args.name.now (map (λ n. n.now) c.args.files.now) c.compile_into.new.image.items c.in-Err.answer c.in-Err.ensures.err c.in_ok-sources.ensures.held
+returns g c = builds_refused _ c.args.name.now (map (λ n. n.now) c.args.files.now) c.compile_into.new.image.items c.in-Err.answer c.in_ok-sources.ensures.read c.in-Err.ensures.err c.in_ok-sources.ensures.fetches.held

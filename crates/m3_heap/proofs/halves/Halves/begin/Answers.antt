@@ -1,9 +1,8 @@
-use Rattle.std.proofs.Common.{◌≡◌, true, [], sym, ap, ◌∙◌, arith, inl, inr, ⊎_elim}
-use Rattle.m3_heap.specs.Semi.{Semi, first_base, second_base}
+use Rattle.std.proofs.Common.{◌≡◌, true, [], refl, sym, ap, ◌∙◌, arith, inl, inr, ⊎_elim}
+use Rattle.m3_heap.specs.Heap.{Heap, first_base, second_base}
 use Rattle.m3_heap.specs.CollectorHalves.{AreAtRest, semi_heap}
 use Rattle.m3_heap.specs.CollectorTracing.{Traces}
 use Rattle.m3_heap.proofs.SemiLemmas.{semi-sound, is-closed, at-rest, bases-high, begun, begun-moving, opened}
-use Rattle.m3_heap.proofs.FinishLemmas.{semi-halves}
 use Rattle.m3_heap.proofs.halves.Halves.begin.Goals as goal
 
 rest : (c : goal.After-self-1) → AreAtRest c.self.inside.here
@@ -25,12 +24,12 @@ invariant_of-self c = record {
   as_open = begun-moving c.self.inside.here c.clear.new.self (rest c) (traces c);
 }
 
-seen : (c : goal.After-self-1) → semi_heap true c.self.inside.here c.clear.new.self c.self.inside.asked c.self.inside.fulls ≡ record c.args.self.now.heap { is_open = true; moves = [] }
+seen : (c : goal.After-self-1) → semi_heap true c.self.inside.here c.clear.new.self c.self.inside.copied c.self.inside.asked c.self.inside.fulls ≡ record c.args.self.now { is_open = true; moves = [] }
 seen c =
     let closed = is-closed c.self.inside c.args.self.now c.self.view_is c.requires.closed in
-    opened c.self.inside.here c.clear.new.self c.self.inside.asked c.self.inside.fulls (traces c)
-    ∙ ap (λ b. record (semi_heap b c.self.inside.here c.self.inside.there c.self.inside.asked c.self.inside.fulls) { is_open = true; moves = [] }) (sym closed)
-    ∙ ap (λ (s : Semi). record s.heap { is_open = true; moves = [] }) c.self.view_is
+    opened c.self.inside.here c.clear.new.self c.self.inside.copied c.self.inside.asked c.self.inside.fulls (traces c)
+    ∙ ap (λ b. record (semi_heap b c.self.inside.here c.self.inside.there c.self.inside.copied c.self.inside.asked c.self.inside.fulls) { is_open = true; moves = [] }) (sym closed)
+    ∙ ap (λ (h : Heap). record h { is_open = true; moves = [] }) c.self.view_is
 
 pub returns-clause-opened : goal.returns-clause-opened
 returns-clause-opened c = seen c
@@ -38,5 +37,5 @@ returns-clause-opened c = seen c
 pub returns-clause-sound : goal.returns-clause-sound
 returns-clause-sound c = semi-sound _ (invariant_of-self c)
 
-pub returns-clause-halves : goal.returns-clause-halves
-returns-clause-halves c = semi-halves _ (invariant_of-self c)
+pub returns-clause-of_halves : goal.returns-clause-of_halves
+returns-clause-of_halves c = refl

@@ -32,7 +32,7 @@ returns-in-Some-clause-ran g c = λ ready small.
     let over = subst (λ (o : Option Outcome). Turned (program_of m) k told.0 c.next_turn.new.left n o) c.in-Some.is told.2 in (
       so.0 ++ told.0,
       took_more _ _ _ so.0 told.0 so.1 told.1,
-      ran_over (program_of m) m.input.now c.args.points s c.args.schedule.now c.turns.entries.now so.0 told.0 c.next_turn.new.left n c.in-Some.outcome over,
+      ran_over (program_of m) m.input.now c.args.points s c.args.schedule.now c.turns.entries.now so.0 told.0 c.next_turn.new.left n c.in-Some.outcome known.course over,
     )
 
 pub returns-in-Some-clause-ready : goal.returns-in-Some-clause-ready
@@ -80,12 +80,13 @@ returns-clause-ran g c = λ ready small.
     let s = state_of m in
     let inv = c.turns.invariant in
     let so = inv.came ready small in
+    let known = known_so m a c.args.schedule.now c.turns.entries.now c.args.points so.0 c.know_image.ensures.begins c.know_image.ensures.short ready small (ap (λ (r : Rest). r.program) inv.rest) (ap (λ (r : Rest). r.input) inv.rest) (ap (λ (r : Rest). r.stack) inv.rest) in
     let few : a.made < 2 ^ 63 = omega (arith, so.2.made, so.2.points, small) in
     let none : c.turns.left ≡ 0 = omega (arith, c.turns-test.false) in
     let says = subst (λ (q : Program). Says_spent q (state_of a) c.spent.result) (ap (λ (r : Rest). r.program) inv.rest) (c.spent.ensures few) in (
       so.0 ++ [],
       took_more _ _ _ so.0 [] so.1 (took_nothing _),
-      ran_out (program_of m) m.input.now c.args.points s c.args.schedule.now c.turns.entries.now so.0 c.turns.left a c.spent.result none so.2 says,
+      ran_out (program_of m) m.input.now c.args.points s c.args.schedule.now c.turns.entries.now so.0 c.turns.left a c.spent.result known.course none so.2 says,
     )
 
 pub returns-clause-ready : goal.returns-clause-ready

@@ -1,6 +1,6 @@
-use Rattle.std.specs.Prelude.{ℕ, List}
+use Rattle.std.specs.Prelude.{ℕ, List, Some}
 use Rattle.std.proofs.Common.{subst, sym, rules, arith}
-use Rattle.m3_heap.specs.Cells.{AddsCell, new_cell}
+use Rattle.m3_heap.specs.Heap.{Allots}
 use Rattle.m3_image_decoded.specs.Ready.{image_of}
 use Rattle.m3_isa.specs.Effects.{at_hand}
 use Rattle.m3_run_loop.specs.Leading.{program_in, Goes_on}
@@ -18,5 +18,5 @@ returns-in-Some-clause-goes g c =
     let heap = g.S.Store.heap m.outside.heap.store in
     let heap' = g.S.Store.heap n.heap.store in
     subst (λ (gs : List ℕ). Goes_on p c.args.self.stack c.args.i old m.threads m.outside.globals.items heap new m.threads gs heap') (sym c.allocate.ensures.globals)
-    (goes_made (program_in (image_of c.args.self.image.now).program m) c.args.self.stack c.args.i (at_hand c.args.r.now c.args.at.pc c.args.at.fp) (at_hand c.give.new.r to.pc to.fp)
-    m.threads m.outside.globals.items (g.S.Store.heap m.outside.heap.store) (g.S.Store.heap n.heap.store) c.in_ok-words.words c.in-Some.cell c.requires.operation (search rules) (omega (arith, c.if-free_words-words.false, c.free_words.ensures)) (subst (λ (kind : ℕ). AddsCell (g.S.Store.heap m.outside.heap.store).cells (new_cell c.in-Some.cell kind c.in_ok-words.words) (g.S.Store.heap n.heap.store).cells) (search rules) c.in-Some.ensures.made) c.allocate.ensures.counts c.in-Some.ensures.asked (search rules))
+    (goes_made p c.args.self.stack c.args.i old new m.threads m.outside.globals.items heap heap' c.in_ok-words.words c.in-Some.cell c.requires.operation (search rules)
+    (subst (λ (kind : ℕ). Allots heap kind c.in_ok-words.words (Some c.in-Some.cell) heap') (search rules) c.in-Some.ensures.allots) (g.met.S.Store.sound n.heap.store).laws (search rules))

@@ -1,4 +1,4 @@
-use Rattle.std.proofs.Common.{◌≡◌, ℕ, zero, suc, ◌+◌, sym, subst, arith}
+use Rattle.std.proofs.Common.{◌≡◌, suc, ◌+◌, sym, subst, arith}
 use Rattle.m3_types_subtype.specs.Heights.{HasHeight, top, below}
 use Rattle.m3_types_subtype.proofs.Levels.{height_of_sum}
 use Rattle.m3_types_subtype.proofs.heights.Heights.count.Goals as goal

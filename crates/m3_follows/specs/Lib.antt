@@ -1,0 +1,5 @@
+pub mod Settings
+pub mod Source
+pub mod Frames
+pub mod Follows
+pub mod Laws
