@@ -8,11 +8,13 @@ use Rattle.m3_mid_meaning.specs.Memory.{Memory, Around}
 use Rattle.m3_mid_meaning.specs.States.{State, state_with, with_memory}
 use Rattle.m3_mid_meaning.specs.Points.{Answer, state_with_any, state_with_raised}
 use Rattle.m3_mid_meaning.proofs.WordSums.{normal_is, times_normal, number_normal}
-use Rattle.m3_same_run.specs.declared.forms.Symbol.{Symbol}
-use Rattle.m3_same_run.specs.Forms.{Form}
-use Rattle.m3_same_run.specs.Check.{Standing, lasts, forget, new_word, newest, set_left, set_right, told, told_raised}
-use Rattle.m3_same_run.specs.Fits.{Means, with_new, Fits}
-use Rattle.m3_same_run.proofs.Sums.{new_is, means_still}
+use Rattle.m3_same_forms.specs.declared.forms.Symbol.{Symbol}
+use Rattle.m3_same_forms.specs.Forms.{Form}
+use Rattle.m3_same_forms.specs.Facts.{lasts}
+use Rattle.m3_same_run.specs.Check.{Standing, forget, new_word, newest, set_left, set_right, told, told_raised}
+use Rattle.m3_same_forms.specs.Meaning.{Means, with_new}
+use Rattle.m3_same_run.specs.Fits.{Fits}
+use Rattle.m3_same_forms.proofs.Sums.{new_is, means_still}
 use Rattle.m3_same_run.proofs.Fitting.{fits_left, fits_right, fits_new, fits_memory, newest_old}
 
 abbrev pub alerted : Answer → Word

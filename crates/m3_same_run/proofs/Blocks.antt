@@ -21,16 +21,19 @@ use Rattle.m3_mid_meaning.specs.Meaning.{arm_of, raised_by}
 use Rattle.m3_mid_meaning.specs.Machinery.{over, leave, run_ops, run_block, run_blocks}
 use Rattle.m3_mid_meaning.specs.Runs.{start_of, FollowsRun}
 use Rattle.m3_mid_meaning.proofs.WordSums.{normal_is, number_normal}
-use Rattle.m3_same_run.specs.declared.forms.Symbol.{Symbol}
-use Rattle.m3_same_run.specs.declared.forms.Symbol.TheVariants as symbols
-use Rattle.m3_same_run.specs.Forms.{Form, Query, Known, Setting, Pair, merge, scaled, of_symbol}
-use Rattle.m3_same_run.specs.Seen.{operand_form}
-use Rattle.m3_same_run.specs.Check.{Standing, form_at, left_form, right_form, value_at, advance, steps, symbol_form, now_onto, form_now, query_now, fits_at, all_fit, is_form, known, all_known, enters, goes_to, same_words, same_value, learn_test, end_with, no_ops, ended, ends_so, is_old, old_form, old_settings, old_query, old_knowns, standing_at, blocks_so, pair_so, pairs_so, no_settings, no_knowns, starts, same_run}
-use Rattle.m3_same_run.specs.Fits.{OldSymbol, Old, OldQuery, eval, Means, IsWords, given, Says, AllTrue, Fits}
-use Rattle.m3_same_run.proofs.Codes.{both, same_number, is_relation, is_fault, is_place, are_slots}
-use Rattle.m3_same_run.proofs.Sums.{merge_eval, scaled_eval, same_eval, symbol_eval, eval_normal, commutes, associates, nothing, zero_add}
-use Rattle.m3_same_run.proofs.Seeing.{operand_means}
-use Rattle.m3_same_run.proofs.Knowing.{is_answer}
+use Rattle.m3_same_forms.specs.declared.forms.Symbol.{Symbol}
+use Rattle.m3_same_forms.specs.declared.forms.Symbol.TheVariants as symbols
+use Rattle.m3_same_forms.specs.Forms.{Form, Query, Known, Setting, Pair, merge, scaled, of_symbol}
+use Rattle.m3_same_forms.specs.Seen.{operand_form}
+use Rattle.m3_same_forms.specs.Sides.{form_at, value_at}
+use Rattle.m3_same_forms.specs.Facts.{is_form, known}
+use Rattle.m3_same_run.specs.Check.{Standing, left_form, right_form, advance, steps, symbol_form, now_onto, form_now, query_now, fits_at, all_fit, all_known, enters, goes_to, same_words, same_value, learn_test, end_with, no_ops, ended, ends_so, is_old, old_form, old_settings, old_query, old_knowns, standing_at, blocks_so, pair_so, pairs_so, no_settings, no_knowns, starts, same_run}
+use Rattle.m3_same_forms.specs.Meaning.{OldSymbol, Old, OldQuery, eval, Means, IsWords, given, Says, AllTrue}
+use Rattle.m3_same_run.specs.Fits.{Fits}
+use Rattle.m3_same_forms.proofs.Codes.{both, same_number, is_relation, is_fault, is_place, are_slots}
+use Rattle.m3_same_forms.proofs.Sums.{merge_eval, scaled_eval, same_eval, symbol_eval, eval_normal, commutes, associates, nothing, zero_add}
+use Rattle.m3_same_forms.proofs.Seeing.{operand_means}
+use Rattle.m3_same_forms.proofs.Knowing.{is_answer}
 use Rattle.m3_same_run.proofs.RightGoes.{Ends, advance_so}
 use Rattle.m3_same_run.proofs.Steps.{Defined, undefined_so, fits_true, fits_false}
 use Rattle.m3_same_run.proofs.Together.{steps_so}

@@ -9,18 +9,19 @@ use Rattle.m3_mid_meaning.specs.Words.{Word, IsNormal, normal}
 use Rattle.m3_mid_meaning.specs.Memory.{Memory, Around}
 use Rattle.m3_mid_meaning.specs.States.{State, state_with, with_memory, with_own}
 use Rattle.m3_mid_meaning.proofs.WordSums.{normal_is}
-use Rattle.m3_same_run.specs.declared.forms.Symbol.{Symbol}
-use Rattle.m3_same_run.specs.declared.forms.Symbol.TheVariants as symbols
-use Rattle.m3_same_run.specs.declared.forms.Tag.TheVariants as tags
-use Rattle.m3_same_run.specs.Forms.{Form, Query, Setting, same_symbol}
-use Rattle.m3_same_run.specs.Seen.{asks}
-use Rattle.m3_same_run.specs.Check.{Standing, form_at, left_form, right_form, setting, set_left, set_right, learn, lasts, is_other_slot, forget, at_ops, new_word, newest}
-use Rattle.m3_same_run.specs.Fits.{Old, OldQuery, eval, Means, AllMean, with_new, IsWords, Says, Fits}
-use Rattle.m3_same_run.proofs.Sums.{eval_normal, means_still}
-use Rattle.m3_same_run.proofs.Knowing.{kept_true, lasting, other_slots, true_still}
-
-abbrev pub with_temps : State → (ℕ → Word) → State
-with_temps s temps = record s { temps = temps }
+use Rattle.m3_same_forms.specs.declared.forms.Symbol.{Symbol}
+use Rattle.m3_same_forms.specs.declared.forms.Symbol.TheVariants as symbols
+use Rattle.m3_same_forms.specs.declared.forms.Tag.TheVariants as tags
+use Rattle.m3_same_forms.specs.Forms.{Form, Query, Setting, same_symbol}
+use Rattle.m3_same_forms.specs.Seen.{asks}
+use Rattle.m3_same_forms.specs.Sides.{form_at}
+use Rattle.m3_same_forms.specs.Facts.{lasts, is_other_slot}
+use Rattle.m3_same_run.specs.Check.{Standing, left_form, right_form, setting, set_left, set_right, learn, forget, at_ops, new_word, newest}
+use Rattle.m3_same_forms.specs.Meaning.{Old, OldQuery, eval, Means, AllMean, with_new, IsWords, Says}
+use Rattle.m3_same_run.specs.Fits.{Fits}
+use Rattle.m3_same_forms.proofs.Sums.{eval_normal, means_still}
+use Rattle.m3_same_forms.proofs.Events.{with_temps}
+use Rattle.m3_same_forms.proofs.Knowing.{kept_true, lasting, other_slots, true_still}
 
 means_if : (v : Symbol → Word) (n : ℕ) (a b : Form) (w x : Word) (t : Bool) → Means v n a w → Means v n b x → Means v n (if t then a else b) (if t then w else x)
 means_if v n a b w x true h i = h

@@ -1,15 +1,9 @@
-pub mod Codes
-pub mod Sums
-pub mod Seeing
-pub mod Knowing
 pub mod Fitting
 pub mod RightGoes
-pub mod Events
 pub mod Answering
 pub mod Steps
 pub mod Replies
 pub mod Together
 pub mod Blocks
-pub mod Differ
 pub mod FollowingJumps
 pub mod WholeRun

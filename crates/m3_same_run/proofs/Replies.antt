@@ -16,13 +16,13 @@ use Rattle.m3_mid_meaning.specs.Points.{Event, Answer, Outcome, event_of, effect
 use Rattle.m3_mid_meaning.specs.Meaning.{effect_of}
 use Rattle.m3_mid_meaning.specs.Machinery.{Progress, Following, over, behind, go_on, carry_out}
 use Rattle.m3_mid_meaning.specs.Laws.{preceded}
-use Rattle.m3_same_run.specs.declared.forms.Symbol.{Symbol}
-use Rattle.m3_same_run.specs.Same.{same_point}
-use Rattle.m3_same_run.specs.Forms.{Form}
+use Rattle.m3_same_forms.specs.declared.forms.Symbol.{Symbol}
+use Rattle.m3_same_forms.specs.Same.{same_point}
+use Rattle.m3_same_forms.specs.Forms.{Form}
 use Rattle.m3_same_run.specs.Check.{Standing, left_form, right_form, passed, newest, setting, told, told_raised, set_left, set_right}
 use Rattle.m3_same_run.specs.Fits.{Fits}
-use Rattle.m3_same_run.proofs.Codes.{both, same_number, is_choice, is_service, is_place}
-use Rattle.m3_same_run.proofs.Events.{call_same, make_same, serve_same, event_same}
+use Rattle.m3_same_forms.proofs.Codes.{both, same_number, is_choice, is_service, is_place}
+use Rattle.m3_same_forms.proofs.Events.{call_same, make_same, serve_same, event_same}
 use Rattle.m3_same_run.proofs.Fitting.{fits_left, fits_right}
 use Rattle.m3_same_run.proofs.Answering.{alerted, v5, five, behind_point, fits_answer, result_means, exception_means, number_means, tidy_means, alerted_means, told_left, told_right, raised_left, raised_right}
 use Rattle.m3_same_run.proofs.Steps.{Defined, undefined_so, Later, Rest, Does}

@@ -19,17 +19,19 @@ use Rattle.m3_mid_meaning.specs.Points.{Answer, Outcome, Plain}
 use Rattle.m3_mid_meaning.specs.Meaning.{effect_of}
 use Rattle.m3_mid_meaning.specs.Machinery.{carry_out, run_ops, run_block, run_blocks}
 use Rattle.m3_mid_meaning.proofs.WordSums.{normal_is}
-use Rattle.m3_same_run.specs.declared.forms.Symbol.{Symbol}
-use Rattle.m3_same_run.specs.declared.forms.Tag.TheVariants as tags
-use Rattle.m3_same_run.specs.declared.seen.Seen.{Seen}
-use Rattle.m3_same_run.specs.declared.seen.Seen.TheVariants.{Sets, Computes, Tries, Checks, Keeps, Changes, Points}
-use Rattle.m3_same_run.specs.Forms.{Form, Query}
-use Rattle.m3_same_run.specs.Seen.{asks, seen}
-use Rattle.m3_same_run.specs.Check.{Standing, right_form, set_right, known, holds, at_ops, set_known, go_right, advance, in_block, follow, resolve}
-use Rattle.m3_same_run.specs.Fits.{eval, checked_word, answer_to, Fits}
-use Rattle.m3_same_run.proofs.Sums.{eval_normal}
-use Rattle.m3_same_run.proofs.Seeing.{OldSeen, does, seen_so}
-use Rattle.m3_same_run.proofs.Knowing.{known_so, holds_so}
+use Rattle.m3_same_forms.specs.declared.forms.Symbol.{Symbol}
+use Rattle.m3_same_forms.specs.declared.forms.Tag.TheVariants as tags
+use Rattle.m3_same_forms.specs.declared.seen.Seen.{Seen}
+use Rattle.m3_same_forms.specs.declared.seen.Seen.TheVariants.{Sets, Computes, Tries, Checks, Keeps, Changes, Points}
+use Rattle.m3_same_forms.specs.Forms.{Form, Query}
+use Rattle.m3_same_forms.specs.Seen.{asks, seen}
+use Rattle.m3_same_forms.specs.Facts.{known, holds}
+use Rattle.m3_same_run.specs.Check.{Standing, right_form, set_right, at_ops, set_known, go_right, advance, in_block, follow, resolve}
+use Rattle.m3_same_forms.specs.Meaning.{eval, checked_word, answer_to}
+use Rattle.m3_same_run.specs.Fits.{Fits}
+use Rattle.m3_same_forms.proofs.Sums.{eval_normal}
+use Rattle.m3_same_forms.proofs.Seeing.{OldSeen, does, seen_so}
+use Rattle.m3_same_forms.proofs.Knowing.{known_so, holds_so}
 use Rattle.m3_same_run.proofs.Fitting.{fits_right, fits_at, fits_in}
 
 -- a word that is there, whose normal form is known

@@ -16,18 +16,20 @@ use Rattle.m3_mid_meaning.specs.States.{State, Undefined, Goes, sets, sets_or_fa
 use Rattle.m3_mid_meaning.specs.Points.{Answer, Outcome, Effect, Plain}
 use Rattle.m3_mid_meaning.specs.Machinery.{Following, over, go_on, carry_out, run_ops, run_blocks}
 use Rattle.m3_mid_meaning.proofs.WordSums.{normal_is, number_normal, times_normal}
-use Rattle.m3_same_run.specs.declared.forms.Symbol.{Symbol}
-use Rattle.m3_same_run.specs.declared.forms.Symbol.TheVariants as symbols
-use Rattle.m3_same_run.specs.declared.forms.Tag.TheVariants as tags
-use Rattle.m3_same_run.specs.declared.seen.Deed.{Deed}
-use Rattle.m3_same_run.specs.Forms.{Form, Query, same_form, of_symbol}
-use Rattle.m3_same_run.specs.Seen.{asks}
-use Rattle.m3_same_run.specs.Same.{same_checked, same_relation, same_deed, same_fault, same_place}
-use Rattle.m3_same_run.specs.Check.{Standing, set_left, learn, known, holds, lasts, is_other_slot, forget, new_word, newest, both_tried, when}
-use Rattle.m3_same_run.specs.Fits.{Old, OldQuery, eval, with_new, Means, checked_word, given, answer_to, changed, Fits}
-use Rattle.m3_same_run.proofs.Codes.{both, same_number, is_checked, is_relation, is_deed, is_fault, is_place}
-use Rattle.m3_same_run.proofs.Sums.{same_eval, symbol_eval, stays, new_is}
-use Rattle.m3_same_run.proofs.Knowing.{known_so, holds_so, older_query}
+use Rattle.m3_same_forms.specs.declared.forms.Symbol.{Symbol}
+use Rattle.m3_same_forms.specs.declared.forms.Symbol.TheVariants as symbols
+use Rattle.m3_same_forms.specs.declared.forms.Tag.TheVariants as tags
+use Rattle.m3_same_forms.specs.declared.seen.Deed.{Deed}
+use Rattle.m3_same_forms.specs.Forms.{Form, Query, same_form, of_symbol}
+use Rattle.m3_same_forms.specs.Seen.{asks}
+use Rattle.m3_same_forms.specs.Same.{same_checked, same_relation, same_deed, same_fault, same_place}
+use Rattle.m3_same_forms.specs.Facts.{known, holds, lasts, is_other_slot}
+use Rattle.m3_same_run.specs.Check.{Standing, set_left, learn, forget, new_word, newest, both_tried, when}
+use Rattle.m3_same_forms.specs.Meaning.{Old, OldQuery, eval, with_new, Means, checked_word, given, answer_to, changed}
+use Rattle.m3_same_run.specs.Fits.{Fits}
+use Rattle.m3_same_forms.proofs.Codes.{both, same_number, is_checked, is_relation, is_deed, is_fault, is_place}
+use Rattle.m3_same_forms.proofs.Sums.{same_eval, symbol_eval, stays, new_is}
+use Rattle.m3_same_forms.proofs.Knowing.{known_so, holds_so, older_query}
 use Rattle.m3_same_run.proofs.Fitting.{fits_left, fits_right, fits_learn, fits_new, fits_memory, fits_own, newest_old}
 use Rattle.m3_same_run.proofs.RightGoes.{Ends, some_word, checked_so}
 

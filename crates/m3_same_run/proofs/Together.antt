@@ -19,17 +19,19 @@ use Rattle.m3_mid_meaning.specs.Points.{Answer, Outcome}
 use Rattle.m3_mid_meaning.specs.Meaning.{effect_of}
 use Rattle.m3_mid_meaning.specs.Machinery.{Following, go_on, carry_out, run_ops}
 use Rattle.m3_mid_meaning.proofs.WordSums.{normal_is}
-use Rattle.m3_same_run.specs.declared.forms.Symbol.{Symbol}
-use Rattle.m3_same_run.specs.declared.forms.Tag.TheVariants as tags
-use Rattle.m3_same_run.specs.declared.seen.Seen.{Seen}
-use Rattle.m3_same_run.specs.declared.seen.Seen.TheVariants.{Sets, Computes, Tries, Checks, Keeps, Changes, Points}
-use Rattle.m3_same_run.specs.Forms.{Form, Query}
-use Rattle.m3_same_run.specs.Seen.{asks, seen}
-use Rattle.m3_same_run.specs.Same.{same_point}
-use Rattle.m3_same_run.specs.Check.{Standing, left_form, right_form, set_left, set_right, known, holds, at_ops, set_known, go_right, advance, in_block, follow, resolve, passed, matched, with_right, compute_left, step_known, step_seen, step, and_then, steps}
-use Rattle.m3_same_run.specs.Fits.{eval, answer_to, Fits}
-use Rattle.m3_same_run.proofs.Sums.{eval_normal}
-use Rattle.m3_same_run.proofs.Seeing.{OldSeen, does, seen_so}
+use Rattle.m3_same_forms.specs.declared.forms.Symbol.{Symbol}
+use Rattle.m3_same_forms.specs.declared.forms.Tag.TheVariants as tags
+use Rattle.m3_same_forms.specs.declared.seen.Seen.{Seen}
+use Rattle.m3_same_forms.specs.declared.seen.Seen.TheVariants.{Sets, Computes, Tries, Checks, Keeps, Changes, Points}
+use Rattle.m3_same_forms.specs.Forms.{Form, Query}
+use Rattle.m3_same_forms.specs.Seen.{asks, seen}
+use Rattle.m3_same_forms.specs.Same.{same_point}
+use Rattle.m3_same_forms.specs.Facts.{known, holds}
+use Rattle.m3_same_run.specs.Check.{Standing, left_form, right_form, set_left, set_right, at_ops, set_known, go_right, advance, in_block, follow, resolve, passed, matched, with_right, compute_left, step_known, step_seen, step, and_then, steps}
+use Rattle.m3_same_forms.specs.Meaning.{eval, answer_to}
+use Rattle.m3_same_run.specs.Fits.{Fits}
+use Rattle.m3_same_forms.proofs.Sums.{eval_normal}
+use Rattle.m3_same_forms.proofs.Seeing.{OldSeen, does, seen_so}
 use Rattle.m3_same_run.proofs.Fitting.{fits_left, fits_at as fits_ops_at}
 use Rattle.m3_same_run.proofs.RightGoes.{Ends, effect_here, resolve_so}
 use Rattle.m3_same_run.proofs.Steps.{Defined, Later, Rest, Does, when_so, compute_known, compute_new, try_known, check_known, tries_so, checks_so, keeps_so, changes_so}

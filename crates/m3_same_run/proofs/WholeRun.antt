@@ -4,7 +4,7 @@ use Rattle.std.specs.Prelude.{◌&&◌, slice_get}
 use Rattle.m3_mid.specs.declared.procs.Proc.{Proc}
 use Rattle.m3_mid.specs.declared.procs.Block.{Block}
 use Rattle.m3_mid_meaning.specs.Runs.{FollowsRun}
-use Rattle.m3_same_run.specs.Forms.{Pair}
+use Rattle.m3_same_forms.specs.Forms.{Pair}
 use Rattle.m3_same_run.specs.Check.{blocks_so, pair_so, pairs_so, old_settings, old_knowns, starts, same_frame}
 use Rattle.m3_same_run.specs.Whole.{blocks_with, pair_with, pairs_with, run_with}
 use Rattle.m3_same_run.proofs.Blocks.{follows}

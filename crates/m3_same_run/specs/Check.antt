@@ -1,6 +1,6 @@
 -- THE CHECK: two blocks are run side by side on forms. The left procedure leads. What it computes is
 -- known to the right one, which does nothing by itself that isn't known; all else both do together.
-use Rattle.std.specs.Prelude.{ℕ, zero, suc, ◌==◌, ◌&&◌, not, nat_lt, Bool, true, false, List, [], ◌∷◌, length, Option, Some, None, if◌then◌else◌, slice_get}
+use Rattle.std.specs.Prelude.{ℕ, zero, suc, ◌==◌, ◌&&◌, Bool, true, false, List, [], ◌∷◌, length, Option, Some, None, if◌then◌else◌, slice_get}
 use Rattle.m3_mid.specs.declared.procs.Slot.{Slot}
 use Rattle.m3_mid.specs.declared.procs.Proc.{Proc}
 use Rattle.m3_mid.specs.declared.procs.Block.{Block}
@@ -11,15 +11,17 @@ use Rattle.m3_mid.specs.declared.ops.Operand.{Operand}
 use Rattle.m3_mid.specs.declared.ops.Relation.{Relation}
 use Rattle.m3_mid.specs.declared.ops.MidOp.{MidOp}
 use Rattle.m3_mid.specs.declared.ops.MidOp.TheVariants as ops
-use Rattle.m3_same_run.specs.declared.forms.Symbol.{Symbol}
-use Rattle.m3_same_run.specs.declared.forms.Symbol.TheVariants as symbols
-use Rattle.m3_same_run.specs.declared.forms.Tag.{Tag}
-use Rattle.m3_same_run.specs.declared.forms.Tag.TheVariants as tags
-use Rattle.m3_same_run.specs.declared.seen.Seen.{Seen}
-use Rattle.m3_same_run.specs.declared.seen.Seen.TheVariants.{Sets, Computes, Tries, Checks, Keeps, Changes, Points}
-use Rattle.m3_same_run.specs.Forms.{Form, Query, Known, Setting, Pair, merge, scaled, same_form, of_symbol}
-use Rattle.m3_same_run.specs.Seen.{asks, operand_form, seen}
-use Rattle.m3_same_run.specs.Same.{same_checked, same_relation, same_deed, same_tag, same_fault, same_place, same_slots, same_point}
+use Rattle.m3_same_forms.specs.declared.forms.Symbol.{Symbol}
+use Rattle.m3_same_forms.specs.declared.forms.Symbol.TheVariants as symbols
+use Rattle.m3_same_forms.specs.declared.forms.Tag.{Tag}
+use Rattle.m3_same_forms.specs.declared.forms.Tag.TheVariants as tags
+use Rattle.m3_same_forms.specs.declared.seen.Seen.{Seen}
+use Rattle.m3_same_forms.specs.declared.seen.Seen.TheVariants.{Sets, Computes, Tries, Checks, Keeps, Changes, Points}
+use Rattle.m3_same_forms.specs.Forms.{Form, Query, Known, Setting, Pair, merge, scaled, same_form, of_symbol}
+use Rattle.m3_same_forms.specs.Sides.{form_at}
+use Rattle.m3_same_forms.specs.Seen.{asks, operand_form, seen}
+use Rattle.m3_same_forms.specs.Same.{same_checked, same_relation, same_deed, same_fault, same_place, same_slots, same_point}
+use Rattle.m3_same_forms.specs.Facts.{known, is_form, holds, lasts, is_other_slot, kept}
 
 -- where the two runs stand: what temporaries hold, newest first; what is known; how many words came
 -- since the pair of blocks began; and what is left of the right block
@@ -30,19 +32,6 @@ pub record Standing : Type 0 where
   pub fresh : ℕ
   pub ops : List MidOp
   pub end : End
-
-abbrev pub value_at : List Setting → ℕ → Form → Form
-value_at [] t other = other
-value_at (x ∷ xs) t other = if t == x.temp then x.value else value_at xs t other
-
--- A temporary of the right procedure is the left one's, where that one has it, and further ones are
--- their own.
-abbrev pub default_form : Option ℕ → ℕ → Form
-default_form None t = of_symbol (symbols.Left t)
-default_form (Some limit) t = of_symbol (if nat_lt t limit then symbols.Left t else symbols.Right t)
-
-abbrev pub form_at : Option ℕ → List Setting → ℕ → Form
-form_at limit settings t = value_at settings t (default_form limit t)
 
 abbrev pub left_form : Standing → ℕ → Form
 left_form st t = form_at None st.left t
@@ -62,51 +51,7 @@ set_right st t a = record st { right = setting t a st.right }
 abbrev pub learn : Standing → Query → Form → Standing
 learn st query a = record st { knowns = record { query = query; value = a } ∷ st.knowns }
 
--- ---- what is known
-
-abbrev pub same_query : Query → Query → Bool
-same_query x y =
-    same_tag x.tag y.tag && same_form x.first y.first && same_form x.second y.second
-    && same_form x.third y.third
-
-abbrev pub known : Query → List Known → Option Form
-known query [] = None
-known query (x ∷ xs) = if same_query x.query query then Some x.value else known query xs
-
-abbrev pub is_form : Form → Option Form → Bool
-is_form a None = false
-is_form a (Some b) = same_form a b
-
--- the relation is known to hold
-abbrev pub holds : Relation → Form → Form → List Known → Bool
-holds relation a b knowns =
-    is_form (of_symbol symbols.One) (known (asks (tags.Compared relation) a b []) knowns)
-
--- ---- what is forgotten: when memory changes, what was read in it; when a slot of the activation's
--- own does, what was in it
-
-abbrev pub lasts : Tag → Bool
-lasts (tags.Operator operator) = true
-lasts (tags.Checked operator) = true
-lasts (tags.Compared relation) = true
-lasts tags.Environment = true
-lasts (tags.OwnSlot n) = true
-lasts _ = false
-
-abbrev pub is_other_slot : ℕ → Tag → Bool
-is_other_slot n (tags.OwnSlot m) = not (m == n)
-is_other_slot n _ = true
-
--- what lasts when memory changes, or when an own slot does
-abbrev pub stays : Option ℕ → Tag → Bool
-stays None = lasts
-stays (Some n) = is_other_slot n
-
-abbrev pub kept : (Tag → Bool) → List Known → List Known
-kept lasting [] = []
-kept lasting (x ∷ xs) =
-    if lasting x.query.tag then x ∷ kept lasting xs else kept lasting xs
-
+-- what is known no longer
 abbrev pub forget : (Tag → Bool) → Standing → Standing
 forget lasting st = record st { knowns = kept lasting st.knowns }
 

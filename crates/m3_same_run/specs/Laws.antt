@@ -2,7 +2,7 @@
 use Rattle.std.specs.Prelude.{◌≡◌, ℕ, List, true}
 use Rattle.m3_mid.specs.declared.procs.Proc.{Proc}
 use Rattle.m3_mid_meaning.specs.Runs.{FollowsRun}
-use Rattle.m3_same_run.specs.Forms.{Pair}
+use Rattle.m3_same_forms.specs.Forms.{Pair}
 use Rattle.m3_same_run.specs.Check.{same_run}
 
 -- Where a proof passes the check, each defined run of the left procedure is a run of the right one.

@@ -4,7 +4,7 @@ use Rattle.std.specs.Prelude.{ℕ, ◌&&◌, Bool, true, false, List, [], ◌∷
 use Rattle.m3_mid.specs.declared.procs.Slot.{Slot}
 use Rattle.m3_mid.specs.declared.procs.Proc.{Proc}
 use Rattle.m3_mid.specs.declared.procs.Block.{Block}
-use Rattle.m3_same_run.specs.Forms.{Pair}
+use Rattle.m3_same_forms.specs.Forms.{Pair}
 use Rattle.m3_same_run.specs.Check.{steps, ends_so, old_settings, old_knowns, standing_at, starts, same_frame}
 
 abbrev pub blocks_with : List Slot → ℕ → Proc → ℕ → List Pair → Pair → Option Block → Option Block → Bool

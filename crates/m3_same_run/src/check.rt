@@ -5,13 +5,12 @@ ghost use Rattle.m3_mid_meaning.specs.Runs.{FollowsRun};
 ghost use Rattle.m3_same_run.specs.Check as check;
 ghost use Rattle.m3_same_run.specs.Whole as whole;
 
-use crate::facts::{asks, copied, is_form, known};
-use crate::forms::{Form, Known, Pair, Query, Setting, Symbol, Tag};
-use crate::points::Sides;
-use crate::same::{same_fault, same_place, same_relation, same_slots};
-use crate::side::Side;
 use crate::standing::{Judge, Standing, block_at};
 use m3_mid::{Block, End, MidOp, Operand, Proc, Relation};
+use m3_same_forms::{
+    Form, Known, Pair, Query, Setting, Side, Sides, Symbol, Tag, asks, copied, is_form, known,
+    same_fault, same_place, same_relation, same_slots,
+};
 use std::alloc::{AllocError, Global};
 
 impl<'a> Standing<'a> {
@@ -326,7 +325,8 @@ impl<'a> Standing<'a> {
 
     fn steps(self, judge: Judge<'a>, ops: &[MidOp<'_>]) -> Result<Option<Standing<'a>>, AllocError>
         ensures { IfOk result (λ o. o
-            ≡ check.steps judge.entry.slots.now judge.entry.limit judge.entry.right 1 ops.now self.entry) }
+            ≡ check.steps judge.entry.slots.now judge.entry.limit judge.entry.right 1
+            ops.now self.entry) }
     {
         let mut there = self;
         for op in ops {
@@ -400,7 +400,8 @@ fn standing_at<'a>(
 impl<'a> Judge<'a> {
     fn is_pair(self, p: &Proc<'_>, proof: &[Pair], pair: &Pair) -> Result<bool, AllocError>
         ensures { IfOk result (λ b. b
-            ≡ whole.pair_with self.entry.slots.now self.entry.limit p.now self.entry.right 1 proof.now pair.now) }
+            ≡ whole.pair_with self.entry.slots.now self.entry.limit p.now self.entry.right 1
+            proof.now pair.now) }
     {
         let are_all_old = are_old(&pair.settings) && are_old_knowns(&pair.knowns);
         if !are_all_old {
@@ -421,7 +422,8 @@ impl<'a> Judge<'a> {
 
     fn are_pairs(self, p: &Proc<'_>, proof: &[Pair]) -> Result<bool, AllocError>
         ensures { IfOk result (λ b. b
-            ≡ whole.pairs_with self.entry.slots.now self.entry.limit p.now self.entry.right 1 proof.now proof.now) }
+            ≡ whole.pairs_with self.entry.slots.now self.entry.limit p.now self.entry.right 1
+            proof.now proof.now) }
     {
         for pair in proof {
             if !self.is_pair(p, proof, pair)? {
@@ -470,10 +472,10 @@ fn is_run(
     Ok(is_frame && begins && are_all)
 }
 
-/// Whether a proof shows that each defined run of one procedure is a run of another, for every list of
-/// answers: the same events, with the actuals, the shown variables and memory, and the same end.
-/// `false` says nothing. The time is that of the two procedures and the proof, times the longest list
-/// of settings and of what is known at once.
+/// Whether a proof shows that each defined run of one procedure is a run of another, for every list
+/// of answers: the same events, with the actuals, the shown variables and memory, and the same end.
+/// `false` says nothing. The time is that of the two procedures and the proof, times the longest
+/// list of settings and of what is known at once.
 pub fn have_same_run(
     alloc: Global,
     p: &Proc<'_>,

@@ -3,24 +3,24 @@
 ghost use Rattle.std.specs.Prelude.{◌≡◌, IfOk, List, Some, None, if◌then◌else◌};
 ghost use Rattle.m3_mid.specs.declared.ops.MidOp.{MidOp as MidOpValue};
 ghost use Rattle.m3_same_run.specs.Check.{Standing as StandingValue, left_form, right_form};
+ghost use Rattle.m3_same_forms.specs.Facts as facts;
 ghost use Rattle.m3_same_run.specs.Check as check;
-ghost use Rattle.m3_same_run.specs.Seen.{seen};
+ghost use Rattle.m3_same_forms.specs.Seen.{seen};
 
-use crate::facts::{asks, copied, holds, known};
-use crate::forms::{Query, Tag};
-use crate::points::Sides;
-use crate::same::{same_checked, same_deed, same_fault, same_place, same_relation};
-use crate::seen::Seen;
-use crate::side::Side;
 use crate::standing::{Judge, Standing, block_at};
 use m3_mid::{End, MidOp};
+use m3_same_forms::{
+    Query, Seen, Side, Sides, Tag, asks, copied, holds, known, same_checked, same_deed, same_fault,
+    same_place, same_relation,
+};
 use std::alloc::{AllocError, Global};
 
 impl<'a> Standing<'a> {
     // The right procedure sets a temporary to an answer, where it is known.
     fn set_known(&mut self, alloc: Global, to: u32, query: &Query) -> Result<bool, AllocError>
-        ensures { IfOk result (λ b. (stop : List MidOpValue) (next : StandingValue → StandingValue) →
-            check.set_known (check.known query.now self.old.knowns) to stop self.old next
+        ensures { IfOk result (λ b.
+            (stop : List MidOpValue) (next : StandingValue → StandingValue) →
+            check.set_known (facts.known query.now self.old.knowns) to stop self.old next
             ≡ (if b then next self.new else check.at_ops self.new stop)) }
     {
         match known(alloc, query, &self.knowns)? {
@@ -34,8 +34,11 @@ impl<'a> Standing<'a> {
 
     // One operation of the right procedure, where it can be done by itself.
     fn go_right(&mut self, judge: Judge<'_>, op: &MidOp<'_>) -> Result<bool, AllocError>
-        ensures { IfOk result (λ b. (stop : List MidOpValue) (next : StandingValue → StandingValue) →
-            check.go_right (seen judge.entry.slots.now (right_form judge.entry.limit self.old) op.now) stop self.old next
+        ensures { IfOk result (λ b.
+            (stop : List MidOpValue) (next : StandingValue → StandingValue) →
+            check.go_right
+            (seen judge.entry.slots.now (right_form judge.entry.limit self.old) op.now)
+            stop self.old next
             ≡ (if b then next self.new else check.at_ops self.new stop)) }
     {
         let alloc = judge.alloc;
@@ -98,7 +101,8 @@ impl<'a> Standing<'a> {
     // The same, through one jump too.
     fn resolve(self, judge: Judge<'a>) -> Result<Standing<'a>, AllocError>
         ensures { IfOk result (λ st. st
-            ≡ check.resolve judge.entry.slots.now judge.entry.limit judge.entry.right 1 self.entry) }
+            ≡ check.resolve judge.entry.slots.now judge.entry.limit judge.entry.right 1
+            self.entry) }
     {
         let st = self.advance(judge)?;
         if !st.ops.is_empty() {
@@ -166,7 +170,8 @@ impl<'a> Standing<'a> {
         y: &Seen,
     ) -> Result<bool, AllocError>
         ensures { IfOk result (λ b.
-            check.matched op.now other.now (left_form self.old) (right_form judge.entry.limit self.old) x.now y.now self.old
+            check.matched op.now other.now (left_form self.old)
+            (right_form judge.entry.limit self.old) x.now y.now self.old
             ≡ (if b then Some self.new else None)) }
     {
         let alloc = judge.alloc;
@@ -279,7 +284,8 @@ impl<'a> Standing<'a> {
         other: &MidOp<'_>,
     ) -> Result<bool, AllocError>
         ensures { IfOk result (λ b.
-            check.matched op.now other.now (left_form self.old) (right_form judge.entry.limit self.old) x.now
+            check.matched op.now other.now (left_form self.old)
+            (right_form judge.entry.limit self.old) x.now
             (seen judge.entry.slots.now (right_form judge.entry.limit self.old) other.now) self.old
             ≡ (if b then Some self.new else None)) }
     {
@@ -300,7 +306,8 @@ impl<'a> Standing<'a> {
         x: &Seen,
     ) -> Result<Option<Standing<'a>>, AllocError>
         ensures { IfOk result (λ o. o
-            ≡ check.with_right judge.entry.slots.now judge.entry.limit op.now x.now self.entry.ops self.entry) }
+            ≡ check.with_right judge.entry.slots.now judge.entry.limit op.now x.now
+            self.entry.ops self.entry) }
     {
         let ops = self.ops;
         match ops.split_first() {
@@ -324,7 +331,8 @@ impl<'a> Standing<'a> {
         x: &Seen,
     ) -> Result<Option<Standing<'a>>, AllocError>
         ensures { IfOk result (λ o. o
-            ≡ check.meeting judge.entry.slots.now judge.entry.limit judge.entry.right 1 op.now x.now self.entry) }
+            ≡ check.meeting judge.entry.slots.now judge.entry.limit judge.entry.right 1
+            op.now x.now self.entry) }
     {
         self.resolve(judge)?.meets(judge, op, x)
     }
@@ -337,7 +345,8 @@ impl<'a> Standing<'a> {
     ) -> Result<Option<Standing<'a>>, AllocError>
         ensures { IfOk result (λ o. o
             ≡ check.step_seen x.now self.entry
-            (check.meeting judge.entry.slots.now judge.entry.limit judge.entry.right 1 op.now x.now self.entry)) }
+            (check.meeting judge.entry.slots.now judge.entry.limit judge.entry.right 1
+            op.now x.now self.entry)) }
     {
         let alloc = judge.alloc;
         let mut st = self;
@@ -391,7 +400,8 @@ impl<'a> Standing<'a> {
         op: &MidOp<'_>,
     ) -> Result<Option<Standing<'a>>, AllocError>
         ensures { IfOk result (λ o. o
-            ≡ check.step judge.entry.slots.now judge.entry.limit judge.entry.right 1 op.now self.entry) }
+            ≡ check.step judge.entry.slots.now judge.entry.limit judge.entry.right 1
+            op.now self.entry) }
     {
         let side = Side {
             alloc: judge.alloc,

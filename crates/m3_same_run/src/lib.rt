@@ -3,17 +3,9 @@
 #![tactic(auto)]
 
 mod check;
-mod facts;
-mod forms;
 mod going;
 mod law;
-mod points;
-mod same;
-mod see;
-mod seen;
-mod side;
 mod standing;
 
 pub use check::have_same_run;
-pub use forms::{Form, Known, Pair, Query, Setting, Symbol, Tag, Term};
 pub use law::check_is_sound;

@@ -1,17 +1,18 @@
 //! Where two runs stand.
 
 ghost use Rattle.std.specs.Prelude.{◌≡◌, IfOk, [], slice_get};
-ghost use Rattle.m3_same_run.specs.Forms.{of_symbol};
-ghost use Rattle.m3_same_run.specs.declared.forms.Symbol.TheVariants.{One};
-ghost use Rattle.m3_same_run.specs.declared.forms.Tag.TheVariants.{Compared, OwnSlot};
-ghost use Rattle.m3_same_run.specs.Seen.{asks as asks_form};
-ghost use Rattle.m3_same_run.specs.Check.{Standing as StandingValue, stays, is_other_slot};
+ghost use Rattle.m3_same_forms.specs.Forms.{of_symbol};
+ghost use Rattle.m3_same_forms.specs.declared.forms.Symbol.TheVariants.{One};
+ghost use Rattle.m3_same_forms.specs.declared.forms.Tag.TheVariants.{Compared, OwnSlot};
+ghost use Rattle.m3_same_forms.specs.Seen.{asks as asks_form};
+ghost use Rattle.m3_same_forms.specs.Facts.{stays, is_other_slot};
+ghost use Rattle.m3_same_run.specs.Check.{Standing as StandingValue};
 ghost use Rattle.m3_same_run.specs.Check.{told, told_raised, answered_by};
+ghost use Rattle.m3_same_forms.specs.Facts as facts;
 ghost use Rattle.m3_same_run.specs.Check as check;
 
-use crate::facts::{asks, known, remaining};
-use crate::forms::{Form, Known, Query, Setting, Symbol, Tag};
 use m3_mid::{Block, End, MidOp, Proc, Raised, Relation, Slot};
+use m3_same_forms::{Form, Known, Query, Setting, Symbol, Tag, asks, known, remaining};
 use std::alloc::{AllocError, Global};
 use std::marker::Model;
 
@@ -197,7 +198,8 @@ impl<'a> Standing<'a> {
     fn answer_left(&mut self, alloc: Global, op: &MidOp<'_>, told: Told) -> Result<(), AllocError>
         ensures { IfOk result (λ u. self.new
             ≡ record self.old {
-              left = answered_by op.now told.result told.exception told.number told.tidy told.any self.old.left;
+              left = answered_by op.now told.result told.exception told.number told.tidy told.any
+                  self.old.left;
             }) }
     {
         match op {
@@ -217,7 +219,8 @@ impl<'a> Standing<'a> {
     fn answer_right(&mut self, alloc: Global, op: &MidOp<'_>, told: Told) -> Result<(), AllocError>
         ensures { IfOk result (λ u. self.new
             ≡ record self.old {
-              right = answered_by op.now told.result told.exception told.number told.tidy told.any self.old.right;
+              right = answered_by op.now told.result told.exception told.number told.tidy told.any
+                  self.old.right;
             }) }
     {
         match op {
@@ -287,7 +290,8 @@ impl<'a> Standing<'a> {
         right: &Form,
     ) -> Result<(), AllocError>
         ensures { IfOk result (λ u. self.new
-            ≡ check.learn self.old (asks_form (Compared relation) left.now right.now []) (of_symbol One)) }
+            ≡ check.learn self.old (asks_form (Compared relation) left.now right.now [])
+            (of_symbol One)) }
     {
         let query = asks(alloc, Tag::Compared(relation), left, right)?;
         self.learn(query, Form::of_symbol(alloc, Symbol::One)?)
@@ -296,7 +300,8 @@ impl<'a> Standing<'a> {
     /// A slot of the activation's own has a word from now on.
     pub(crate) fn keep(&mut self, alloc: Global, slot: u32, value: &Form) -> Result<(), AllocError>
         ensures { IfOk result (λ u. self.new
-            ≡ check.learn (check.forget (is_other_slot slot) self.old) (asks_form (OwnSlot slot) [] [] []) value.now) }
+            ≡ check.learn (check.forget (is_other_slot slot) self.old)
+            (asks_form (OwnSlot slot) [] [] []) value.now) }
     {
         self.forget(alloc, Some(slot))?;
         let query = asks(
@@ -311,7 +316,7 @@ impl<'a> Standing<'a> {
     /// The left procedure computes the answer to a question.
     pub(crate) fn compute(&mut self, alloc: Global, to: u32, query: Query) -> Result<(), AllocError>
         ensures { IfOk result (λ u. self.new
-            ≡ check.compute_left (check.known query self.old.knowns) to query self.old) }
+            ≡ check.compute_left (facts.known query self.old.knowns) to query self.old) }
     {
         match known(alloc, &query, &self.knowns)? {
             Some(value) => self.set_left(to, value),

@@ -1,9 +1,10 @@
 use Rattle.std.proofs.Common.{◌≡◌, IfOk, List, Some, sym, ap, ◌∙◌, subst}
 use Rattle.std.specs.Prelude.{if◌then◌else◌}
 use Rattle.m3_mid.specs.declared.ops.MidOp.{MidOp}
-use Rattle.m3_same_run.specs.declared.seen.Seen.TheVariants.{Computes}
-use Rattle.m3_same_run.specs.Seen.{seen}
-use Rattle.m3_same_run.specs.Check.{Standing, form_at, right_form, go_right, at_ops}
+use Rattle.m3_same_forms.specs.declared.seen.Seen.TheVariants.{Computes}
+use Rattle.m3_same_forms.specs.Seen.{seen}
+use Rattle.m3_same_forms.specs.Sides.{form_at}
+use Rattle.m3_same_run.specs.Check.{Standing, right_form, go_right, at_ops}
 use Rattle.m3_same_run.proofs.standing.Standing.go_right.Goals as goal
 
 pub returns-in-Computes : goal.returns-in-Computes

@@ -1,6 +1,6 @@
 use Rattle.std.proofs.Common.{◌≡◌, ◌∷◌, Bool, Some, None, Option, sym, ap, ◌∙◌}
 use Rattle.std.specs.Prelude.{if◌then◌else◌}
-use Rattle.m3_same_run.specs.Seen.{seen}
+use Rattle.m3_same_forms.specs.Seen.{seen}
 use Rattle.m3_same_run.specs.Check.{Standing, matched, with_right, left_form, right_form, at_ops}
 use Rattle.m3_same_run.proofs.standing.Standing.meets.Goals as goal
 

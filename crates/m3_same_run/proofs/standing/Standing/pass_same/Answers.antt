@@ -1,6 +1,7 @@
 use Rattle.std.proofs.Common.{◌≡◌, true, false, Some, None, sym, ap, ◌∙◌}
-use Rattle.m3_same_run.specs.Same.{same_point}
-use Rattle.m3_same_run.specs.Check.{form_at, left_form, right_form, passed, when}
+use Rattle.m3_same_forms.specs.Same.{same_point}
+use Rattle.m3_same_forms.specs.Sides.{form_at}
+use Rattle.m3_same_run.specs.Check.{left_form, right_form, passed, when}
 use Rattle.m3_same_run.proofs.standing.Standing.pass_same.Goals as goal
 
 pub returns-in_ok-pass : goal.returns-in_ok-pass

@@ -1,6 +1,7 @@
 use Rattle.std.proofs.Common.{◌≡◌, IfOk, None, ap, ◌∙◌, subst}
-use Rattle.m3_same_run.specs.Seen.{seen}
-use Rattle.m3_same_run.specs.Check.{meeting, step_seen, form_at, left_form}
+use Rattle.m3_same_forms.specs.Seen.{seen}
+use Rattle.m3_same_forms.specs.Sides.{form_at}
+use Rattle.m3_same_run.specs.Check.{meeting, step_seen, left_form}
 use Rattle.m3_same_run.proofs.standing.Standing.step.Goals as goal
 
 pub returns : goal.returns

@@ -1,5 +1,0 @@
-use Rattle.m3_same_run.proofs.Differ.{slots_differ}
-use Rattle.m3_same_run.proofs.same.same_slots.Goals as goal
-
-pub returns-then-left-right : goal.returns-then-left-right
-returns-then-left-right c = slots_differ c.args.left.now c.args.right.now c.if-left-right.true

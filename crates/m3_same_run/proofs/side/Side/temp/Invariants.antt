@@ -1,6 +1,0 @@
-use Rattle.std.proofs.Common.{◌≡◌, drop}
-use Rattle.m3_same_run.specs.Check.{form_at}
-use Rattle.m3_same_run.proofs.side.Side.temp.Given as goal
-
-abbrev pub invariant-loop-setting : goal.invariant-loop-setting
-invariant-loop-setting l = form_at l.self.limit (drop l.setting-index l.self.settings.now) l.temp ≡ form_at l.self.limit l.self.settings.now l.temp
