@@ -1,0 +1,268 @@
+//! Forms: sums of words with factors, and what is known of them.
+
+ghost use Rattle.m3_same_forms.specs.Forms.{Known as KnownValue, Setting as SettingValue};
+ghost use Rattle.m3_same_forms.specs.Forms.{Query as QueryValue, Pair as PairValue};
+ghost use Rattle.m3_same_forms.specs.declared.forms.Term.{Term as TermValue};
+ghost use Rattle.m3_same_forms.specs.Forms.{same_symbol as same_symbols, insert, merge, scaled};
+ghost use Rattle.m3_same_forms.specs.Forms.{same_form, of_symbol, of_number, behind};
+ghost use Rattle.std.specs.Prelude.{List, [], ◌≡◌, IfOk};
+
+use m3_mid::{CheckedOperator, Relation, WordOperator};
+use std::alloc::{AllocError, Global};
+use std::marker::Model;
+
+/// What a form adds: the number 1; the addresses of the frame, the globals, a text and a constant; a
+/// temporary of the left or the right procedure as it stood where the pair of blocks began; or a word
+/// that came since, from an operation or an answer.
+#[derive(Clone, Copy)]
+pub enum Symbol {
+    One,
+    Frame,
+    Globals,
+    Text(u32),
+    Constant(u32),
+    Left(u32),
+    Right(u32),
+    New(u32),
+}
+
+/// So many times a symbol.
+#[derive(Clone, Copy)]
+pub struct Term {
+    pub symbol: Symbol,
+    pub times: u64,
+}
+
+/// A sum of terms, modulo 2^64.
+#[derive(Drop)]
+pub struct Form {
+    pub terms: Vec<Term>,
+}
+
+impl Model for Form {
+    ghost Value = { List TermValue };
+
+    ghost view = { λ f. f.terms.items };
+}
+
+/// Whether two symbols are one.
+pub(crate) fn same_symbol(left: Symbol, right: Symbol) -> bool
+    ensures { result ≡ same_symbols left right }
+{
+    match (left, right) {
+        (Symbol::One, Symbol::One) => true,
+        (Symbol::Frame, Symbol::Frame) => true,
+        (Symbol::Globals, Symbol::Globals) => true,
+        (Symbol::Text(n), Symbol::Text(m)) => n == m,
+        (Symbol::Constant(n), Symbol::Constant(m)) => n == m,
+        (Symbol::Left(t), Symbol::Left(u)) => t == u,
+        (Symbol::Right(t), Symbol::Right(u)) => t == u,
+        (Symbol::New(n), Symbol::New(m)) => n == m,
+        _ => false,
+    }
+}
+
+impl Form {
+    /// The number 0.
+    pub fn none(alloc: Global) -> Form
+        ensures { result ≡ [] }
+    {
+        Form {
+            terms: Vec::new(alloc),
+        }
+    }
+
+    /// One symbol.
+    pub fn of_symbol(alloc: Global, symbol: Symbol) -> Result<Form, AllocError>
+        ensures { IfOk result (λ f. f ≡ of_symbol symbol) }
+    {
+        let mut terms = Vec::new(alloc);
+        terms.push(Term { symbol, times: 1 })?;
+        Ok(Form { terms })
+    }
+
+    /// A number.
+    pub fn of_number(alloc: Global, number: u64) -> Result<Form, AllocError>
+        ensures { IfOk result (λ f. f ≡ of_number number) }
+    {
+        let mut terms = Vec::new(alloc);
+        if number != 0 {
+            terms.push(Term {
+                symbol: Symbol::One,
+                times: number,
+            })?;
+        }
+        Ok(Form { terms })
+    }
+
+    /// A symbol and a number.
+    pub(crate) fn behind(alloc: Global, symbol: Symbol, number: u64) -> Result<Form, AllocError>
+        ensures { IfOk result (λ f. f ≡ behind symbol number) }
+    {
+        let start = Form::of_symbol(alloc, symbol)?;
+        Form::of_number(alloc, number)?.merge(alloc, start)
+    }
+
+    /// A term more.
+    pub fn insert(&self, alloc: Global, symbol: Symbol, times: u64) -> Result<Form, AllocError>
+        ensures { IfOk result (λ f. f ≡ insert symbol times self.now) }
+    {
+        let mut terms = Vec::new(alloc);
+        let mut is_in = false;
+        for term in &self.terms {
+            if !is_in && same_symbol(symbol, term.symbol) {
+                is_in = true;
+                let total = times.wrapping_add(term.times);
+                if total != 0 {
+                    terms.push(Term {
+                        symbol,
+                        times: total,
+                    })?;
+                }
+            } else {
+                terms.push(*term)?;
+            }
+        }
+        if !is_in && times != 0 {
+            terms.push(Term { symbol, times })?;
+        }
+        Ok(Form { terms })
+    }
+
+    /// The sum of two forms.
+    pub fn merge(&self, alloc: Global, other: Form) -> Result<Form, AllocError>
+        ensures { IfOk result (λ f. f ≡ merge self.now other) }
+    {
+        let mut sum = other;
+        for term in &self.terms {
+            sum = sum.insert(alloc, term.symbol, term.times)?;
+        }
+        Ok(sum)
+    }
+
+    /// So many times a form.
+    pub fn scaled(&self, alloc: Global, factor: u64) -> Result<Form, AllocError>
+        ensures { IfOk result (λ f. f ≡ scaled factor self.now) }
+    {
+        let mut terms = Vec::new(alloc);
+        for term in &self.terms {
+            let times = factor.wrapping_mul(term.times);
+            if times != 0 {
+                terms.push(Term {
+                    symbol: term.symbol,
+                    times,
+                })?;
+            }
+        }
+        Ok(Form { terms })
+    }
+
+    /// The same form once more.
+    pub fn copy(&self, alloc: Global) -> Result<Form, AllocError>
+        ensures { IfOk result (λ f. f ≡ self.now) }
+    {
+        let mut terms = Vec::new(alloc);
+        for term in &self.terms {
+            terms.push(*term)?;
+        }
+        Ok(Form { terms })
+    }
+
+    /// Whether the difference of two forms falls away.
+    pub fn is_same(&self, alloc: Global, other: &Form) -> Result<bool, AllocError>
+        ensures { IfOk result (λ b. b ≡ same_form self.now other.now) }
+    {
+        let opposite = other.scaled(alloc, u64::MAX)?;
+        let difference = opposite.merge(alloc, self.copy(alloc)?)?;
+        Ok(difference.terms.is_empty())
+    }
+}
+
+/// What gives a word, but sums: by up to three words, and for the later ones by memory too.
+#[derive(Clone, Copy)]
+pub enum Tag {
+    /// An operator but Add and Subtract, of two words.
+    Operator(WordOperator),
+    /// A checked operator of two words, where it doesn't fault.
+    Checked(CheckedOperator),
+    /// Whether a relation holds between two words: 1 or 0.
+    Compared(Relation),
+    /// The environment.
+    Environment,
+    /// A slot that isn't shared.
+    OwnSlot(u32),
+    /// Whether a cell is of a type.
+    TypeTest(u32),
+    /// A method of an object.
+    MethodOf(u32),
+    /// The word at an address.
+    Loaded,
+    /// Whether so many words at two addresses are equal.
+    EqualWords,
+    /// The byte of a text at a place.
+    TextByte,
+    /// Whether two texts are equal.
+    EqualTexts,
+}
+
+/// A question to which a word is the answer. Words that the tag doesn't name are 0.
+#[derive(Drop)]
+pub struct Query {
+    pub tag: Tag,
+    pub first: Form,
+    pub second: Form,
+    pub third: Form,
+}
+
+impl Model for Query {
+    ghost Value = { QueryValue };
+
+    ghost view = { λ x. record { tag = x.tag; first = x.first; second = x.second; third = x.third } };
+}
+
+/// A question whose answer is known.
+#[derive(Drop)]
+pub struct Known {
+    pub query: Query,
+    pub value: Form,
+}
+
+impl Model for Known {
+    ghost Value = { KnownValue };
+
+    ghost view = { λ x. record { query = x.query; value = x.value } };
+}
+
+/// What a temporary holds.
+#[derive(Drop)]
+pub struct Setting {
+    pub temp: u32,
+    pub value: Form,
+}
+
+impl Model for Setting {
+    ghost Value = { SettingValue };
+
+    ghost view = { λ x. record { temp = x.temp; value = x.value } };
+}
+
+/// A part of a proof. Where the two procedures come to these blocks, each temporary of the right one
+/// that the left one has too is the left one's, but for the settings; and this is known.
+#[derive(Drop)]
+pub struct Pair {
+    pub left: u32,
+    pub right: u32,
+    pub settings: Vec<Setting>,
+    pub knowns: Vec<Known>,
+}
+
+impl Model for Pair {
+    ghost Value = { PairValue };
+
+    ghost view = { λ x. record {
+      left = x.left;
+      right = x.right;
+      settings = x.settings.items;
+      knowns = x.knowns.items;
+    } };
+}

@@ -1,0 +1,18 @@
+//! Two procedures of middle code side by side: their words as sums of the same symbols, what an
+//! operation does by such sums, which answers are known, and what of two operations is the same.
+#![tactic(auto)]
+
+mod facts;
+mod forms;
+mod points;
+mod same;
+mod see;
+mod seen;
+mod side;
+
+pub use facts::{asks, copied, holds, is_form, known, remaining};
+pub use forms::{Form, Known, Pair, Query, Setting, Symbol, Tag, Term};
+pub use points::Sides;
+pub use same::{same_checked, same_deed, same_fault, same_place, same_relation, same_slots};
+pub use seen::{Deed, Seen};
+pub use side::Side;

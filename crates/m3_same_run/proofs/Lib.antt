@@ -1,0 +1,9 @@
+pub mod Fitting
+pub mod RightGoes
+pub mod Answering
+pub mod Steps
+pub mod Replies
+pub mod Together
+pub mod Blocks
+pub mod FollowingJumps
+pub mod WholeRun

@@ -1,0 +1,4 @@
+pub mod Check
+pub mod Fits
+pub mod Laws
+pub mod Whole
