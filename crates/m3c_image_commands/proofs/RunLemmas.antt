@@ -1,6 +1,6 @@
 -- From the parts of a command over an image to what it answers.
-use Rattle.std.proofs.Common.{◌≡◌, ◌<◌, ◌+◌, ◌^◌, arith, ℕ, Bool, List, [], Option, refl, sym, ◌∙◌, subst, inl, inr, ◌⊎◌}
-use Rattle.std.specs.Prelude.{Result, Ok, Err, IfOk, IfSome, IsOk, IsErr, is_some, None, Some}
+use Rattle.std.proofs.Common.{◌≡◌, ◌<◌, ◌+◌, ◌^◌, arith, ℕ, Bool, List, [], Option, refl, sym, ◌∙◌, subst, inl, inr}
+use Rattle.std.specs.Prelude.{Result, Ok, Err, IfSome, IsOk, IsErr, is_some, None, Some}
 use Rattle.std.specs.Prelude.{◌++◌}
 use Rattle.std.proofs.Common.{ap, append_assoc}
 use Rattle.m3_ports.specs.Files.{IsFront, LeavesAtFault}
@@ -27,9 +27,9 @@ use Rattle.m3_base.specs.declared.schedules.ScheduleRefusal.{ScheduleRefusal}
 use Rattle.m3_base.specs.declared.schedules.ScheduleRefusal.TheVariants.{BadLine, TooMany}
 use Rattle.m3_image_sections.specs.declared.refusal.ImageRefusal.{ImageRefusal}
 use Rattle.m3c_image_commands.specs.Reports.{Setting, Ended, RanAsFar, end_status, report}
-use Rattle.m3c_image_commands.specs.Statuses.{Shelving, Putting, putting, StoresNothing, PutsNothing, Took, TookFront, RefusesBy, Fetches, Unfetched, read_fault, no_memory as wants_memory, absent, too_long, LacksMemory, Cuts, IsRead, IsGiven, image_cap, Only}
+use Rattle.m3c_image_commands.specs.Statuses.{Shelving, Putting, putting, StoresNothing, PutsNothing, Took, TookFront, RefusesBy, Unfetched, read_fault, no_memory as wants_memory, absent, too_long, LacksMemory, IsRead, IsGiven, image_cap}
 use Rattle.m3c_image_commands.specs.Refusals.{image_line, bad_line, too_many, IsScheduleLine, of_bad_line, of_too_many, RefusesImage, RefusesSchedule}
-use Rattle.m3c_image_commands.specs.ImageCommands.{by_schedule, on_input, Ends, ImageAnswer, image_refused, ended, ImageRanAsFar, RunsImage, BytesRanAsFar, RefusesSwitches, RunsBytes, RunAnswer, OfRun, Runs, DumpAnswer, not_dumped, dumped, DumpsBytes, CutsDump, no_memory, Dumps}
+use Rattle.m3c_image_commands.specs.ImageCommands.{by_schedule, on_input, Ends, ImageAnswer, image_refused, ended, RunsImage, BytesRanAsFar, RunsBytes, RunAnswer, OfRun, Runs, DumpAnswer, not_dumped, dumped, DumpsBytes, CutsDump, no_memory, Dumps}
 
 -- the start of a run has passed no points
 begins-first : (p : Program) (heap : Heap) (threads stack : ℕ) (s : State) → Begins p heap threads stack s → s.points ≡ 0

@@ -16,8 +16,8 @@ returns-in-Ok-run g c =
     ends_run i _ c.args.run.tells_collections _ (program_of m) m.input.now _ (state_of m) (state_of c.run.new.self.parts) c.in-Ok-run.outcome c.answer_of.result.status c.answer_of.result.line.items c.in-Ok-made.ensures.program c.in-Ok-made.ensures.input
     c.in-Ok-new.ensures begun ran c.answer_of.ensures.status c.answer_of.ensures.line
 
-pub returns-in-Err : goal.returns-in-Err
-returns-in-Err g c =
+pub returns : goal.returns
+returns g c =
     let m = c.in-Ok-made.machine.parts in
     let i = image_view c.args.image in
     let limits = c.args.run.limits in
