@@ -120,7 +120,7 @@ module _ (files : List (List ℕ)) (image switches : List ℕ) (MayRunBy : List 
 
     runs_answer : (result : Result Answer Refusal) → IsOk (read_of image) → RunsImage image (by_schedule setting schedule) tells out result → ExecsTexts files image switches MayRunBy setting tells out result
     runs_answer (Ok a) ok h = answer_ran a.status a.line.items ok h
-    runs_answer (Err r) ok h = h
+    runs_answer (Err r) ok h = h.0
 
     pub execs_ran : (bytes : List ℕ) (told : Bool) (done : Setting) (result : Result Answer Refusal) → bytes ≡ image → told ≡ tells → done ≡ by_schedule setting schedule → IsOk (read_of image) → RunsImage bytes done told out result
         → ExecsTexts files image switches MayRunBy setting tells out result
