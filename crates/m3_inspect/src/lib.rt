@@ -2,10 +2,13 @@
 //! variables that are in scope there.
 #![tactic(auto)]
 
+mod cells;
+mod frames;
+mod locals;
 mod texts;
 mod values;
 mod views;
 
 pub use texts::text;
 pub use values::{FrameView, ThreadView, Value, VarValue, View};
-pub use views::ViewRefused;
+pub use views::{ViewRefused, view_of};
