@@ -1,38 +1,31 @@
--- The number of a cell that is known, and of one that isn't; variables one list after another.
-use Rattle.std.proofs.Common.{◌≡◌, ℕ, zero, suc, ◌+◌, ◌<◌, ◌==◌, true, false, List, [], ◌∷◌, ◌++◌, length, get_or, refl, sym, ap, ◌∙◌, arith, eq-eqb, ne_eqb, append_assoc}
+-- The number of a cell as its place in a list of keys; variables one list after another.
+use Rattle.std.proofs.Common.{◌≡◌, ℕ, ◌+◌, ◌==◌, Bool, true, false, if◌then◌else◌, List, [], ◌∷◌, ◌++◌, refl, sym, ap, ◌∙◌, arith, append_assoc}
+use Rattle.std.specs.List.{list_any, position_or_len}
+use Rattle.indexmap.specs.IndexSet.{insert_key}
 use Rattle.m3_inspect.specs.declared.values.VarValue.{VarValue}
 use Rattle.m3_inspect.specs.Standing.{Holding}
 use Rattle.m3_inspect.specs.Shown.{with_cell, cell_number, cells_with, shown_var, shown_vars, cells_after}
 
-pub number_found : (cells : List ℕ) (at k : ℕ) → k < length cells → ((j : ℕ) → j < k → get_or cells j 0 ≡ at → ⊥) → get_or cells k 0 ≡ at → k + 1 ≡ cell_number cells at
-number_found [] at k lt before e = absurd (omega arith)
-number_found (c ∷ cells) at zero lt before e = let same = eq-eqb c at e in rw same refl
-number_found (c ∷ cells) at (suc k) lt before e =
-    let other = ne_eqb c at (before 0 (omega arith)) in
-    let rest = number_found cells at k (omega arith) (λ j less. before (suc j) (omega arith)) e in
-    rw other (omega (arith, rest))
+-- the number that the list of keys gives a cell, and the keys with it
+number_by : (c : ℕ) (cells : List ℕ) (at : ℕ) → position_or_len (λ k. at == k) cells + 1 ≡ cell_number cells at → (b : Bool) → at == c ≡ b → position_or_len (λ k. at == k) (c ∷ cells) + 1 ≡ cell_number (c ∷ cells) at
+number_by c cells at rest true e = rw e refl
+number_by c cells at rest false e = rw e (omega (arith, rest))
 
-pub known_found : (cells : List ℕ) (at k : ℕ) → k < length cells → ((j : ℕ) → j < k → get_or cells j 0 ≡ at → ⊥) → get_or cells k 0 ≡ at → cells ≡ with_cell cells at
-known_found [] at k lt before e = absurd (omega arith)
-known_found (c ∷ cells) at zero lt before e = let same = eq-eqb c at e in rw same refl
-known_found (c ∷ cells) at (suc k) lt before e =
-    let other = ne_eqb c at (before 0 (omega arith)) in
-    let rest = known_found cells at k (omega arith) (λ j less. before (suc j) (omega arith)) e in
-    rw other (ap (λ (cs : List ℕ). c ∷ cs) rest)
+pub number_inserted : (cells : List ℕ) (at : ℕ) → position_or_len (λ k. at == k) cells + 1 ≡ cell_number cells at
+number_inserted [] at = refl
+number_inserted (c ∷ cells) at = number_by c cells at (number_inserted cells at) (at == c) refl
 
-pub number_next : (cells : List ℕ) (at : ℕ) → ((j : ℕ) → j < length cells → get_or cells j 0 ≡ at → ⊥) → length cells + 1 ≡ cell_number cells at
-number_next [] at before = refl
-number_next (c ∷ cells) at before =
-    let other = ne_eqb c at (before 0 (omega arith)) in
-    let rest = number_next cells at (λ j less. before (suc j) (omega arith)) in
-    rw other (omega (arith, rest))
+behind_first : (c : ℕ) (cells more : List ℕ) (b : Bool) → (if b then c ∷ cells else c ∷ more) ≡ c ∷ (if b then cells else more)
+behind_first c cells more true = refl
+behind_first c cells more false = refl
 
-pub known_next : (cells : List ℕ) (at : ℕ) → ((j : ℕ) → j < length cells → get_or cells j 0 ≡ at → ⊥) → cells ++ at ∷ [] ≡ with_cell cells at
-known_next [] at before = refl
-known_next (c ∷ cells) at before =
-    let other = ne_eqb c at (before 0 (omega arith)) in
-    let rest = known_next cells at (λ j less. before (suc j) (omega arith)) in
-    rw other (ap (λ (cs : List ℕ). c ∷ cs) rest)
+with_by : (c : ℕ) (cells : List ℕ) (at : ℕ) → insert_key (λ a b. a == b) cells at ≡ with_cell cells at → (b : Bool) → at == c ≡ b → insert_key (λ a b. a == b) (c ∷ cells) at ≡ with_cell (c ∷ cells) at
+with_by c cells at rest true e = rw e refl
+with_by c cells at rest false e = rw e (behind_first c cells (cells ++ at ∷ []) (list_any (λ k. at == k) cells) ∙ ap (λ (cs : List ℕ). c ∷ cs) rest)
+
+pub with_inserted : (cells : List ℕ) (at : ℕ) → insert_key (λ a b. a == b) cells at ≡ with_cell cells at
+with_inserted [] at = refl
+with_inserted (c ∷ cells) at = with_by c cells at (with_inserted cells at) (at == c) refl
 
 -- ---- variables
 

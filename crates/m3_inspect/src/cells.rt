@@ -5,28 +5,24 @@ ghost use Rattle.m3_inspect.specs.Shown.{with_cell, cell_number, value_of, cells
 ghost use Rattle.m3_inspect.specs.Shown.{cells_after};
 
 use crate::values::{Value, VarValue};
+use indexmap::IndexSet;
 use m3_base::NoMemory;
 
 /// The number of a cell, from 1, among those that are known by their addresses; one that isn't
 /// known is added to them.
-fn cell_number(cells: &mut Vec<u64>, at: u64) -> Result<u64, NoMemory>
-    ensures number { IfOk result (λ n. n ≡ cell_number cells.old.items at) }
-    ensures cells { OnOk result (cells.new.items ≡ with_cell cells.old.items at) }
+fn cell_number(cells: &mut IndexSet<u64>, at: u64) -> Result<u64, NoMemory>
+    ensures number { IfOk result (λ n. n ≡ cell_number cells.old.keys at) }
+    ensures cells { OnOk result (cells.new.keys ≡ with_cell cells.old.keys at) }
 {
-    let count = cells.len();
-    for place in 0..count {
-        if cells[place] == at {
-            return Ok(place as u64 + 1);
-        }
-    }
-    cells.push(at)?;
-    Ok(count as u64 + 1)
+    let (place, _) = cells.insert_full(at)?;
+    let _known = cells.len();
+    Ok(place as u64 + 1)
 }
 
 /// The value that a word stands for.
-fn value_of(cells: &mut Vec<u64>, form: u8, word: u64) -> Result<Value, NoMemory>
-    ensures value { IfOk result (λ v. v ≡ value_of cells.old.items form word) }
-    ensures cells { OnOk result (cells.new.items ≡ cells_with cells.old.items form word) }
+fn value_of(cells: &mut IndexSet<u64>, form: u8, word: u64) -> Result<Value, NoMemory>
+    ensures value { IfOk result (λ v. v ≡ value_of cells.old.keys form word) }
+    ensures cells { OnOk result (cells.new.keys ≡ cells_with cells.old.keys form word) }
 {
     if form == 0 {
         return Ok(Value::Number(word.cast_signed()));
@@ -41,14 +37,14 @@ fn value_of(cells: &mut Vec<u64>, form: u8, word: u64) -> Result<Value, NoMemory
 /// Adds a variable with the value of its word.
 pub(crate) fn put_var(
     vars: &mut Vec<VarValue>,
-    cells: &mut Vec<u64>,
+    cells: &mut IndexSet<u64>,
     var: u32,
     form: u8,
     word: u64,
 ) -> Result<(), NoMemory>
-    ensures vars { OnOk result (vars.new.items ≡ vars.old.items ++ shown_vars cells.old.items
+    ensures vars { OnOk result (vars.new.items ≡ vars.old.items ++ shown_vars cells.old.keys
         ((record { var = var; form = form; word = word }) ∷ [])) }
-    ensures cells { OnOk result (cells.new.items ≡ cells_after cells.old.items
+    ensures cells { OnOk result (cells.new.keys ≡ cells_after cells.old.keys
         ((record { var = var; form = form; word = word }) ∷ [])) }
 {
     let value = value_of(cells, form, word)?;

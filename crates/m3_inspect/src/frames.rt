@@ -11,6 +11,7 @@ ghost use Rattle.m3_inspect.specs.Shown.{cells_after_frames};
 
 use crate::locals::{Site, locals};
 use crate::values::FrameView;
+use indexmap::IndexSet;
 use m3_base::{NoMemory, place_number};
 use m3_image::ImageView;
 use m3_image_decoded::Decoded;
@@ -88,15 +89,15 @@ fn frame_view(
     regs: &[u64; 16],
     stack: &[u64],
     frame: &Frame,
-    cells: &mut Vec<u64>,
+    cells: &mut IndexSet<u64>,
 ) -> Result<FrameView, NoMemory>
     ensures proc { frame.now.row < word_in (image_view image.now).program.tables
         → IfOk result (λ f. f.proc ≡ proc_of_frame (image_view image.now) frame.now) }
     ensures vars { frame.now.row < word_in (image_view image.now).program.tables
-        → IfOk result (λ f. f.vars.items ≡ shown_vars cells.old.items
+        → IfOk result (λ f. f.vars.items ≡ shown_vars cells.old.keys
         (held_in (image_view image.now) (regs.now ++ stack.now) frame.now)) }
     ensures cells { frame.now.row < word_in (image_view image.now).program.tables
-        → OnOk result (cells.new.items ≡ cells_after cells.old.items
+        → OnOk result (cells.new.keys ≡ cells_after cells.old.keys
         (held_in (image_view image.now) (regs.now ++ stack.now) frame.now)) }
 {
     let instr = instruction_of(image, frame);
@@ -118,14 +119,14 @@ pub(crate) fn frame_views(
     regs: &[u64; 16],
     stack: &[u64],
     frames: &[Frame],
-    cells: &mut Vec<u64>,
+    cells: &mut IndexSet<u64>,
 ) -> Result<Vec<FrameView>, NoMemory>
     ensures frames { HaveRows (image_view image.now).program frames.now
         → IfOk result (λ fs. map shown_frame fs.items ≡ shown_frames (image_view image.now)
-        (regs.now ++ stack.now) cells.old.items frames.now) }
+        (regs.now ++ stack.now) cells.old.keys frames.now) }
     ensures cells { HaveRows (image_view image.now).program frames.now
-        → OnOk result (cells.new.items ≡ cells_after_frames (image_view image.now)
-        (regs.now ++ stack.now) cells.old.items frames.now) }
+        → OnOk result (cells.new.keys ≡ cells_after_frames (image_view image.now)
+        (regs.now ++ stack.now) cells.old.keys frames.now) }
 {
     let mut views = Vec::new(alloc);
     for frame in frames {

@@ -8,6 +8,7 @@ ghost use Rattle.m3_inspect.specs.Shown.{shown_vars, cells_after};
 
 use crate::cells::put_var;
 use crate::values::VarValue;
+use indexmap::IndexSet;
 use m3_base::NoMemory;
 use m3_image::{ImageView, Pairs, VarView};
 use std::alloc::Global;
@@ -65,16 +66,16 @@ fn place_at(spans: Pairs<'_>, instr: u32) -> Option<u32>
 /// Adds a variable if it is in scope where a frame stands.
 fn put_local(
     vars: &mut Vec<VarValue>,
-    cells: &mut Vec<u64>,
+    cells: &mut IndexSet<u64>,
     number: u32,
     variable: &VarView<'_>,
     site: &Site<'_>,
 ) -> Result<(), NoMemory>
-    ensures vars { OnOk result (vars.new.items ≡ vars.old.items ++ shown_vars cells.old.items
+    ensures vars { OnOk result (vars.new.items ≡ vars.old.items ++ shown_vars cells.old.keys
         (held_at (site.now.regs.now ++ site.now.stack.now) site.now.first number
         (variable_of variable.now)
         (place_at site.now.instr (variable_of variable.now).spans))) }
-    ensures cells { OnOk result (cells.new.items ≡ cells_after cells.old.items
+    ensures cells { OnOk result (cells.new.keys ≡ cells_after cells.old.keys
         (held_at (site.now.regs.now ++ site.now.stack.now) site.now.first number
         (variable_of variable.now)
         (place_at site.now.instr (variable_of variable.now).spans))) }
@@ -93,12 +94,12 @@ pub(crate) fn locals(
     alloc: Global,
     image: &ImageView<'_>,
     site: &Site<'_>,
-    cells: &mut Vec<u64>,
+    cells: &mut IndexSet<u64>,
 ) -> Result<Vec<VarValue>, NoMemory>
-    ensures vars { IfOk result (λ vars. vars.items ≡ shown_vars cells.old.items
+    ensures vars { IfOk result (λ vars. vars.items ≡ shown_vars cells.old.keys
         (locals_from (site.now.regs.now ++ site.now.stack.now) site.now.first site.now.instr 0
         (image_view image.now).variables)) }
-    ensures cells { OnOk result (cells.new.items ≡ cells_after cells.old.items
+    ensures cells { OnOk result (cells.new.keys ≡ cells_after cells.old.keys
         (locals_from (site.now.regs.now ++ site.now.stack.now) site.now.first site.now.instr 0
         (image_view image.now).variables)) }
 {
@@ -125,14 +126,14 @@ fn global_word(globals: &[u64], number: u32) -> u64
 /// Adds a variable if it is a global.
 fn put_global(
     vars: &mut Vec<VarValue>,
-    cells: &mut Vec<u64>,
+    cells: &mut IndexSet<u64>,
     number: u32,
     variable: &VarView<'_>,
     words: &[u64],
 ) -> Result<(), NoMemory>
-    ensures vars { OnOk result (vars.new.items ≡ vars.old.items ++ shown_vars cells.old.items
+    ensures vars { OnOk result (vars.new.items ≡ vars.old.items ++ shown_vars cells.old.keys
         (global_at words.now number (variable_of variable.now))) }
-    ensures cells { OnOk result (cells.new.items ≡ cells_after cells.old.items
+    ensures cells { OnOk result (cells.new.keys ≡ cells_after cells.old.keys
         (global_at words.now number (variable_of variable.now))) }
 {
     if variable.proc == u32::MAX {
@@ -148,11 +149,11 @@ pub(crate) fn globals(
     alloc: Global,
     image: &ImageView<'_>,
     words: &[u64],
-    cells: &mut Vec<u64>,
+    cells: &mut IndexSet<u64>,
 ) -> Result<Vec<VarValue>, NoMemory>
-    ensures vars { IfOk result (λ vars. vars.items ≡ shown_vars cells.old.items
+    ensures vars { IfOk result (λ vars. vars.items ≡ shown_vars cells.old.keys
         (globals_from words.now 0 (image_view image.now).variables)) }
-    ensures cells { OnOk result (cells.new.items ≡ cells_after cells.old.items
+    ensures cells { OnOk result (cells.new.keys ≡ cells_after cells.old.keys
         (globals_from words.now 0 (image_view image.now).variables)) }
 {
     let mut vars = Vec::new(alloc);

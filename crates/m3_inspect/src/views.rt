@@ -11,6 +11,7 @@ ghost use Rattle.m3_inspect.specs.Shown.{shown_thread, ShowsThread, ShowThreads,
 use crate::frames::{frame_views, frames_of};
 use crate::locals::globals;
 use crate::values::{ThreadView, View};
+use indexmap::IndexSet;
 use m3_base::NoMemory;
 use m3_image_decoded::Decoded;
 use m3_threads::Threads;
@@ -30,13 +31,13 @@ fn thread_view(
     image: &Decoded<'_>,
     threads: &Threads,
     thread: u64,
-    cells: &mut Vec<u64>,
+    cells: &mut IndexSet<u64>,
 ) -> Result<Option<ThreadView>, NoMemory>
     ensures { (t : Thread) → thread_named threads.now thread ≡ Some t → t.number ≡ thread
         → IfOk result (λ found. MatchOption found ((frames : List AFrame)
         → AreFrames (image_of image.now).program threads.now t frames → ⊥)
-        (λ v. ShowsThread (image_of image.now) threads.now t cells.old.items (shown_thread v)
-        cells.new.items)) }
+        (λ v. ShowsThread (image_of image.now) threads.now t cells.old.keys (shown_thread v)
+        cells.new.keys)) }
 {
     let whole = image.image();
     whole.keeps_its_form();
@@ -65,13 +66,13 @@ fn put_threads(
     alloc: Global,
     image: &Decoded<'_>,
     threads: &Threads,
-    cells: &mut Vec<u64>,
+    cells: &mut IndexSet<u64>,
     views: &mut Vec<ThreadView>,
 ) -> Result<Option<u64>, NoMemory>
     requires { views.old.items ≡ [] }
     ensures { IfOk result (λ unframed. MatchOption unframed
-        (ShowThreads (image_of image.now) threads.now cells.old.items
-        (length threads.now.threads) (map shown_thread views.new.items) cells.new.items)
+        (ShowThreads (image_of image.now) threads.now cells.old.keys
+        (length threads.now.threads) (map shown_thread views.new.items) cells.new.keys)
         (IsUnframed (image_of image.now) threads.now)) }
 {
     for place in 0..64 {
@@ -96,7 +97,7 @@ fn try_view(
 ) -> Result<Result<View, u64>, NoMemory>
     ensures { IfOk result (λ r. Tries (image_of image.now) threads.now words.now r) }
 {
-    let mut cells = Vec::new(alloc);
+    let mut cells = IndexSet::new(alloc);
     let globals = globals(alloc, image.image(), words, &mut cells)?;
     let mut views = Vec::new(alloc);
     match put_threads(alloc, image, threads, &mut cells, &mut views)? {

@@ -10,5 +10,5 @@ invariant-loop-frame l =
     let words = l.fn.regs ++ l.fn.stack in
     let rest = drop l.frame-index l.fn.frames in
     HaveRows i.program l.fn.frames
-    → (map shown_frame l.views.items ++ shown_frames i words l.cells.items rest ≡ shown_frames i words l.fn.cells.items l.fn.frames)
-    × (cells_after_frames i words l.cells.items rest ≡ cells_after_frames i words l.fn.cells.items l.fn.frames)
+    → (map shown_frame l.views.items ++ shown_frames i words l.cells.keys rest ≡ shown_frames i words l.fn.cells.keys l.fn.frames)
+    × (cells_after_frames i words l.cells.keys rest ≡ cells_after_frames i words l.fn.cells.keys l.fn.frames)

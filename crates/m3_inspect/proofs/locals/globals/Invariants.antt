@@ -10,6 +10,6 @@ invariant-variables l =
     let rest = globals_from l.fn.words l.number (variables_list l.variable-iterator) in
     let all = globals_from l.fn.words 0 (image_view l.fn.image).variables in record {
       few : l.number + length (variables_list l.variable-iterator) ≤ 4294967295;
-      vars : l.vars.items ++ shown_vars l.cells.items rest ≡ shown_vars l.fn.cells.items all;
-      cells : cells_after l.cells.items rest ≡ cells_after l.fn.cells.items all;
+      vars : l.vars.items ++ shown_vars l.cells.keys rest ≡ shown_vars l.fn.cells.keys all;
+      cells : cells_after l.cells.keys rest ≡ cells_after l.fn.cells.keys all;
     }

@@ -23,13 +23,13 @@ variables-preserved c =
     let inv = c.variables.invariant in
     let steps : variables_list it ≡ v ∷ after = c.in-Some.ensures.steps in
     let few : number + length (v ∷ after) ≤ 4294967295 = subst (λ (vs : List Variable). number + length vs ≤ 4294967295) steps inv.few in
-    let vars = subst (λ (vs : List Variable). c.variables.vars.items ++ shown_vars c.variables.cells.items (locals_from (c.args.site.now.regs.now ++ c.args.site.now.stack.now) c.args.site.now.first c.args.site.now.instr number vs) ≡ shown_vars c.args.cells.now.items (locals_from (c.args.site.now.regs.now ++ c.args.site.now.stack.now) c.args.site.now.first c.args.site.now.instr 0 (image_view c.args.image.now).variables)) steps inv.vars in
-    let cells = subst (λ (vs : List Variable). cells_after c.variables.cells.items (locals_from (c.args.site.now.regs.now ++ c.args.site.now.stack.now) c.args.site.now.first c.args.site.now.instr number vs) ≡ cells_after c.args.cells.now.items (locals_from (c.args.site.now.regs.now ++ c.args.site.now.stack.now) c.args.site.now.first c.args.site.now.instr 0 (image_view c.args.image.now).variables)) steps inv.cells in
+    let vars = subst (λ (vs : List Variable). c.variables.vars.items ++ shown_vars c.variables.cells.keys (locals_from (c.args.site.now.regs.now ++ c.args.site.now.stack.now) c.args.site.now.first c.args.site.now.instr number vs) ≡ shown_vars c.args.cells.now.keys (locals_from (c.args.site.now.regs.now ++ c.args.site.now.stack.now) c.args.site.now.first c.args.site.now.instr 0 (image_view c.args.image.now).variables)) steps inv.vars in
+    let cells = subst (λ (vs : List Variable). cells_after c.variables.cells.keys (locals_from (c.args.site.now.regs.now ++ c.args.site.now.stack.now) c.args.site.now.first c.args.site.now.instr number vs) ≡ cells_after c.args.cells.now.keys (locals_from (c.args.site.now.regs.now ++ c.args.site.now.stack.now) c.args.site.now.first c.args.site.now.instr 0 (image_view c.args.image.now).variables)) steps inv.cells in
     let hs = held_at (c.args.site.now.regs.now ++ c.args.site.now.stack.now) c.args.site.now.first number v (place_at c.args.site.now.instr v.spans) in
     let gs = locals_from (c.args.site.now.regs.now ++ c.args.site.now.stack.now) c.args.site.now.first c.args.site.now.instr (number + 1) after in
     let put = c.in_ok-put_local.ensures in
     record {
       few = omega (arith, few);
-      vars = vars_more c.variables.vars.items c.put_local.new.vars.items _ c.variables.cells.items c.put_local.new.cells.items hs gs vars put.vars put.cells;
-      cells = cells_more c.variables.cells.items c.put_local.new.cells.items _ hs gs cells put.cells;
+      vars = vars_more c.variables.vars.items c.put_local.new.vars.items _ c.variables.cells.keys c.put_local.new.cells.keys hs gs vars put.vars put.cells;
+      cells = cells_more c.variables.cells.keys c.put_local.new.cells.keys _ hs gs cells put.cells;
     }
