@@ -1,4 +1,4 @@
-use Rattle.std.proofs.Common.{◌≡◌, ℕ, ◌+◌, ap, ◌∙◌}
+use Rattle.std.proofs.Common.{ℕ, ◌+◌, ap, ◌∙◌}
 use Rattle.m3_inspect.proofs.CellLemmas.{number_inserted, with_inserted}
 use Rattle.m3_inspect.proofs.cells.cell_number.Goals as goal
 

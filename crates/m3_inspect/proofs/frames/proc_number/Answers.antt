@@ -1,9 +1,7 @@
-use Rattle.std.proofs.Common.{rules, ◌≡◌, ◌+◌, ◌<◌, ◌^◌, length, sym, ap, subst, ◌∙◌, arith}
+use Rattle.std.proofs.Common.{rules, ◌≡◌, length}
 use Rattle.m3_image_sections.specs.Parts.{proc_in}
 use Rattle.m3_image_sections.specs.PartViews.{procs_of}
 use Rattle.m3_image_sections.proofs.ListLemmas.{length_each}
-use Rattle.m3_image.specs.Views.{image_view}
-use Rattle.m3_inspect.specs.Standing.{proc_number}
 use Rattle.m3_inspect.proofs.frames.proc_number.Goals as goal
 
 pub procs-init : goal.procs-init

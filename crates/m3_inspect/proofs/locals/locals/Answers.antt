@@ -1,4 +1,4 @@
-use Rattle.std.proofs.Common.{rules, ◌≡◌, ◌++◌, ◌+◌, ◌≤◌, List, ◌∷◌, length, ap, sym, ◌∙◌, subst, arith}
+use Rattle.std.proofs.Common.{rules, ◌≡◌, ◌++◌, ◌+◌, ◌≤◌, List, ◌∷◌, length, subst, arith}
 use Rattle.m3_image_sections.specs.Parts.{Variable, variable_at}
 use Rattle.m3_image_sections.specs.PartViews.{variable_of, variables_list}
 use Rattle.m3_image_sections.proofs.ListLemmas.{length_many}

@@ -1,7 +1,6 @@
-use Rattle.std.proofs.Common.{rules, ◌≡◌, ◌++◌, ℕ, ◌<◌, ◌≤◌, List, [], ◌∷◌, map, length, sym, ap, subst, arith}
+use Rattle.std.proofs.Common.{rules, ◌≡◌, ◌++◌, List, [], ◌∷◌, map, sym, ap, subst, arith}
 use Rattle.m3_image_decoded.specs.Ready.{image_of}
 use Rattle.m3_roots.proofs.CollectedLemmas.{thread_at}
-use Rattle.m3_inspect.specs.declared.values.ThreadView.{ThreadView}
 use Rattle.m3_inspect.specs.Shown.{ShownThread, shown_thread, ShowThreads, no_thread}
 use Rattle.m3_inspect.proofs.ThreadLemmas.{none_at, matched, missed, all_shown, one_more, is_unframed, within}
 use Rattle.m3_inspect.proofs.views.put_threads.Goals as goal

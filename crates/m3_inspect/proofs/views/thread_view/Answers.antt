@@ -1,7 +1,7 @@
-use Rattle.std.proofs.Common.{◌≡◌, ℕ, List, Some, refl, ap, ◌∙◌}
+use Rattle.std.proofs.Common.{◌≡◌}
 use Rattle.m3_threads.specs.All.{base_of, words_of, thread_named}
 use Rattle.m3_image_decoded.specs.Ready.{image_of}
-use Rattle.m3_roots.proofs.ThreadSteps.{told, frames_to}
+use Rattle.m3_roots.proofs.ThreadSteps.{told}
 use Rattle.m3_inspect.proofs.ThreadLemmas.{shows_by, matched}
 use Rattle.m3_inspect.proofs.views.thread_view.Goals as goal
 
