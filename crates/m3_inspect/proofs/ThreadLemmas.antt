@@ -16,7 +16,7 @@ use Rattle.m3_roots.proofs.ThreadSteps.{frames_from}
 use Rattle.m3_inspect.specs.declared.values.ThreadView.{ThreadView}
 use Rattle.m3_inspect.specs.Shown.{ShownFrame, ShownThread, shown_thread, IsUnframed, ShowsThread, ShowThreads, no_thread, thread, shown_frames, cells_after_frames}
 
-there : {A : Type 0} (xs : List A) (i : ℕ) → i < length xs → (x : A) × (slice_get xs i ≡ Some x)
+pub there : {A : Type 0} (xs : List A) (i : ℕ) → i < length xs → (x : A) × (slice_get xs i ≡ Some x)
 there [] i lt = absurd (omega arith)
 there (x ∷ xs) zero lt = (x, refl)
 there (x ∷ xs) (suc i) lt = there xs i (omega arith)
