@@ -1,5 +1,5 @@
 -- What threads and globals show stays at a collection.
-use Rattle.std.proofs.Common.{◌≡◌, ◌⊎◌, ℕ, zero, suc, ◌+◌, ◌<◌, ◌≤◌, ◌==◌, ◌||◌, Bool, true, false, List, [], ◌∷◌, ◌++◌, length, map, None, Some, inl, inr, refl, sym, ap, ◌∙◌, subst, arith, length-append}
+use Rattle.std.proofs.Common.{◌≡◌, ℕ, zero, suc, ◌+◌, ◌<◌, ◌≤◌, ◌==◌, ◌||◌, true, List, [], ◌∷◌, ◌++◌, length, map, None, Some, inl, inr, refl, sym, ap, ◌∙◌, subst, arith, length-append}
 use Rattle.std.specs.Prelude.{Contains, nat_le, slice_index_or}
 use Rattle.std.specs.List.{slice_get, AllByRecursion}
 use Rattle.std.proofs.lemmas.Bool.{cases_lt, cases_eq}
@@ -12,7 +12,7 @@ use Rattle.m3_heap.specs.Cells.{Cell, heap_base, is_start, layout}
 use Rattle.m3_heap.specs.Shapes.{Shape}
 use Rattle.m3_heap.specs.Moves.{Move, forwarded, moved_cells}
 use Rattle.m3_heap.specs.Reach.{IsBadPointer}
-use Rattle.m3_heap.specs.Heap.{Heap, KeepsLaws, first_base, second_base, nursery_base, lies_in, is_placed, old_words}
+use Rattle.m3_heap.specs.Heap.{Heap, first_base, second_base, nursery_base, lies_in, is_placed, old_words}
 use Rattle.m3_threads.specs.declared.status.Thread.{Thread}
 use Rattle.m3_threads.specs.All.{Everyone, base_of, words_of}
 use Rattle.m3_threads.proofs.Places.{some_same}
@@ -23,7 +23,7 @@ use Rattle.m3_roots.specs.ThreadWords.{word_at_place, place_of}
 use Rattle.m3_roots.specs.RowMeaning.{AreFramesAt, tidy_places, derived_words}
 use Rattle.m3_roots.specs.RowLists.{listed_places, barred_places, ListsFit}
 use Rattle.m3_roots.specs.Moving.{MovesWords}
-use Rattle.m3_roots.specs.Collected.{Parts, shapes_of, words_at, AreFrames, frames_at, tidy_words, all_tidy_words, tidy_globals, roots_of, with_registers, Collected, StopsThread, lists, tidy, StopsCollection, thread as stopped_thread, global as bad_global}
+use Rattle.m3_roots.specs.Collected.{Parts, shapes_of, words_at, AreFrames, frames_at, tidy_words, all_tidy_words, tidy_globals, roots_of, Collected, lists, tidy, StopsCollection, thread as stopped_thread, global as bad_global}
 use Rattle.m3_roots.proofs.ApartLemmas.{each_weaker}
 use Rattle.m3_roots.proofs.MarkLemmas.{false_if, clash, has_cases}
 use Rattle.m3_roots.proofs.FitLemmas.{listed_if}
@@ -33,9 +33,9 @@ use Rattle.m3_roots.proofs.ReachLemmas.{contains_first, contains_later}
 use Rattle.m3_roots.proofs.CollectedLemmas.{member}
 use Rattle.m3_roots.proofs.VisitLemmas.{IsKnown}
 use Rattle.m3_inspect.specs.Standing.{globals_from}
-use Rattle.m3_inspect.specs.Shown.{Shown, ShownFrame, ShownThread, ShowsThread, ShowThreads, no_thread, thread, shown_frames, cells_after_frames, shown_vars, cells_after, IsShown}
-use Rattle.m3_inspect.specs.Listed.{AreListed, HaveRegisters, FramesList}
-use Rattle.m3_inspect.proofs.MoveLemmas.{AreSoundMoves, AllKnown, moved_holding, shown_moved, after_moved, after_known}
+use Rattle.m3_inspect.specs.Shown.{Shown, ShownThread, ShowsThread, ShowThreads, no_thread, thread, shown_frames, cells_after_frames, shown_vars, cells_after, IsShown}
+use Rattle.m3_inspect.specs.Listed.{AreListed, HaveRegisters}
+use Rattle.m3_inspect.proofs.MoveLemmas.{AreSoundMoves, AllKnown, shown_moved, after_moved, after_known}
 use Rattle.m3_inspect.proofs.StayLemmas.{WordsMove, globals_move, frames_show}
 use Rattle.m3_inspect.proofs.ThreadLemmas.{there}
 
@@ -257,4 +257,3 @@ view_stays i old new s good registers listed whole c h =
       threads_shown = subst (λ (n : ℕ). ShowThreads i new.all (cells_after [] (globals_from new.globals 0 i.variables)) n s.threads (map (forwarded moves) h.cells)) (sym c.threads.count)
           (subst (λ (cs : List ℕ). ShowThreads i new.all cs (length old.all.threads) s.threads (map (forwarded moves) h.cells)) (sym after) stay.show);
     }
-

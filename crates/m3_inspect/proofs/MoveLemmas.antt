@@ -1,5 +1,5 @@
 -- Cells that move: no two references become the same, none becomes NIL, and cells keep their numbers.
-use Rattle.std.proofs.Common.{◌≡◌, ◌≢◌, ◌⊎◌, ℕ, suc, ◌<◌, ◌≤◌, ◌==◌, Bool, true, false, if◌then◌else◌, List, [], ◌∷◌, map, None, Some, inl, inr, refl, sym, ap, ◌∙◌, subst, arith}
+use Rattle.std.proofs.Common.{◌≡◌, ℕ, suc, ◌<◌, ◌≤◌, ◌==◌, Bool, true, false, if◌then◌else◌, List, [], ◌∷◌, map, Some, inl, inr, refl, sym, ap, ◌∙◌, arith}
 use Rattle.std.specs.Prelude.{nat_lt}
 use Rattle.std.specs.List.{AllByRecursion}
 use Rattle.std.proofs.lemmas.Bool.{cases_lt}
@@ -10,7 +10,6 @@ use Rattle.m3_heap.specs.Moves.{Move, new_start, is_kept, forwarded, DiffersFrom
 use Rattle.m3_threads.proofs.Places.{some_same}
 use Rattle.m3_roots.proofs.VisitLemmas.{IsKnown}
 use Rattle.m3_inspect.specs.declared.values.Value.{Value}
-use Rattle.m3_inspect.specs.declared.values.Value.TheVariants.{Number, Nil, Cell}
 use Rattle.m3_inspect.specs.declared.values.VarValue.{VarValue}
 use Rattle.m3_inspect.specs.Standing.{Holding}
 use Rattle.m3_inspect.specs.Shown.{with_cell, cell_number, value_of, cells_with, shown_var, shown_vars, cells_after}

@@ -2,10 +2,9 @@
 use Rattle.std.specs.Prelude.{ℕ, ◌≡◌, ◌==◌, ◌&&◌, Bool, true, not, if◌then◌else◌, List, [], map, length, Option, None, Some}
 use Rattle.std.specs.List.{AllByRecursion}
 use Rattle.m3_tables.specs.Numbers.{has}
-use Rattle.m3_threads.specs.declared.status.Thread.{Thread}
 use Rattle.m3_threads.specs.All.{Everyone, HoldsOfEach}
 use Rattle.m3_image_sections.specs.Forms.{none}
-use Rattle.m3_image_sections.specs.Parts.{Image, Variable}
+use Rattle.m3_image_sections.specs.Parts.{Image}
 use Rattle.m3_run_frames.specs.declared.frame.Frame.{Frame}
 use Rattle.m3_roots.specs.ThreadWords.{place_from, place_of}
 use Rattle.m3_roots.specs.RowMeaning.{tidy_places, derived_words}
