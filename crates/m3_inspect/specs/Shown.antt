@@ -49,12 +49,12 @@ shown_of v = record { globals = v.globals.items; threads = map shown_thread v.th
 -- the cells that are known, by their addresses in the order in which they appeared, with one more
 abbrev pub with_cell : List ℕ → ℕ → List ℕ
 with_cell [] at = at ∷ []
-with_cell (c ∷ cells) at = if c == at then c ∷ cells else c ∷ with_cell cells at
+with_cell (c ∷ cells) at = if at == c then c ∷ cells else c ∷ with_cell cells at
 
 -- the number of a cell, from 1: that of its place among those that are known, or the next
 abbrev pub cell_number : List ℕ → ℕ → ℕ
 cell_number [] at = 1
-cell_number (c ∷ cells) at = if c == at then 1 else suc (cell_number cells at)
+cell_number (c ∷ cells) at = if at == c then 1 else suc (cell_number cells at)
 
 -- ---- values
 

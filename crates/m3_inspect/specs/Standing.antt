@@ -24,7 +24,7 @@ global_at globals number v =
 -- the globals among the variables, the first of which has a number
 abbrev pub globals_from : List ℕ → ℕ → List Variable → List Holding
 globals_from globals number [] = []
-globals_from globals number (v ∷ vs) = global_at globals number v ++ globals_from globals (suc number) vs
+globals_from globals number (v ∷ vs) = global_at globals number v ++ globals_from globals (number + 1) vs
 
 -- ---- variables of procedures
 
@@ -44,7 +44,7 @@ held_at words first number v (Some place) =
 abbrev pub locals_from : List ℕ → ℕ → ℕ → ℕ → List Variable → List Holding
 locals_from words first instr number [] = []
 locals_from words first instr number (v ∷ vs) =
-    held_at words first number v (place_at instr v.spans) ++ locals_from words first instr (suc number) vs
+    held_at words first number v (place_at instr v.spans) ++ locals_from words first instr (number + 1) vs
 
 -- ---- frames
 

@@ -2,10 +2,15 @@
 //! variables that are in scope there.
 #![tactic(auto)]
 
+mod cells;
+mod frames;
+mod laws;
+mod locals;
 mod texts;
 mod values;
 mod views;
 
+pub use laws::{collections_change_no_view, views_are_one};
 pub use texts::text;
 pub use values::{FrameView, ThreadView, Value, VarValue, View};
-pub use views::ViewRefused;
+pub use views::{ViewRefused, view_of};

@@ -6,6 +6,7 @@ ghost use Rattle.m3_run_state.specs.Seen.{state_of};
 use crate::machine::Machine;
 use m3_heap::Store;
 use m3_image::ImageView;
+use m3_image_decoded::Decoded;
 use m3_threads::Threads;
 
 impl<'a, S: Store> Machine<'a, S> {
@@ -37,6 +38,13 @@ impl<'a, S: Store> Machine<'a, S> {
         self.parts.image.image()
     }
 
+    /// The same with its instructions and rows at hand.
+    pub fn decoded(&self) -> &Decoded<'a>
+        ensures { image_of result.now ≡ image_of self.now.parts.image }
+    {
+        &self.parts.image
+    }
+
     /// The threads that have not ended.
     pub fn threads(&self) -> &Threads
         ensures { result.now ≡ (state_of self.now.parts).all }
@@ -53,6 +61,13 @@ impl<'a, S: Store> Machine<'a, S> {
         } else {
             None
         }
+    }
+
+    /// The words of the globals.
+    pub fn globals(&self) -> &[u64]
+        ensures { result.now ≡ (state_of self.now.parts).globals }
+    {
+        &self.parts.memory.outside.globals
     }
 
     /// The heap.

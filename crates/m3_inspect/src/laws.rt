@@ -1,0 +1,24 @@
+//! What is shown doesn't hang on where cells lie.
+ghost use Rattle.std.specs.Prelude.{◌≡◌, ℕ, List, None};
+ghost use Rattle.m3_threads.specs.All.{Everyone};
+ghost use Rattle.m3_image_sections.specs.Parts.{Image};
+ghost use Rattle.m3_image.specs.Programs.{fault_of};
+ghost use Rattle.m3_roots.specs.Collected.{Parts, Collected, StopsCollection};
+ghost use Rattle.m3_inspect.specs.Listed.{AreListed, HaveRegisters};
+ghost use Rattle.m3_inspect.specs.Shown.{Shown, IsShown};
+
+/// A collection changes nothing of what is shown, where each reference that is shown is a tidy word
+/// or a pointer among the globals, and each ordinal is none of these and no derived word.
+pub fn collections_change_no_view()
+    ensures { (i : Image) (old new : Parts) (s : Shown) → fault_of i.program ≡ None
+        → HaveRegisters old.all → AreListed i old.all
+        → (StopsCollection i.program old → ⊥) → Collected i.program old new
+        → IsShown i old.all old.globals s → IsShown i new.all new.globals s }
+{}
+
+/// Threads and globals show one thing alone.
+pub fn views_are_one()
+    ensures { (i : Image) (all : Everyone) (globals : List ℕ) (s u : Shown)
+        → fault_of i.program ≡ None
+        → IsShown i all globals s → IsShown i all globals u → u ≡ s }
+{}
