@@ -84,7 +84,10 @@ fn collect_if<S: Store, L: Ledger>(parts: &mut Parts<'_, S, L>, asked: bool) -> 
 
 /// Passes a point: an entry is taken, the heap is collected where it says so, and the thread that
 /// goes is chosen. Or the run ends here.
-pub(crate) fn pass_point<S: Store, L: Ledger>(parts: &mut Parts<'_, S, L>, entry: Entry) -> Option<Outcome>
+pub(crate) fn pass_point<S: Store, L: Ledger>(
+    parts: &mut Parts<'_, S, L>,
+    entry: Entry,
+) -> Option<Outcome>
     ensures rest { rest_of parts.new ≡ record (rest_of parts.old) { stuck = parts.new.stuck } }
     ensures going { result ≡ None → parts.new.stuck ≡ parts.old.stuck }
     ensures passes { parts.old.made < 2 ^ 63 → IsGoing parts.old → MatchOption result

@@ -110,7 +110,11 @@ fn go_far<S: Store, L: Ledger>(parts: &mut Parts<'_, S, L>, turn: &mut Turn) -> 
 
 /// What follows where the running thread has come to a point instruction: it stands there, and its
 /// turn is over, or the next begins at once where no choice is left.
-fn settle_at_point<S: Store, L: Ledger>(parts: &mut Parts<'_, S, L>, turn: &mut Turn, i: Instr) -> Progress
+fn settle_at_point<S: Store, L: Ledger>(
+    parts: &mut Parts<'_, S, L>,
+    turn: &mut Turn,
+    i: Instr,
+) -> Progress
     requires instruction { IsInstruction i }
     requires point { is_point i.op ≡ true }
     ensures ahead { to_come turn.new ≤ to_come turn.old }
