@@ -86,7 +86,7 @@ settles-so p n u t (Some i) running e = ⊎_elim
     (cases_lt n (turn_limit p u)))
     (cases_Bool (is_point i.op))
 
-pub stops_now : {S : Type 0} {g : Ghosts S} {O : Type 0} (sink : SinkGhosts O) (p : Program) (start : State) (k : Track) (others : ℕ) (m : Parts S g) (turn : Turn) (before after : O) → IsCourse p start k
+pub stops_now : {S L : Type 0} {g : Ghosts S} {O : Type 0} (sink : SinkGhosts O) (p : Program) (start : State) (k : Track) (others : ℕ) (m : Parts S L g) (turn : Turn) (before after : O) → IsCourse p start k
     → (h : Acts_next p start k others m turn) → PutsToFault sink p k.input h.thread h.instruction (executed (state_of m)) before after → StopsAtFault sink p k.input k.allowed k.from k.output before after
 stops_now sink p start k others m turn before after known h f =
     let u = f.left in

@@ -105,14 +105,14 @@ reaches_past p k u turn t i n none went running next point few chooses =
 
 -- ---- in a turn
 
-pub leaves : {S : Type 0} {g : Ghosts S} (p : Program) (k : Track) (others : ℕ) (m : Parts S g) (turn : Turn) (h : Between p k others m turn) → slice_get p.code h.thread.regs.pc ≡ None → LeadsTo p k (Over (state_of m) (Trap 1))
+pub leaves : {S L : Type 0} {g : Ghosts S} (p : Program) (k : Track) (others : ℕ) (m : Parts S L g) (turn : Turn) (h : Between p k others m turn) → slice_get p.code h.thread.regs.pc ≡ None → LeadsTo p k (Over (state_of m) (Trap 1))
 leaves p k others m turn h none = h.went (Over (state_of m) (Trap 1)) (leaves_code (state_of m) h.thread h.running none)
 
-pub lasts : {S : Type 0} {g : Ghosts S} (p : Program) (k : Track) (others : ℕ) (m : Parts S g) (turn : Turn) (i : Instr) (h : Between p k others m turn) → slice_get p.code h.thread.regs.pc ≡ Some i → is_point i.op ≡ false
+pub lasts : {S L : Type 0} {g : Ghosts S} (p : Program) (k : Track) (others : ℕ) (m : Parts S L g) (turn : Turn) (i : Instr) (h : Between p k others m turn) → slice_get p.code h.thread.regs.pc ≡ Some i → is_point i.op ≡ false
     → turn_limit p (state_of m) ≤ turn.done → LeadsTo p k (Over (state_of m) (Trap 8))
 lasts p k others m turn i h next plain long = h.went (Over (state_of m) (Trap 8)) (lasts_too_long (state_of m) h.thread i h.running next plain long)
 
-pub goes_to_act : {S : Type 0} {g : Ghosts S} (p : Program) (start : State) (k : Track) (others : ℕ) (m : Parts S g) (turn : Turn) (i : Instr) → IsCourse p start k → (h : Halts p k others m turn)
+pub goes_to_act : {S L : Type 0} {g : Ghosts S} (p : Program) (start : State) (k : Track) (others : ℕ) (m : Parts S L g) (turn : Turn) (i : Instr) → IsCourse p start k → (h : Halts p k others m turn)
     → slice_get p.code h.between.thread.regs.pc ≡ Some i → is_point i.op ≡ false → turn.done < turn_limit p (state_of m) → Acts_next p start k others m turn
 goes_to_act p start k others m turn i known h next plain more =
     let b = h.between in
@@ -130,7 +130,7 @@ goes_to_act p start k others m turn i known h next plain more =
 
 -- ---- at its end
 
-pub comes_to_rest : {S : Type 0} {g : Ghosts S} (p : Program) (k : Track) (others : ℕ) (m n : Parts S g) (turn : Turn) (i : Instr) (h : Between p k others m turn) → slice_get p.code h.thread.regs.pc ≡ Some i → is_point i.op ≡ true
+pub comes_to_rest : {S L : Type 0} {g : Ghosts S} (p : Program) (k : Track) (others : ℕ) (m n : Parts S L g) (turn : Turn) (i : Instr) (h : Between p k others m turn) → slice_get p.code h.thread.regs.pc ≡ Some i → is_point i.op ≡ true
     → state_of n ≡ stands i (state_of m) → n.made ≡ m.made → n.stuck ≡ m.stuck → Rested p k others n turn
 comes_to_rest p k others m n turn i h next point is made unstuck =
     let points : n.points ≡ m.points = ap (λ (s : State). s.points) is in
@@ -145,7 +145,7 @@ comes_to_rest p k others m n turn i h next point is made unstuck =
     }
 
 -- over it, where no choice is left
-pub comes_past : {S : Type 0} {g : Ghosts S} (p : Program) (start : State) (k : Track) (others : ℕ) (m n : Parts S g) (turn new : Turn) (i : Instr) → IsCourse p start k → (h : Between p k others m turn)
+pub comes_past : {S L : Type 0} {g : Ghosts S} (p : Program) (start : State) (k : Track) (others : ℕ) (m n : Parts S L g) (turn new : Turn) (i : Instr) → IsCourse p start k → (h : Between p k others m turn)
     → slice_get p.code h.thread.regs.pc ≡ Some i → is_point i.op ≡ true → status_at i ≡ Ready → 1 ≤ turn.points
     → state_of n ≡ passed (stands i (state_of m)) → n.made ≡ m.made → n.stuck ≡ m.stuck → new.done ≡ 0 → new.points ≡ turn.points - 1 → Acts_next p start k others n new
 comes_past p start k others m n turn new i known h next point free some is made unstuck first fewer =

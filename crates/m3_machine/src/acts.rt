@@ -24,6 +24,7 @@ use m3_ports::{Sink, SinkFailed};
 use m3_run_meaning::Progress;
 use m3_run_meaning::near::{Place, before};
 use m3_run_state::Parts;
+use std::sync::ledger::Ledger;
 
 /// The kind of fault of a number.
 fn kind_of(number: u8) -> Option<FaultKind>
@@ -51,7 +52,7 @@ fn kind_of(number: u8) -> Option<FaultKind>
 }
 
 /// FAULT, whose kind and place every image has.
-fn fault<S: Store>(parts: &Parts<'_, S>, i: Instr) -> Progress
+fn fault<S: Store, L: Ledger>(parts: &Parts<'_, S, L>, i: Instr) -> Progress
     ensures { Follows (program_of parts.now) (faults_at (program_of parts.now) i)
         (state_of parts.now) (became result (state_of parts.now)) }
 {
@@ -65,7 +66,7 @@ fn fault<S: Store>(parts: &Parts<'_, S>, i: Instr) -> Progress
 }
 
 /// UNC: an exception that nobody handled.
-fn uncaught<S: Store>(parts: &Parts<'_, S>, i: Instr) -> Progress
+fn uncaught<S: Store, L: Ledger>(parts: &Parts<'_, S, L>, i: Instr) -> Progress
     requires { i.a < 16 }
     ensures { (t : Thread) → Running parts.now t
         → Follows (program_of parts.now) (is_uncaught (program_of parts.now) i t.regs)
@@ -82,8 +83,8 @@ fn uncaught<S: Store>(parts: &Parts<'_, S>, i: Instr) -> Progress
 }
 
 /// Carries out the running thread's instruction, which isn't plain.
-pub(crate) fn act<S: Store, O: Sink>(
-    parts: &mut Parts<'_, S>,
+pub(crate) fn act<S: Store, L: Ledger, O: Sink>(
+    parts: &mut Parts<'_, S, L>,
     out: &mut O,
 ) -> Result<Progress, SinkFailed>
     ensures rises { O.faults out.old ≤ O.faults out.new }
@@ -120,8 +121,8 @@ pub(crate) fn act<S: Store, O: Sink>(
 }
 
 /// Carries out an instruction, at which the running thread stands.
-fn act_at<S: Store, O: Sink>(
-    parts: &mut Parts<'_, S>,
+fn act_at<S: Store, L: Ledger, O: Sink>(
+    parts: &mut Parts<'_, S, L>,
     i: Instr,
     at: Place,
     out: &mut O,
@@ -157,7 +158,7 @@ fn act_at<S: Store, O: Sink>(
 }
 
 /// Carries out an instruction that puts nothing.
-fn act_silently<S: Store>(parts: &mut Parts<'_, S>, i: Instr, at: Place) -> Progress
+fn act_silently<S: Store, L: Ledger>(parts: &mut Parts<'_, S, L>, i: Instr, at: Place) -> Progress
     requires instruction { IsInstruction i }
     requires inside { at.pc < length (image_of parts.old.image).program.code }
     ensures rest { rest_of parts.new ≡ record (rest_of parts.old)

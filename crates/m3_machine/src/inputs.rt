@@ -16,10 +16,11 @@ use m3_ports::{Sink, SinkFailed};
 use m3_run_meaning::Progress;
 use m3_run_meaning::near::truth;
 use m3_run_state::Parts;
+use std::sync::ledger::Ledger;
 
 /// PUTN: a signed number in decimal.
-pub(crate) fn put_number<S: Store, O: Sink>(
-    parts: &mut Parts<'_, S>,
+pub(crate) fn put_number<S: Store, L: Ledger, O: Sink>(
+    parts: &mut Parts<'_, S, L>,
     i: Instr,
     out: &mut O,
 ) -> Result<Progress, SinkFailed>
@@ -42,8 +43,8 @@ pub(crate) fn put_number<S: Store, O: Sink>(
 }
 
 /// PUTC: the low byte.
-pub(crate) fn put_byte<S: Store, O: Sink>(
-    parts: &mut Parts<'_, S>,
+pub(crate) fn put_byte<S: Store, L: Ledger, O: Sink>(
+    parts: &mut Parts<'_, S, L>,
     i: Instr,
     out: &mut O,
 ) -> Result<Progress, SinkFailed>
@@ -65,14 +66,14 @@ pub(crate) fn put_byte<S: Store, O: Sink>(
 }
 
 /// Whether all of the input was taken.
-fn is_at_end<S: Store>(parts: &Parts<'_, S>) -> bool
+fn is_at_end<S: Store, L: Ledger>(parts: &Parts<'_, S, L>) -> bool
     ensures { result ≡ nat_le (length parts.now.input.now) parts.now.taken }
 {
     parts.taken >= parts.input.len()
 }
 
 /// GETC: the next byte of the input, or a jump where none is left.
-pub(crate) fn get_byte<S: Store>(parts: &mut Parts<'_, S>, i: Instr) -> Progress
+pub(crate) fn get_byte<S: Store, L: Ledger>(parts: &mut Parts<'_, S, L>, i: Instr) -> Progress
     requires { i.a < 16 }
     ensures rest { rest_of parts.new ≡ rest_of parts.old }
     ensures gets { (t : Thread) → Running parts.old t
@@ -88,7 +89,7 @@ pub(crate) fn get_byte<S: Store>(parts: &mut Parts<'_, S>, i: Instr) -> Progress
 }
 
 /// EOF.
-pub(crate) fn tell_end<S: Store>(parts: &mut Parts<'_, S>, i: Instr) -> Progress
+pub(crate) fn tell_end<S: Store, L: Ledger>(parts: &mut Parts<'_, S, L>, i: Instr) -> Progress
     requires { i.a < 16 }
     ensures rest { rest_of parts.new ≡ rest_of parts.old }
     ensures tells { (t : Thread) → Running parts.old t
@@ -100,7 +101,7 @@ pub(crate) fn tell_end<S: Store>(parts: &mut Parts<'_, S>, i: Instr) -> Progress
 }
 
 /// SELF: word 2 of the thread's stack.
-pub(crate) fn tell_self<S: Store>(parts: &mut Parts<'_, S>, i: Instr) -> Progress
+pub(crate) fn tell_self<S: Store, L: Ledger>(parts: &mut Parts<'_, S, L>, i: Instr) -> Progress
     requires { i.a < 16 }
     ensures rest { rest_of parts.new ≡ rest_of parts.old }
     ensures tells { (t : Thread) → Running parts.old t

@@ -21,6 +21,7 @@ use m3_heap::Store;
 use m3_ports::{Sink, SinkFailed};
 use m3_run_meaning::Progress;
 use m3_run_state::Parts;
+use std::sync::ledger::Ledger;
 
 /// Past its last entry a schedule names no thread and asks for no collection.
 fn first_entry(entries: &[Entry]) -> Entry
@@ -45,7 +46,7 @@ fn later_entries(entries: &[Entry]) -> &[Entry]
 }
 
 /// What every image keeps, and the most instructions of a turn.
-fn know_image<S: Store>(parts: &Parts<'_, S>)
+fn know_image<S: Store, L: Ledger>(parts: &Parts<'_, S, L>)
     ensures begins { BeginsAtPoints (program_of parts.now) }
     ensures short { longest (program_of parts.now) (state_of parts.now) ≤ 4611686018427387904 }
 {
@@ -74,8 +75,8 @@ fn ended(progress: Progress) -> Option<Outcome>
 }
 
 /// Passes a point, and carries out the turn that begins there; or the run ends.
-fn next_turn<S: Store, O: Sink>(
-    parts: &mut Parts<'_, S>,
+fn next_turn<S: Store, L: Ledger, O: Sink>(
+    parts: &mut Parts<'_, S, L>,
     entries: &[Entry],
     left: &mut u64,
     out: &mut O,
@@ -108,7 +109,7 @@ fn next_turn<S: Store, O: Sink>(
     Ok(ended(progress))
 }
 
-impl<'a, S: Store> Machine<'a, S> {
+impl<'a, S: Store, L: Ledger> Machine<'a, S, L> {
     /// Runs on, with a schedule and so many points at most. SinkFailed comes only where a put
     /// failed, and the sink's count of faults rose: then the sink has the output up to the piece
     /// that failed, but for what waited in it, and nothing more was put. An outcome says that it

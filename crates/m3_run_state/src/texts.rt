@@ -29,6 +29,7 @@ use m3_heap::Store;
 use m3_isa::{Instr, Words};
 use m3_ports::{Sink, SinkFailed};
 use m3_run_meaning::Progress;
+use std::sync::ledger::Ledger;
 
 /// A new text cell that is being filled: its address, and how many words it has.
 #[derive(Clone, Copy)]
@@ -93,7 +94,7 @@ fn bytes_in(count: u64, k: u64) -> usize
     (count - k * 8).min(8) as usize
 }
 
-impl<'a, S: Store> Parts<'a, S> {
+impl<'a, S: Store, L: Ledger> Parts<'a, S, L> {
     /// The word at an address as it was before a new cell was filled.
     fn load_before(&self, blank: Blank, at: u64) -> Option<u64>
         ensures { (before : Memory) → WasBlank blank.start blank.words before

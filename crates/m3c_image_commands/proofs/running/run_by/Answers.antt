@@ -3,7 +3,7 @@ use Rattle.m3c_image_commands.specs.ImageCommands.{setting_of_run}
 use Rattle.m3_image.specs.Views.{image_view}
 use Rattle.m3_run_state.specs.Seen.{state_of, program_of}
 use Rattle.m3c_image_commands.proofs.RunLemmas.{begins_first, ends_run, ran_as_far}
-use Rattle.m3c_image_commands.proofs.running.run_view.Goals as goal
+use Rattle.m3c_image_commands.proofs.running.run_by.Goals as goal
 
 pub returns-in-Ok-run : goal.returns-in-Ok-run
 returns-in-Ok-run g c =
