@@ -1,0 +1,4 @@
+pub mod Words
+pub mod Finding
+pub mod Steps
+pub mod Walking
