@@ -1,14 +1,12 @@
 -- What is found in rows, and among options that were given.
-use Rattle.std.proofs.Common.{◌≡◌, ◌∙◌, ◌==◌, ◌&&◌, ℕ, Bool, cond, not, List, [], ◌∷◌, ◌++◌, None, Some, Option, true, false, refl, sym, ap, subst, codes}
-use Rattle.std.specs.Prelude.{find, is_some, if◌then◌else◌}
-use Rattle.std.specs.List.{AllByRecursion, list_any}
-use Rattle.std.specs.Option.{option_map, option_map_or}
+use Rattle.std.proofs.Common.{◌≡◌, ◌∙◌, Bool, cond, List, [], ◌∷◌, ◌++◌, None, Some, Option, true, false, refl, sym, ap, subst}
+use Rattle.std.specs.Prelude.{is_some}
+use Rattle.std.specs.List.{AllByRecursion}
+use Rattle.std.specs.Option.{option_map}
 use Rattle.std.specs.Str.{bytes_eq}
 use Rattle.std.proofs.lemmas.Slice.Eq.{bytes_eq-Decides}
-use Rattle.clap.specs.Facts.{explicit_source}
 use Rattle.clap.specs.Takes.{is_given}
-use Rattle.clap.specs.Walk.{Row, Text, all_of, at_row, has_row, more_values, with_values, without}
-use Rattle.clap.specs.declared.parser.matches.ValueSource.{ValueSource}
+use Rattle.clap.specs.Walk.{Row, Text, all_of, has_row, with_values, without}
 use Rattle.clap.specs.declared.parser.matches.ValueSource.TheVariants.{CommandLine}
 use Rattle.clap.specs.declared.builder.value_parser.Reading.{Reading}
 use Rattle.m3c_words_laws.specs.Reads.{AreApart, Given, value_of}
@@ -94,7 +92,7 @@ pub value_other : (option value other : Text) (given : Given) → bytes_eq optio
 value_other option value other [] differs = rw differs refl
 value_other option value other (g ∷ given) differs = ap (λ (o : Option Text). cond (bytes_eq g.0 other) (Some g.1) o) (value_other option value other given differs)
 
-turned : (a b : Text) → bytes_eq a b ≡ false → bytes_eq b a ≡ false
+pub turned : (a b : Text) → bytes_eq a b ≡ false → bytes_eq b a ≡ false
 turned a b e = go (bytes_eq b a) refl
   where
     go : (t : Bool) → bytes_eq b a ≡ t → t ≡ false

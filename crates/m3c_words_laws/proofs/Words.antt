@@ -1,13 +1,13 @@
 -- The forms that a word has.
-use Rattle.std.proofs.Common.{◌≡◌, ◌∙◌, ◌==◌, ◌&&◌, ◌||◌, ◌+◌, ℕ, Bool, not, zero, suc, length, List, [], ◌∷◌, ◌++◌, None, Some, Option, true, false, refl, sym, ap, ap₂, subst, codes, inl, inr, ◌⊎◌, eqb-true, arith}
-use Rattle.std.specs.Str.{IsUtf8, bytes_eq, chars}
+use Rattle.std.proofs.Common.{◌≡◌, ◌∙◌, ◌==◌, ◌||◌, ℕ, Bool, zero, suc, List, [], ◌∷◌, ◌++◌, None, true, false, refl, sym, subst, codes, inl, inr, ◌⊎◌, eqb-true, arith}
+use Rattle.std.specs.List.{list_any}
+use Rattle.std.specs.Str.{bytes_eq}
 use Rattle.std.proofs.lemmas.Bool.Decides.{nat_tests}
 use Rattle.clap.proofs.CutLemmas.{Lacks}
-use Rattle.std.specs.Prelude.{slice_get, if◌then◌else◌}
 use Rattle.std.proofs.lemmas.Slice.Eq.{bytes_eq-Decides}
 use Rattle.clap.specs.Lexer.{long_of, short_of}
 use Rattle.clap.specs.Walk.{Text, is_empty}
-use Rattle.m3c_words_laws.specs.Reads.{IsOneOf, is_free, options_of_runs}
+use Rattle.m3c_words_laws.specs.Reads.{IsOneOf, is_free}
 
 pub data View : Text → Type 0 where
   free : (word : Text) → is_free word ≡ true → long_of word ≡ None → short_of word ≡ None → bytes_eq word (codes "--") ≡ false → View word
@@ -78,6 +78,15 @@ lacks_none i within is = omega (arith, within)
 lacks_more : (x : ℕ) (text : Text) → (x == 61) ≡ false → Lacks 61 text → Lacks 61 (x ∷ text)
 lacks_more x text e lacks zero within is = let same : x ≡ 61 = is in grind (arith, nat_tests)
 lacks_more x text e lacks (suc i) within is = lacks i (omega (arith, within)) is
+
+-- a test of it
+pub lacks_equals : (text : Text) → list_any (λ x. x == 61) text ≡ false → Lacks 61 text
+lacks_equals [] e = lacks_none
+lacks_equals (x ∷ text) e = go (x == 61) refl e (lacks_equals text)
+  where
+    go : (t : Bool) → (x == 61) ≡ t → (t || list_any (λ y. y == 61) text) ≡ false → (list_any (λ y. y == 61) text ≡ false → Lacks 61 text) → Lacks 61 (x ∷ text)
+    go true is e further = absurd (false_true (sym e))
+    go false is e further = lacks_more x text is (further e)
 
 cut_more : (x : ℕ) (text : Text) → (x == 61) ≡ false → Cut text → Cut (x ∷ text)
 cut_more x text e (whole t lacks) = whole (x ∷ t) (lacks_more x t e lacks)

@@ -22,6 +22,10 @@ IsOneOf name (other ∷ names) = (name ≡ other) ⊎ IsOneOf name names
 abbrev pub Given : Type 0
 Given = List (Text × Text)
 
+-- the word `--name=value`
+abbrev pub with_value : Text → Text → Text
+with_value option value = codes "--" ++ (option ++ (codes "=" ++ value))
+
 -- The words behind a command's name, which has these options, are options and names. An option is `--name value` or
 -- `--name=value`; each word behind the first `--` is a name.
 pub data Spell (options : List Text) : List Text → Given → List Text → Type 0 where
@@ -31,7 +35,7 @@ pub data Spell (options : List Text) : List Text → Given → List Text → Typ
   apart : (option value : Text) (words : List Text) (given : Given) (names : List Text) → IsOneOf option options → is_free value ≡ true → Spell options words given names
       → Spell options ((codes "--" ++ option) ∷ value ∷ words) ((option, value) ∷ given) names
   joined : (option value : Text) (words : List Text) (given : Given) (names : List Text) → IsOneOf option options → Spell options words given names
-      → Spell options ((codes "--" ++ option ++ codes "=" ++ value) ∷ words) ((option, value) ∷ given) names
+      → Spell options (with_value option value ∷ words) ((option, value) ∷ given) names
 
 -- the value that an option has, if it is given
 abbrev pub value_of : Text → Given → Option Text
