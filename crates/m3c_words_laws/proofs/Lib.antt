@@ -1,0 +1,9 @@
+pub mod Words
+pub mod Finding
+pub mod Steps
+pub mod Walking
+pub mod Names
+pub mod Meanings
+pub mod Levels
+pub mod Leaves
+pub mod Laws
