@@ -3,8 +3,10 @@
 
 ghost use Rattle.m3_source_meaning_tests.specs.Example.{ExamplePutsThree};
 ghost use Rattle.m3_source_meaning_tests.specs.Growing.{StoreGrows};
-ghost use Rattle.m3_source_meaning_tests.specs.Laws.{HasOneRun, GoesOn, OutputGrows, BudgetEnds, EveryTurnEnds, LeftFaultsFirst};
-ghost use Rattle.m3_source_meaning_tests.specs.Laws.{IsAssociative, FinallyNothing, FinallyReplaces, NothingHandled, ElseHandlesAll, ExitEndsLoop};
+ghost use Rattle.m3_source_meaning_tests.specs.Limits.{LoopsEnd, LoopsGoOn};
+ghost use Rattle.m3_source_meaning_tests.specs.Own.{OwnStays};
+ghost use Rattle.m3_source_meaning_tests.specs.Laws.{HasOneRun, GoesOn, OutputGrows, BudgetEnds, EveryTurnEnds};
+ghost use Rattle.m3_source_meaning.specs.Laws.{LeftFaultsFirst, IsAssociative, FinallyNothing, FinallyRuns, FinallyReplaces, NothingHandled, ElseHandlesAll, ExitEndsLoop, PendingCounts};
 
 /// A program that puts `1 + 2` and then divides by 0 puts 3 and ends with the fault of that line.
 pub fn example_puts_three()
@@ -51,6 +53,11 @@ pub fn finally_nothing()
     ensures { FinallyNothing }
 {}
 
+/// The last part of TRY FINALLY comes before each of the four ways out of its body.
+pub fn finally_runs()
+    ensures { FinallyRuns }
+{}
+
 /// A RETURN in the last part replaces every way in which the body was left.
 pub fn finally_replaces()
     ensures { FinallyReplaces }
@@ -75,4 +82,27 @@ pub fn exit_ends_loop()
 /// activation the one around it.
 pub fn store_grows()
     ensures { StoreGrows }
+{}
+
+/// No loop of a program ends for want of turns: whatever stood at the limit that its meaning has,
+/// it would mean the same.
+pub fn loops_end()
+    ensures { LoopsEnd }
+{}
+
+/// A loop is its first turn and then, where that wasn't the last, the loop again.
+pub fn loops_go_on()
+    ensures { LoopsGoOn }
+{}
+
+/// No place of a variable gets out that its activation doesn't share: no actual and no alias is one,
+/// and no store has the variable, whatever the activation is called with and told that names none.
+pub fn own_stays()
+    ensures { OwnStays }
+{}
+
+/// The words of a state count each cell that is named by what an activation holds for later, or by
+/// the action at which its thread stands.
+pub fn pending_counts()
+    ensures { PendingCounts }
 {}

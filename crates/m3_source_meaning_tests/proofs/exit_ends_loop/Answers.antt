@@ -1,4 +1,4 @@
-use Rattle.m3_source_meaning_tests.proofs.Laws.{exit_ends_loop}
+use Rattle.m3_source_meaning.proofs.Laws.{exit_ends_loop}
 use Rattle.m3_source_meaning_tests.proofs.exit_ends_loop.Goals as goal
 
 pub returns : goal.returns

@@ -1,4 +1,4 @@
-use Rattle.m3_source_meaning_tests.proofs.Laws.{left_faults_first}
+use Rattle.m3_source_meaning.proofs.Laws.{left_faults_first}
 use Rattle.m3_source_meaning_tests.proofs.left_faults_first.Goals as goal
 
 pub returns : goal.returns

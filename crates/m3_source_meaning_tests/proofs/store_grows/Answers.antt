@@ -1,4 +1,4 @@
-use Rattle.m3_source_meaning_tests.proofs.SafeProcedures.{store_grows}
+use Rattle.m3_source_meaning_tests.proofs.GrowingStores.{store_grows}
 use Rattle.m3_source_meaning_tests.proofs.store_grows.Goals as goal
 
 pub returns : goal.returns

@@ -1,0 +1,7 @@
+pub mod Staying
+pub mod Combining
+pub mod Operands
+pub mod Operating
+pub mod Rows
+pub mod Constructing
+pub mod Expressions
