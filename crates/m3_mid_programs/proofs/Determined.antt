@@ -19,8 +19,9 @@ use Rattle.m3_mid_programs.specs.Activations as place
 use Rattle.m3_mid_programs.specs.Activations.{Memory, Frame, Activation, Activity, Bodies, Applying, Within, Came, Comes}
 use Rattle.m3_mid_programs.specs.Actions.{told_as}
 use Rattle.m3_mid_programs.specs.Cells as cells
-use Rattle.m3_mid_programs.specs.Programs as programs
-use Rattle.m3_mid_programs.specs.Programs.{Moves, Callee, has_room, entered_state, move_of, left, Enters, GoesOn, mid_language}
+use Rattle.m3_mid_programs.specs.Moves as moving
+use Rattle.m3_mid_programs.specs.Moves.{Moves, Callee, has_room, entered_state, move_of, left, Enters, GoesOn}
+use Rattle.m3_mid_programs.specs.Programs.{mid_language}
 
 -- two effects of one operation are one
 acts_same : (e e' : Event) (r r' : Answer → Next) (x : Effect) → x ≡ Acts e r → x ≡ Acts e' r' → (e ≡ e') × (r ≡ r')
@@ -73,21 +74,21 @@ module _ (linked : Linked) where
   -- ---- entering
 
   enters_once : (called : Option Callee) (m : Memory) (e e' : Entered Activity Value Memory) → Enters linked called m e → Enters linked called m e' → e ≡ e'
-  enters_once called m e e' (programs.breaks h) (programs.breaks h') = refl
-  enters_once called m e e' (programs.breaks h) (programs.overflows c h' r') = absurd (let q : None ≡ Some c = sym h ∙ h' in cc)
-  enters_once called m e e' (programs.breaks h) (programs.begins c came h' r' k') = absurd (let q : None ≡ Some c = sym h ∙ h' in cc)
-  enters_once called m e e' (programs.overflows c h r) (programs.breaks h') = absurd (let q : None ≡ Some c = sym h' ∙ h in cc)
-  enters_once called m e e' (programs.overflows c h r) (programs.overflows c' h' r') = refl
-  enters_once called m e e' (programs.overflows c h r) (programs.begins c' came' h' r' k') =
+  enters_once called m e e' (moving.breaks h) (moving.breaks h') = refl
+  enters_once called m e e' (moving.breaks h) (moving.overflows c h' r') = absurd (let q : None ≡ Some c = sym h ∙ h' in cc)
+  enters_once called m e e' (moving.breaks h) (moving.begins c came h' r' k') = absurd (let q : None ≡ Some c = sym h ∙ h' in cc)
+  enters_once called m e e' (moving.overflows c h r) (moving.breaks h') = absurd (let q : None ≡ Some c = sym h' ∙ h in cc)
+  enters_once called m e e' (moving.overflows c h r) (moving.overflows c' h' r') = refl
+  enters_once called m e e' (moving.overflows c h r) (moving.begins c' came' h' r' k') =
       let q : Some c ≡ Some c' = sym h ∙ h' in
       let same : c ≡ c' = cc in
       absurd (let x : false ≡ true = sym r ∙ ap (λ (d : Callee). has_room linked d.frame) same ∙ r' in cc)
-  enters_once called m e e' (programs.begins c came h r k) (programs.breaks h') = absurd (let q : None ≡ Some c = sym h' ∙ h in cc)
-  enters_once called m e e' (programs.begins c came h r k) (programs.overflows c' h' r') =
+  enters_once called m e e' (moving.begins c came h r k) (moving.breaks h') = absurd (let q : None ≡ Some c = sym h' ∙ h in cc)
+  enters_once called m e e' (moving.begins c came h r k) (moving.overflows c' h' r') =
       let q : Some c ≡ Some c' = sym h ∙ h' in
       let same : c ≡ c' = cc in
       absurd (let x : false ≡ true = sym r' ∙ sym (ap (λ (d : Callee). has_room linked d.frame) same) ∙ r in cc)
-  enters_once called m e e' (programs.begins c came h r k) (programs.begins c' came' h' r' k') =
+  enters_once called m e e' (moving.begins c came h r k) (moving.begins c' came' h' r' k') =
       let q : Some c ≡ Some c' = sym h ∙ h' in
       let same : c' ≡ c = cc in
       let k2 = subst (λ (d : Callee). Comes d.frame.procedure.code d.frame.around [] (block_ends.Goto d.frame.procedure.code.start) (entered_state d m) came') same k' in
@@ -97,19 +98,19 @@ module _ (linked : Linked) where
   -- ---- going on
 
   goes_once : (answer : run.Answer Value) (m : Memory) (s : Activity) (move move' : Moves) → GoesOn linked answer m s move → GoesOn linked answer m s move' → move ≡ move'
-  goes_once answer m s move move' (programs.next stack order) (programs.next _ _) = refl
-  goes_once answer m s move move' (programs.applied stack) (programs.applied _) = refl
-  goes_once answer m s move move' (programs.over a event reply ending e h) (programs.over _ event' reply' ending' e' h') =
+  goes_once answer m s move move' (moving.next stack order) (moving.next _ _) = refl
+  goes_once answer m s move move' (moving.applied stack) (moving.applied _) = refl
+  goes_once answer m s move move' (moving.over a event reply ending e h) (moving.over _ event' reply' ending' e' h') =
       let same = (acts_same event event' reply reply' (effect_of a.frame.procedure.code.slots.now a.frame.around a.state a.op) e e').1 in
       let q : Ends ending ≡ Ends ending' = sym h ∙ ap (λ r. r (told_as answer m.words)) same ∙ h' in
       let one : ending ≡ ending' = cc in ap (left a.frame m) one
-  goes_once answer m s move move' (programs.over a event reply ending e h) (programs.further _ event' reply' s' came' e' h' k') =
+  goes_once answer m s move move' (moving.over a event reply ending e h) (moving.further _ event' reply' s' came' e' h' k') =
       let same = (acts_same event event' reply reply' (effect_of a.frame.procedure.code.slots.now a.frame.around a.state a.op) e e').1 in
       absurd (let q : Ends ending ≡ Goes s' = sym h ∙ ap (λ r. r (told_as answer m.words)) same ∙ h' in cc)
-  goes_once answer m s move move' (programs.further a event reply s' came e h k) (programs.over _ event' reply' ending' e' h') =
+  goes_once answer m s move move' (moving.further a event reply s' came e h k) (moving.over _ event' reply' ending' e' h') =
       let same = (acts_same event event' reply reply' (effect_of a.frame.procedure.code.slots.now a.frame.around a.state a.op) e e').1 in
       absurd (let q : Goes s' ≡ Ends ending' = sym h ∙ ap (λ r. r (told_as answer m.words)) same ∙ h' in cc)
-  goes_once answer m s move move' (programs.further a event reply s1 came e h k) (programs.further _ event' reply' s2 came' e' h' k') =
+  goes_once answer m s move move' (moving.further a event reply s1 came e h k) (moving.further _ event' reply' s2 came' e' h' k') =
       let same = (acts_same event event' reply reply' (effect_of a.frame.procedure.code.slots.now a.frame.around a.state a.op) e e').1 in
       let q : Goes s1 ≡ Goes s2 = sym h ∙ ap (λ r. r (told_as answer m.words)) same ∙ h' in
       let one : s2 ≡ s1 = cc in
@@ -125,11 +126,11 @@ module _ (linked : Linked) where
   after_once parts new v v' after after' (cells.makes c e) (cells.makes c' e') =
       let q : Some c ≡ Some c' = sym e ∙ e' in
       let same : c ≡ c' = cc in
-      ap (λ i. record parts { memory = cells.with_new_cell linked parts new i }) same
+      ap (λ i. record parts { memory = cells.with_new_cell parts new i }) same
 
   pub determined : IsDetermined (mid_language linked)
   determined = record {
-    enters = λ ss q environment vs m e e' h h'. enters_once (programs.callee linked ss q environment vs) m e e' h h';
+    enters = λ ss q environment vs m e e' h h'. enters_once (moving.callee linked ss q environment vs) m e e' h h';
     goes = λ s a m move move' h h'. goes_once a m s move move' h h';
     made = λ parts n new v v' after after'. made_once parts new v v' after after';
     makes = λ parts n new v v' after after'. after_once parts new v v' after after';

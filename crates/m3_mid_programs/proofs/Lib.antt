@@ -1,3 +1,5 @@
 pub mod Determined
 pub mod Stopping
 pub mod Running
+pub mod Relations
+pub mod Lifting

@@ -19,8 +19,9 @@ use Rattle.m3_mid_programs.specs.Linked.{Linked}
 use Rattle.m3_mid_programs.specs.Values.{Value}
 use Rattle.m3_mid_programs.specs.Activations.{Memory, with_words, Frame, Activation, Activity, Within, Came, Ended, Comes}
 use Rattle.m3_mid_programs.specs.Actions.{action_of, told_as}
-use Rattle.m3_mid_programs.specs.Programs as programs
-use Rattle.m3_mid_programs.specs.Programs.{Moves, Callee, callee, entered_memory, entered_state, result_in, without_frame, leaves_with, leaves_by, left, acts, move_of, Enters, GoesOn, mid_language}
+use Rattle.m3_mid_programs.specs.Moves as moving
+use Rattle.m3_mid_programs.specs.Moves.{Moves, Callee, callee, entered_memory, entered_state, result_in, without_frame, leaves_with, leaves_by, left, acts, move_of, Enters, GoesOn}
+use Rattle.m3_mid_programs.specs.Programs.{mid_language}
 use Rattle.m3_mid_programs.specs.Histories as histories
 use Rattle.m3_mid_programs.specs.Histories.{Call, Told, told_more, MovesTo}
 use Rattle.m3_mid_programs.specs.Laws as laws
@@ -118,13 +119,13 @@ module _ (linked : Linked) where
 
     going : (told : History) (answer : run.Answer Value) (m : Memory) (events : List Event) (st : State) (op : MidOp) (event : Event) (reply : Answer → Next) (rest : Code) (move : Moves) → effect_of e.frame.procedure.code.slots.now e.frame.around st op ≡ Acts event reply →
         UpTo (answers_of told) events (AtPoint event reply rest) → GoesOn linked answer m (Within (record { frame = e.frame; state = st; op = op; rest = rest })) move → Known (told_more told answer m) move
-    going told answer m events st op event reply rest move h up (programs.over _ event' reply' ending h' r) =
+    going told answer m events st op event reply rest move h up (moving.over _ event' reply' ending h' r) =
         let p = e.frame.procedure.code in
         let q : Acts event reply ≡ Acts event' reply' = sym h ∙ h' in
         let same : reply' ≡ reply = cc in
         let r2 : reply (told_as answer m.words) ≡ Ends ending = subst (λ f. f (told_as answer m.words) ≡ Ends ending) same r in
         further told answer m events event reply rest (Ended ending) (AtEnd ending) up (at_end ending) (λ more o follows. subst (λ n. FollowsNext p e.frame.around rest n more o) (sym r2) follows)
-    going told answer m events st op event reply rest move h up (programs.further _ event' reply' s came h' r k) =
+    going told answer m events st op event reply rest move h up (moving.further _ event' reply' s came h' r k) =
         let p = e.frame.procedure.code in
         let q : Acts event reply ≡ Acts event' reply' = sym h ∙ h' in
         let same : reply' ≡ reply = cc in
@@ -143,8 +144,8 @@ module _ (linked : Linked) where
     -- ---- all moves
 
     entered : (o : Option Callee) (move : Moves) → o ≡ Some e → Enters linked o c.memory (Begins move) → Known [] move
-    entered o move is (programs.breaks h) = absurd (let q : None ≡ Some e = sym h ∙ is in cc)
-    entered o move is (programs.begins d came h r k) =
+    entered o move is (moving.breaks h) = absurd (let q : None ≡ Some e = sym h ∙ is in cc)
+    entered o move is (moving.begins d came h r k) =
         let q : Some d ≡ Some e = sym h ∙ is in
         let same : d ≡ e = cc in
         let k2 = subst (λ (x : Callee). Comes x.frame.procedure.code x.frame.around [] (block_ends.Goto x.frame.procedure.code.start) (entered_state x c.memory) came) same k in

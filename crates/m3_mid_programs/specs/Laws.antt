@@ -14,7 +14,8 @@ use Rattle.m3_mid_programs.specs.Linked.{Linked}
 use Rattle.m3_mid_programs.specs.Values.{Value}
 use Rattle.m3_mid_programs.specs.Activations.{Memory, with_words, Frame, Activation, Activity, Came, Stands, Ended, Comes}
 use Rattle.m3_mid_programs.specs.Actions.{action_of, told_as}
-use Rattle.m3_mid_programs.specs.Programs.{Moves, left, acts, Callee, callee, entered_memory, mid_language}
+use Rattle.m3_mid_programs.specs.Moves.{Moves, left, acts, Callee, callee, entered_memory}
+use Rattle.m3_mid_programs.specs.Programs.{mid_language}
 use Rattle.m3_mid_programs.specs.Histories.{Call, Told, MovesTo}
 
 -- ---- one run

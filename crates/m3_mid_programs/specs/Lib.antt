@@ -3,6 +3,8 @@ pub mod Values
 pub mod Activations
 pub mod Actions
 pub mod Cells
+pub mod Moves
 pub mod Programs
 pub mod Histories
 pub mod Laws
+pub mod Follows
