@@ -20,7 +20,7 @@ use Rattle.m3_mid_programs.specs.Activations.{Memory, Frame, Activation, Activit
 use Rattle.m3_mid_programs.specs.Actions.{told_as}
 use Rattle.m3_mid_programs.specs.Cells as cells
 use Rattle.m3_mid_programs.specs.Moves as moving
-use Rattle.m3_mid_programs.specs.Moves.{Moves, Callee, has_room, entered_state, move_of, left, Enters, GoesOn}
+use Rattle.m3_mid_programs.specs.Moves.{Moves, Callee, has_room, entered_state, with_frame, move_of, left, Enters, GoesOn}
 use Rattle.m3_mid_programs.specs.Programs.{mid_language}
 
 -- two effects of one operation are one
@@ -93,7 +93,7 @@ module _ (linked : Linked) where
       let same : c' ≡ c = cc in
       let k2 = subst (λ (d : Callee). Comes d.frame.procedure.code d.frame.around [] (block_ends.Goto d.frame.procedure.code.start) (entered_state d m) came') same k' in
       let one = comes_once c.frame.procedure.code c.frame.around [] (block_ends.Goto c.frame.procedure.code.start) (entered_state c m) came came' k k2 in
-      ap (λ x. Begins (move_of linked c.frame m x)) one ∙ ap (λ (d : Callee). Begins (move_of linked d.frame m came')) (sym same)
+      ap (λ x. Begins (move_of linked c.frame (with_frame c.frame m) x)) one ∙ ap (λ (d : Callee). Begins (move_of linked d.frame (with_frame d.frame m) came')) (sym same)
 
   -- ---- going on
 
@@ -130,7 +130,7 @@ module _ (linked : Linked) where
 
   pub determined : IsDetermined (mid_language linked)
   determined = record {
-    enters = λ ss q environment vs m e e' h h'. enters_once (moving.callee linked ss q environment vs) m e e' h h';
+    enters = λ ss q environment vs m e e' h h'. enters_once (moving.callee linked ss q environment vs m) m e e' h h';
     goes = λ s a m move move' h h'. goes_once a m s move move' h h';
     made = λ parts n new v v' after after'. made_once parts new v v' after after';
     makes = λ parts n new v v' after after'. after_once parts new v v' after after';

@@ -20,7 +20,7 @@ use Rattle.m3_mid_programs.specs.Values.{Value}
 use Rattle.m3_mid_programs.specs.Activations.{Memory, with_words, Frame, Activation, Activity, Within, Came, Ended, Comes}
 use Rattle.m3_mid_programs.specs.Actions.{action_of, told_as}
 use Rattle.m3_mid_programs.specs.Moves as moving
-use Rattle.m3_mid_programs.specs.Moves.{Moves, Callee, callee, entered_memory, entered_state, result_in, without_frame, leaves_with, leaves_by, left, acts, move_of, Enters, GoesOn}
+use Rattle.m3_mid_programs.specs.Moves.{Moves, Callee, callee, entered_memory, entered_state, with_frame, result_in, without_frame, leaves_with, leaves_by, left, acts, move_of, Enters, GoesOn}
 use Rattle.m3_mid_programs.specs.Programs.{mid_language}
 use Rattle.m3_mid_programs.specs.Histories as histories
 use Rattle.m3_mid_programs.specs.Histories.{Call, Told, told_more, MovesTo}
@@ -48,8 +48,8 @@ escaping m zero n tidy memory action s m' e = absurd (let q : Breaks ≡ run.Act
 escaping m (suc x) n tidy memory action s m' e = absurd (let q : leaves_by m (suc x) n tidy memory ≡ run.Acts action s m' = e in cc)
 
 left_no_act : {A : Type 0} (f : Frame) (m : Memory) (ending : Ending) (action : Action Value) (s : Activity) (m' : Memory) → left f m ending ≡ run.Acts action s m' → A
-left_no_act f m (Returned value memory) action s m' e = leaving m (without_frame f memory) (result_in f (without_frame f memory) f.procedure.result value) action s m' e
-left_no_act f m (Escaped x n tidy memory) action s m' e = escaping m x n tidy (without_frame f memory) action s m' e
+left_no_act f m (Returned value memory) action s m' e = leaving (moving.frame_left f m) (without_frame f memory) (result_in f (without_frame f memory) f.procedure.result value) action s m' e
+left_no_act f m (Escaped x n tidy memory) action s m' e = escaping (moving.frame_left f m) x n tidy (without_frame f memory) action s m' e
 left_no_act f m (Faulted kind at) action s m' e = absurd (let q : Faults kind at.file at.line ≡ run.Acts action s m' = e in cc)
 left_no_act f m Waiting action s m' e = absurd (let q : Breaks ≡ run.Acts action s m' = e in cc)
 left_no_act f m Undefined action s m' e = absurd (let q : Breaks ≡ run.Acts action s m' = e in cc)
@@ -76,11 +76,11 @@ module _ (linked : Linked) where
       stop : Stop
       at : IsStopOf e.frame.procedure.code e.frame.around came stop
       up_to : UpTo (answers_of told) events stop
-      is : move ≡ move_of linked e.frame (last_memory c.memory told) came
+      is : move ≡ move_of linked e.frame (last_memory (with_frame e.frame c.memory) told) came
 
     -- ---- the first move
 
-    began : (came : Came) → Comes e.frame.procedure.code e.frame.around [] (block_ends.Goto e.frame.procedure.code.start) (entered_state e c.memory) came → Known [] (move_of linked e.frame c.memory came)
+    began : (came : Came) → Comes e.frame.procedure.code e.frame.around [] (block_ends.Goto e.frame.procedure.code.start) (entered_state e c.memory) came → Known [] (move_of linked e.frame (with_frame e.frame c.memory) came)
     began came k =
         let p = e.frame.procedure.code in
         let start = bare (block_ends.Goto p.start) in
@@ -114,7 +114,7 @@ module _ (linked : Linked) where
               let said = sym (append_assoc events (event ∷ []) o.events) in
               subst (λ (x : List Answer). Whole x (behind (events ++ event ∷ []) o)) answers
               (subst (λ (x : List Event). Whole (answers_of told ++ given ∷ more) (record { events = x; ending = o.ending })) said whole);
-          is = ap (λ (x : Memory). move_of linked e.frame x came) (sym (last_told c.memory m told answer));
+          is = ap (λ (x : Memory). move_of linked e.frame x came) (sym (last_told (with_frame e.frame c.memory) m told answer));
         }
 
     going : (told : History) (answer : run.Answer Value) (m : Memory) (events : List Event) (st : State) (op : MidOp) (event : Event) (reply : Answer → Next) (rest : Code) (move : Moves) → effect_of e.frame.procedure.code.slots.now e.frame.around st op ≡ Acts event reply →
@@ -134,11 +134,11 @@ module _ (linked : Linked) where
         further told answer m events event reply rest came to.0 up to.2 (λ more o follows. subst (λ n. FollowsNext p e.frame.around rest n more o) (sym r2) (((chain p e.frame.around rest s).run more o).1 (to.0, to.1, follows)))
 
     goes_from : (told : History) (answer : run.Answer Value) (m : Memory) (events : List Event) (came : Came) (stop : Stop) (action : Action Value) (s : Activity) (before : Memory) (move : Moves) → IsStopOf e.frame.procedure.code e.frame.around came stop →
-        UpTo (answers_of told) events stop → run.Acts action s before ≡ move_of linked e.frame (last_memory c.memory told) came → GoesOn linked answer m s move → Known (told_more told answer m) move
-    goes_from told answer m events came stop action s before move (at_end ending) up is goes = left_no_act e.frame (last_memory c.memory told) ending action s before (sym is)
+        UpTo (answers_of told) events stop → run.Acts action s before ≡ move_of linked e.frame (last_memory (with_frame e.frame c.memory) told) came → GoesOn linked answer m s move → Known (told_more told answer m) move
+    goes_from told answer m events came stop action s before move (at_end ending) up is goes = left_no_act e.frame (last_memory (with_frame e.frame c.memory) told) ending action s before (sym is)
     goes_from told answer m events came stop action s before move (at_point st op event reply rest h) up is goes =
         let a : Activation = record { frame = e.frame; state = st; op = op; rest = rest } in
-        let same = acts_within a (with_words (last_memory c.memory told) event.memory) (action_of linked event.action) action s before (sym is) in
+        let same = acts_within a (with_words (last_memory (with_frame e.frame c.memory) told) event.memory) (action_of linked event.action) action s before (sym is) in
         going told answer m events st op event reply rest move h up (subst (λ x. GoesOn linked answer m x move) (sym same) goes)
 
     -- ---- all moves
@@ -149,19 +149,19 @@ module _ (linked : Linked) where
         let q : Some d ≡ Some e = sym h ∙ is in
         let same : d ≡ e = cc in
         let k2 = subst (λ (x : Callee). Comes x.frame.procedure.code x.frame.around [] (block_ends.Goto x.frame.procedure.code.start) (entered_state x c.memory) came) same k in
-        subst (λ (x : Callee). Known [] (move_of linked x.frame c.memory came)) (sym same) (began came k2)
+        subst (λ (x : Callee). Known [] (move_of linked x.frame (with_frame x.frame c.memory) came)) (sym same) (began came k2)
 
-    known : callee linked c.stack c.procedure c.environment c.formals ≡ Some e → (told : History) (move : Moves) → MovesTo (mid_language linked) c told move → Known told move
-    known is told move (histories.first _ enters) = entered (callee linked c.stack c.procedure c.environment c.formals) move is enters
+    known : callee linked c.stack c.procedure c.environment c.formals c.memory ≡ Some e → (told : History) (move : Moves) → MovesTo (mid_language linked) c told move → Known told move
+    known is told move (histories.first _ enters) = entered (callee linked c.stack c.procedure c.environment c.formals c.memory) move is enters
     known is told move (histories.next before action s m0 m answer _ moves goes) =
         let k = known is before (run.Acts action s m0) moves in
         goes_from before answer m k.events k.came k.stop action s m0 move k.at k.up_to k.is goes
 
-    runs_to : (told : History) (move : Moves) (events : List Event) (came : Came) (stop : Stop) → IsStopOf e.frame.procedure.code e.frame.around came stop → UpTo (answers_of told) events stop → move ≡ move_of linked e.frame (last_memory c.memory told) came → RunsSo linked e c told move
+    runs_to : (told : History) (move : Moves) (events : List Event) (came : Came) (stop : Stop) → IsStopOf e.frame.procedure.code e.frame.around came stop → UpTo (answers_of told) events stop → move ≡ move_of linked e.frame (last_memory (with_frame e.frame c.memory) told) came → RunsSo linked e c told move
     runs_to told move events came stop (at_end ending) up is = record {
       outcome = behind events (ended ending);
       run = subst (λ (x : List Answer). Whole x (behind events (ended ending))) (append-nil (answers_of told)) (up [] (ended ending) refl);
-      says = subst (λ x. Says linked e.frame (last_memory c.memory told) (behind events (ended ending)) x) (sym is) (laws.ends (events ++ []) ending);
+      says = subst (λ x. Says linked e.frame (last_memory (with_frame e.frame c.memory) told) (behind events (ended ending)) x) (sym is) (laws.ends (events ++ []) ending);
     }
     runs_to told move events came stop (at_point st op event reply rest h) up is =
         let o : Outcome = preceded event (ended Waiting) in
@@ -169,7 +169,7 @@ module _ (linked : Linked) where
         record {
           outcome = behind events o;
           run = subst (λ (x : List Answer). Whole x (behind events o)) (append-nil (answers_of told)) (up [] o refl);
-          says = subst (λ x. Says linked e.frame (last_memory c.memory told) (behind events o) x) (sym is) (laws.waits events event a refl);
+          says = subst (λ x. Says linked e.frame (last_memory (with_frame e.frame c.memory) told) (behind events o) x) (sym is) (laws.waits events event a refl);
         }
 
 pub moves_as_it_runs : MovesAsItRuns

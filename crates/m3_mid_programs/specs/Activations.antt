@@ -15,11 +15,14 @@ use Rattle.m3_mid_programs.specs.Linked.{Procedure}
 
 -- ---- memory
 
--- The words of memory; how many cells were made, so that the next one has this for its name, as in
--- the source; and by its number each thread's slot, in which its stack lies.
+-- The words of memory; how many cells were made, so that the next one has this for its name; the
+-- address of the frame of each activation, by the activation's number, and none once it was left;
+-- and by its number each thread's slot, in which its stack lies. Cells and activations are numbered
+-- in the order of their making, as in the source.
 pub record Memory : Type 0 where
   pub words : words.Memory
   pub cells : ℕ
+  pub frames : List (Option ℕ)
   pub slots : List ℕ
 
 abbrev pub with_words : Memory → words.Memory → Memory
@@ -27,9 +30,11 @@ with_words m words = record m { words = words }
 
 -- ---- activations
 
--- the frame of an activation: its procedure, the first address of the stack in which it lies, what
--- stands around it, its own address among that, and where its caller wants a wide result
+-- the frame of an activation, by the activation's number: its procedure, the first address of the
+-- stack in which it lies, what stands around it, its own address among that, and where its caller
+-- wants a wide result
 pub record Frame : Type 0 where
+  pub number : ℕ
   pub procedure : Procedure
   pub stack : ℕ
   pub around : Around

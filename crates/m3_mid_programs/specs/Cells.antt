@@ -94,7 +94,7 @@ slots_with parts (run.ThreadCell n) =
 slots_with parts _ = parts.memory.slots
 
 abbrev pub with_new_cell : Parts Activity Value Memory → New Value → NewCell → Memory
-with_new_cell parts new made = record {
+with_new_cell parts new made = record parts.memory {
   words = with_cell parts.memory.cells made parts.memory.words;
   cells = suc parts.memory.cells;
   slots = slots_with parts new;

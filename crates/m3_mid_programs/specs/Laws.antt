@@ -14,7 +14,7 @@ use Rattle.m3_mid_programs.specs.Linked.{Linked}
 use Rattle.m3_mid_programs.specs.Values.{Value}
 use Rattle.m3_mid_programs.specs.Activations.{Memory, with_words, Frame, Activation, Activity, Came, Stands, Ended, Comes}
 use Rattle.m3_mid_programs.specs.Actions.{action_of, told_as}
-use Rattle.m3_mid_programs.specs.Moves.{Moves, left, acts, Callee, callee, entered_memory}
+use Rattle.m3_mid_programs.specs.Moves.{Moves, left, acts, Callee, callee, entered_memory, with_frame}
 use Rattle.m3_mid_programs.specs.Programs.{mid_language}
 use Rattle.m3_mid_programs.specs.Histories.{Call, Told, MovesTo}
 
@@ -57,7 +57,7 @@ pub data Says (linked : Linked) (f : Frame) (m : Memory) : Outcome → Moves →
   ends : (events : List Event) (ending : Ending)
       → Says linked f m (record { events = events; ending = ending }) (left f m ending)
 
--- memory as it was told last, or at the call
+-- memory as it was told last, or when the procedure began
 abbrev pub last_memory : Memory → List (Told Value Memory) → Memory
 last_memory m [] = m
 last_memory m (t ∷ told) = last_memory t.memory told
@@ -71,12 +71,12 @@ pub record RunsSo (linked : Linked) (e : Callee) (c : Call Activity Value Memory
   pub outcome : Outcome
   pub run : IsRun e.frame.procedure.code e.frame.around (entered_memory e c.memory)
       (answers_of told) outcome
-  pub says : Says linked e.frame (last_memory c.memory told) outcome move
+  pub says : Says linked e.frame (last_memory (with_frame e.frame c.memory) told) outcome move
 
 -- AN ACTIVATION'S RUN IS THE CHAIN OF ITS MOVES, wherever its call can be entered.
 abbrev pub MovesAsItRuns : Type 0
 MovesAsItRuns =
     (linked : Linked) (c : Call Activity Value Memory) (e : Callee)
     (told : List (Told Value Memory)) (move : Moves) →
-    callee linked c.stack c.procedure c.environment c.formals ≡ Some e →
+    callee linked c.stack c.procedure c.environment c.formals c.memory ≡ Some e →
     MovesTo (mid_language linked) c told move → RunsSo linked e c told move

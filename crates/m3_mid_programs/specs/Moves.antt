@@ -1,5 +1,5 @@
 -- How an activation of middle code begins, goes on and is left.
-use Rattle.std.specs.Prelude.{◌≡◌, ℕ, zero, suc, ◌+◌, ◌==◌, nat_lt, nat_le, Bool, true, false, List, [], ◌∷◌, ◌++◌, length, Option, Some, None, slice_get, if◌then◌else◌}
+use Rattle.std.specs.Prelude.{◌≡◌, ℕ, zero, suc, ◌+◌, ◌==◌, nat_lt, nat_le, Bool, true, false, List, [], ◌∷◌, ◌++◌, length, Option, Some, None, slice_get, slice_set, if◌then◌else◌}
 use Rattle.std.specs.Option.{option_or}
 use Rattle.m3_base.specs.Words.{add_words, sub_words}
 use Rattle.m3_mid.specs.declared.procs.End.TheVariants as block_ends
@@ -61,6 +61,12 @@ abbrev pub without_frame : Frame → words.Memory → words.Memory
 without_frame f memory =
     record memory { words = λ place. if is_in_frame f place then None else memory.words place }
 
+abbrev pub with_frame : Frame → Memory → Memory
+with_frame f m = record m { frames = m.frames ++ Some f.around.frame ∷ [] }
+
+abbrev pub frame_left : Frame → Memory → Memory
+frame_left f m = record m { frames = slice_set m.frames f.number None }
+
 -- The result as the caller is told it. A wide one is what stands at the caller's address.
 abbrev pub result_in : Frame → words.Memory → (result : Option ℕ) → Option Word
     → Option (Option Value)
@@ -85,8 +91,9 @@ leaves_by m (suc exception) n tidy memory =
 abbrev pub left : Frame → Memory → Ending → Moves
 left f m (Returned value memory) =
     let after = without_frame f memory in
-    leaves_with m after (result_in f after f.procedure.result value)
-left f m (Escaped exception n tidy memory) = leaves_by m exception n tidy (without_frame f memory)
+    leaves_with (frame_left f m) after (result_in f after f.procedure.result value)
+left f m (Escaped exception n tidy memory) =
+    leaves_by (frame_left f m) exception n tidy (without_frame f memory)
 left f m (Faulted kind at) = Faults kind at.file at.line
 left f m Waiting = Breaks
 left f m Undefined = Breaks
@@ -150,10 +157,11 @@ module _ (linked : Linked) where
     frame = add_words a.frame.around.frame a.frame.procedure.body;
   })
 
-  abbrev pub callee_at : Procedure → Spot → (environment result_at : Option Word) → List Word
-      → Callee
-  callee_at q spot environment result_at passed = record {
+  abbrev pub callee_at : (number : ℕ) → Procedure → Spot → (environment result_at : Option Word)
+      → List Word → Callee
+  callee_at number q spot environment result_at passed = record {
     frame = record {
+      number = number;
       procedure = q;
       stack = spot.stack;
       around = around_at linked spot.frame;
@@ -164,12 +172,12 @@ module _ (linked : Linked) where
   }
 
   -- above these activations; none where there is no such procedure, or it takes something else
-  abbrev pub callee : List Activity → (procedure : ℕ) → Value → List Value → Option Callee
-  callee stack procedure (Words ws) formals = None
-  callee stack procedure (Beside environment result_at) formals =
+  abbrev pub callee : List Activity → (procedure : ℕ) → Value → List Value → Memory → Option Callee
+  callee stack procedure (Words ws) formals m = None
+  callee stack procedure (Beside environment result_at) formals m =
       procedure_at linked procedure >>= λ q. spot_above stack >>= λ spot.
       formal_words q.formals formals >>= λ ws. address_passed (is_wide q.result) result_at >>= λ at.
-      Some (callee_at q spot environment result_at (ws ++ at))
+      Some (callee_at (length m.frames) q spot environment result_at (ws ++ at))
 
   -- the stack has the words of the frame there
   abbrev pub has_room : Frame → Bool
@@ -185,7 +193,7 @@ module _ (linked : Linked) where
     begins : (c : Callee) (came : Came) → called ≡ Some c → has_room c.frame ≡ true
         → Comes c.frame.procedure.code c.frame.around []
         (block_ends.Goto c.frame.procedure.code.start) (entered_state c m) came
-        → Enters called m (Begins (move_of c.frame m came))
+        → Enters called m (Begins (move_of c.frame (with_frame c.frame m) came))
 
   -- AN ACTIVATION GOES ON from the point at which it stands: what it does with the answer leaves it,
   -- or it comes to the next point.

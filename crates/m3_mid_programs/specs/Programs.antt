@@ -37,7 +37,7 @@ as_value v = (v.0, word v.1)
 abbrev pub shown_of : Memory → Activation → List (ℕ × Value)
 shown_of m a =
     let word_of = shown_word a.frame.procedure.code.slots.now a.frame.around
-        (with_memory a.state m.words) in
+    (with_memory a.state m.words) in
     option_map_or (map as_value) (each_of word_of (named_at a.op)) []
 
 abbrev pub shown_by : Memory → Activity → List (ℕ × Value)
@@ -70,13 +70,13 @@ module _ (linked : Linked) where
       record { action = call_of q []; lowest = Bodies (linked.stacks 0) order }
 
   abbrev pub first_memory : Memory
-  first_memory = record { words = linked.memory; cells = 0; slots = 0 ∷ [] }
+  first_memory = record { words = linked.memory; cells = 0; frames = []; slots = 0 ∷ [] }
 
   -- THE LANGUAGE
   abbrev pub mid_language : Language Activity Value Memory
   mid_language = record {
     enters = λ stack procedure environment formals m entered.
-        Enters linked (callee linked stack procedure environment formals) m entered;
+        Enters linked (callee linked stack procedure environment formals m) m entered;
     goes = λ s answer m move. GoesOn linked answer m s move;
     shows = shown_by;
     makes = λ parts n new v after. cells.MakesCell linked parts new v after;
