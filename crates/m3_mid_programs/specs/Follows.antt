@@ -1,0 +1,212 @@
+-- WHAT LOWERING HAS TO SHOW, procedure by procedure and for all lists of answers, so that a linked
+-- program of middle code follows the checked program.
+use Rattle.std.specs.Prelude.{◌≡◌, ℕ, List, [], ◌∷◌, ◌++◌, length, Option, Some, None}
+use Rattle.m3_base.specs.declared.outcomes.FaultKind.{FaultKind}
+use Rattle.m3_base.specs.declared.places.Pos.{Pos}
+use Rattle.m3_core.specs.declared.program.ProcDef.{ProcDef}
+use Rattle.m3_runs.specs.Languages.{Action, Calls, New, Answer, Acts, Leaves, Faults, Overflows, Form, Thread, Parts}
+use Rattle.m3_runs.specs.Follows.{Each, IsOne, AsDefined, Standing, SameAction, SameAnswer, SameShown, SameNew, SameLife, SameBegun, ReadsSo, IsActing, Needs, Room, Follows}
+use Rattle.m3_values.specs.Values.{Procedure, Pointer}
+use Rattle.m3_values.specs.Programs.{Program, procedure_at}
+use Rattle.m3_values.specs.Places.{Thing, Is}
+use Rattle.m3_values.specs.Store.{Cell, Store, with_new_cell}
+use Rattle.m3_source_meaning.specs.Meanings as meaning
+use Rattle.m3_source_meaning.specs.Meanings.{End, Waits, Left, Faulted, Undefined}
+use Rattle.m3_source_meaning.specs.Phrases.{Here}
+use Rattle.m3_source_meaning.specs.Procedures.{Start, ends, start_of}
+use Rattle.m3_source_meaning.specs.Showing.{shown_variables}
+use Rattle.m3_source_meaning.specs.Programs as source
+use Rattle.m3_source_meaning.specs.Programs.{language}
+use Rattle.m3_mid_meaning.specs.Words.{pointer}
+use Rattle.m3_mid_programs.specs.Linked.{Linked}
+use Rattle.m3_mid_programs.specs.Values.{Value, Beside, word}
+use Rattle.m3_mid_programs.specs.Activations.{Memory, Activity, Bodies, Applying}
+use Rattle.m3_mid_programs.specs.Cells as cells
+use Rattle.m3_mid_programs.specs.Cells.{NewCell}
+use Rattle.m3_mid_programs.specs.Moves.{Moves}
+use Rattle.m3_mid_programs.specs.Programs.{shown_by, mid_language}
+use Rattle.m3_mid_programs.specs.Histories.{Call, Told, told_more, MovesTo}
+
+-- a call of a procedure that the program has: its environment names a procedure, with the activation
+-- around it
+pub record SourceCall : Type 0 where
+  pub procedure : ℕ
+  pub definition : ProcDef
+  pub named : ℕ
+  pub around : Option ℕ
+  pub formals : List Thing
+  pub store : Store
+
+module _ (p : Program) where
+  abbrev pub start_at : SourceCall → Start
+  start_at c = start_of p c.procedure c.definition c.around c.formals c.store
+
+  -- where a procedure leads that was told these answers
+  abbrev pub end_at : SourceCall → List meaning.Told → End
+  end_at c told = ends p (start_at c).here c.definition (start_at c).memory told
+
+-- Over any relation of values, and of stores with memories, at a moment; and of which moment comes
+-- later than which.
+module _ {W : Type 0} (p : Program) (linked : Linked) (same_value : W → Thing → Value → Type 0)
+    (same_memory : W → Store → Memory → Type 0) (later : W → W → Type 0) where
+  -- what stands for what, where nothing is said of activations
+  abbrev pub bare : Standing W source.Activity Thing Store Activity Value Memory
+  bare = record {
+    value = same_value;
+    stack = λ w ss ss'. Unit {0};
+    memory = same_memory;
+    later = later;
+  }
+
+  -- ---- calls, and what they are told
+
+  pub record SameCall (w : W) (c : SourceCall) (c' : Call Activity Value Memory) : Type 0 where
+    pub there : procedure_at p c.procedure ≡ Some c.definition
+    pub procedure : c.procedure ≡ c'.procedure
+    pub environment : same_value w (Is (Procedure c.named c.around)) c'.environment
+    pub formals : Each (same_value w) c.formals c'.formals
+    pub store : same_memory w c.store c'.memory
+
+  abbrev pub Answers : Type 0
+  Answers = List (Told Value Memory)
+
+  -- they are told the same, one answer after the other, each at a later moment
+  pub data Chain (first : W) : List meaning.Told → Answers → W → Type 0 where
+    nothing : Chain first [] [] first
+    more : (w w' : W) (told : List meaning.Told) (told' : Answers) (a : Answer Thing)
+        (a' : Answer Value) (s : Store) (m : Memory)
+        → Chain first told told' w → later w w' → SameAnswer bare w' a a' → same_memory w' s m
+        → Chain first (told ++ record { answer = a; store = s } ∷ []) (told_more told' a' m) w'
+
+  -- ---- where they lead
+
+  -- whatever memory becomes, the variables that are shown hold the same
+  abbrev pub ShowSo : W → Here → meaning.Standing → Activity → Type 0
+  ShowSo w here standing s' =
+      (w' : W) (s : Store) (m : Memory) → later w w' → same_memory w' s m →
+      Each (SameShown bare w') (shown_variables p here standing s) (shown_by m s')
+
+  pub data SameEnd (w : W) (here : Here) : End → Moves → Type 0 where
+    waits : (action : Action Thing) (action' : Action Value) (standing : meaning.Standing)
+        (s' : Activity) (s : Store) (m : Memory)
+        → SameAction bare w action action' → same_memory w s m → ShowSo w here standing s'
+        → SameEnd w here (Waits action standing s) (Acts action' s' m)
+    left : (a : Answer Thing) (a' : Answer Value) (s : Store) (m : Memory)
+        → SameAnswer bare w a a' → same_memory w s m
+        → SameEnd w here (Left a s) (Leaves a' m)
+    faulted : (kind : FaultKind) (at : Pos)
+        → SameEnd w here (Faulted kind at) (Faults kind at.file at.line)
+    undefined : (move' : Moves) → SameEnd w here Undefined move'
+
+  pub record EndsSo (w : W) (c : SourceCall) (told : List meaning.Told) (move' : Moves)
+      : Type 0 where
+    pub moment : W
+    pub since : later w moment
+    pub same : SameEnd moment (start_at p c).here (end_at p c told) move'
+
+  -- EACH PROCEDURE FOLLOWS: called with the same and told the same, it leads to where its code moves.
+  abbrev pub ProceduresFollow : Type 0
+  ProceduresFollow =
+      (first w : W) (c : SourceCall) (c' : Call Activity Value Memory)
+      (told : List meaning.Told) (told' : Answers) (move' : Moves) →
+      SameCall first c c' → Chain first told told' w →
+      MovesTo (mid_language linked) c' told' move' → EndsSo w c told move'
+
+  -- ---- activations
+
+  -- an activation that waits at a point: it was called with the same and told the same
+  pub record IsToldSo (w : W) (a : source.Activation) (s' : Activity) : Type 0 where
+    pub first : W
+    pub last : W
+    pub since : later last w
+    pub call : SourceCall
+    pub call' : Call Activity Value Memory
+    pub called : SameCall first call call'
+    pub here : a.here ≡ (start_at p call).here
+    pub began : a.first ≡ (start_at p call).memory
+    pub told' : Answers
+    pub chain : Chain first a.told told' last
+    pub action' : Action Value
+    pub before : Memory
+    pub moves : MovesTo (mid_language linked) call' told' (Acts action' s' before)
+    pub shows : ShowSo w (start_at p call).here a.standing s'
+
+  pub data SameActivity (w : W) : source.Activity → Activity → Type 0 where
+    bodies : (order : List ℕ) (stack : ℕ)
+        → SameActivity w (source.Bodies order) (Bodies stack order)
+    applying : (stack : ℕ) → SameActivity w source.Applying (Applying stack)
+    within : (a : source.Activation) (s' : Activity) → IsToldSo w a s'
+        → SameActivity w (source.Within a) s'
+
+  -- WHAT STANDS FOR WHAT
+  abbrev pub standing : Standing W source.Activity Thing Store Activity Value Memory
+  standing = record {
+    value = same_value;
+    stack = λ w ss ss'. Each (SameActivity w) ss ss';
+    memory = same_memory;
+    later = later;
+  }
+
+  -- ---- values and cells
+
+  -- A cell that middle code makes is one that the source makes.
+  pub record MadeSo (w : W) (s : Store) (new : New Thing) (v' : Value) (after' : Memory)
+      : Type 0 where
+    pub moment : W
+    pub since : later w moment
+    pub made : Cell
+    pub is : source.new_cell p s new ≡ Some made
+    pub named : same_value moment (Is (Pointer (length s.cells))) v'
+    pub store : same_memory moment (with_new_cell made s) after'
+
+  -- WHAT HAS TO BE SHOWN OF VALUES AND CELLS, once for the program
+  pub record ValuesFollow (room : Room standing) : Type 0 where
+    -- a moment is no later than itself, and what stands for a value stays so
+    pub same_moment : (w : W) → later w w
+    pub later_still : (w w' w2 : W) → later w w' → later w' w2 → later w w2
+    pub value_stays : (w w' : W) (v : Thing) (v' : Value) → later w w' → same_value w v v'
+        → same_value w' v v'
+    -- an outermost procedure is called without an environment
+    pub outermost : (w : W) (q : ℕ) → same_value w (Is (Procedure q None)) (Beside None None)
+    -- where a frame passes the stack, so do those of the source's thread
+    pub frames : (w : W) (parts : Parts source.Activity Thing Store)
+        (parts' : Parts Activity Value Memory) (n : ℕ) (t : Thread source.Activity Thing)
+        (t' : Thread Activity Value) (q : ℕ) (v : Thing) (v' : Value) (formals : List Thing)
+        (others : List Value)
+        → IsActing standing w parts parts' n t t' → t.action ≡ Calls q v formals
+        → (mid_language linked).enters t'.stack q v' others parts'.memory Overflows
+        → room.no_frame parts n
+    pub made : (w : W) (parts : Parts source.Activity Thing Store)
+        (parts' : Parts Activity Value Memory) (n : ℕ) (t : Thread source.Activity Thing)
+        (t' : Thread Activity Value) (new : New Thing) (new' : New Value) (made' : NewCell)
+        → IsActing standing w parts parts' n t t' → Needs t.action new
+        → SameNew standing w new new' → cells.new_cell linked parts'.memory new' ≡ Some made'
+        → MadeSo w parts.memory new (word (pointer parts'.memory.cells))
+        (cells.with_new_cell parts' new' made')
+    pub number : (w : W) (n : ℕ)
+        → same_value w ((language p).number n) ((mid_language linked).number n)
+    pub is_same : (w : W) (s : Store) (m : Memory) (v u : Thing) (v' u' : Value)
+        → same_memory w s m → same_value w v v' → same_value w u u'
+        → (language p).is_same v u ≡ (mid_language linked).is_same v' u'
+    pub bytes : (form : Form) → ReadsSo standing (λ w. IsOne)
+        (λ s v. (language p).bytes s form v) (λ m v. (mid_language linked).bytes m form v)
+    pub holder : ReadsSo standing (λ w. IsOne) (language p).holder (mid_language linked).holder
+    pub hold : (holder : ℕ) → ReadsSo standing same_memory
+        (λ s v. (language p).hold s v holder) (λ m v. (mid_language linked).hold m v holder)
+    pub number_of : ReadsSo standing (λ w. IsOne) (language p).number_of
+        (mid_language linked).number_of
+    pub life : ReadsSo standing (SameLife standing) (language p).life (mid_language linked).life
+    pub join : ReadsSo standing same_memory (language p).join (mid_language linked).join
+    pub end_with : (w : W) (s : Store) (m : Memory) (v u : Thing) (v' u' : Value)
+        → same_memory w s m → same_value w v v' → same_value w u u'
+        → AsDefined (same_memory w) ((language p).end_with s v u)
+        ((mid_language linked).end_with m v' u')
+    pub begins : ReadsSo standing (SameBegun standing) (language p).begins
+        (mid_language linked).begins
+    pub alerted : p.alerted ≡ linked.alerted
+
+  -- THE THEOREM: then the linked program follows the checked one, step by step, so that each of its
+  -- runs is answered by a run of the source (m3_runs).
+  abbrev pub ProgramFollows : Room standing → Type 0
+  ProgramFollows room =
+      ProceduresFollow → ValuesFollow room → Follows standing (language p) (mid_language linked) room

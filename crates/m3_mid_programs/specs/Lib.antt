@@ -1,0 +1,11 @@
+pub mod Linked
+pub mod Values
+pub mod Activations
+pub mod Actions
+pub mod Cells
+pub mod Moves
+pub mod Programs
+pub mod Histories
+pub mod Laws
+pub mod Follows
+pub mod Standing
