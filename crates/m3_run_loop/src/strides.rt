@@ -259,10 +259,12 @@ impl Turn<'_> {
         ensures strides { StridesOver self.entry i.now fuel.old r.old at.old memory.old
             fuel.new r.new at.new memory.new (halted result) }
     {
-        if i.op.is_point() {
-            self.go_past(i, r, at, memory, fuel)
-        } else {
-            self.go_by(i, r, at, memory, fuel)
+        match i.op {
+            Op::Point | Op::New | Op::Call | Op::Callr | Op::Callm => {
+                self.go_past(i, r, at, memory, fuel)
+            }
+            Op::Ret | Op::Meth | Op::Subt => self.go_by(i, r, at, memory, fuel),
+            _ => Some(Halt::Other),
         }
     }
 
