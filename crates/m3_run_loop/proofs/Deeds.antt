@@ -1,5 +1,5 @@
 -- What single instructions of the running thread make of a state, from what the functions for them tell.
-use Rattle.std.specs.Prelude.{ℕ, ℤ, ◌≡◌, ◌≤◌, ◌+◌, ◌/◌, ◌&&◌, ◌==◌, not, nat_lt, int_lt, Bool, true, false, if◌then◌else◌, List, [], length, Option, None, Some, Result, Ok, slice_get}
+use Rattle.std.specs.Prelude.{ℕ, ℤ, ◌≡◌, ◌+◌, ◌/◌, ◌&&◌, ◌==◌, not, nat_lt, int_lt, Bool, true, false, if◌then◌else◌, List, [], length, Option, None, Some, Result, Ok, slice_get}
 use Rattle.std.specs.Int.{cast_unsigned, w32}
 use Rattle.std.proofs.Common.{refl, sym, ap, subst, ◌∙◌, true≢false}
 use Rattle.m3_base.specs.declared.outcomes.Outcome.{Outcome}

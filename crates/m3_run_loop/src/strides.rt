@@ -4,6 +4,7 @@ ghost use Rattle.std.specs.Prelude.{◌≡◌, ◌<◌, ◌≤◌, ◌+◌, ◌-
 ghost use Rattle.std.specs.Prelude.{length, slice_get, IfSome, IfNone};
 ghost use Rattle.m3_isa.specs.Instructions.{IsInstruction, is_point, is_plain as plain};
 ghost use Rattle.m3_isa.specs.declared.instructions.Instr.{Instr as Instruction};
+ghost use Rattle.m3_isa.specs.declared.instructions.Op.TheVariants.{Ret, Point};
 ghost use Rattle.m3_threads.specs.declared.status.Status.TheVariants.{Ready};
 ghost use Rattle.m3_threads.specs.Going.{status_at};
 ghost use Rattle.m3_image_decoded.specs.Ready.{image_of};
@@ -100,7 +101,6 @@ impl Turn<'_> {
             at memory.now r.new to memory.now) }
     {
         match i.op {
-            Op::Ret => self.return_near(i, r, at, memory),
             Op::Meth => self.tell_near(i, r, at, memory),
             Op::Subt => self.test_near(i, r, at, memory),
             _ => None,
@@ -126,7 +126,6 @@ impl Turn<'_> {
             at memory.old r.new to memory.new) }
     {
         match i.op {
-            Op::Point => Some(self.point_near(i, r, at, memory)),
             Op::New => self.make_near(i, r, at, memory),
             Op::Call => self.call_near(i, Ok(i.imm.cast_unsigned()), r, at, memory),
             Op::Callr => {
@@ -178,7 +177,7 @@ impl Turn<'_> {
         }
     }
 
-    /// A return or a test of a type, where it is found.
+    /// A method or a test of a type, where it is found.
     #[inline(always)]
     fn go_by<S: Store>(
         self,
@@ -208,7 +207,7 @@ impl Turn<'_> {
         }
     }
 
-    /// A point and a call, a new cell that fits or nothing, if no choice comes before it.
+    /// A point and a call or a new cell that fits, if no choice comes before it.
     #[inline(always)]
     fn go_past<S: Store>(
         self,
@@ -239,6 +238,61 @@ impl Turn<'_> {
         }
     }
 
+    /// A return, where the caller's frame and its instruction are there.
+    #[inline(always)]
+    fn go_back<S: Store>(
+        self,
+        i: &Instr,
+        r: &[u64; 16],
+        at: &mut Place,
+        memory: &Memory<S>,
+        fuel: &mut Fuel,
+    ) -> Option<Halt>
+        requires operation { i.now.op ≡ Ret }
+        requires some { fuel.old.floor < fuel.old.left }
+        ensures counts { IfNone result (Counts fuel.old fuel.new) }
+        ensures halts { IfSome result (λ halt. (fuel.new ≡ fuel.old) × (at.new ≡ at.old)
+            × (halt ≡ Other)) }
+        ensures strides { StridesOver self.entry i.now fuel.old r.now at.old memory.now
+            fuel.new r.now at.new memory.now (halted result) }
+    {
+        match self.return_near(*i, r, *at, memory) {
+            Some(to) => {
+                *at = to;
+                fuel.left -= 1;
+                None
+            }
+            None => Some(Halt::Other),
+        }
+    }
+
+    /// A point and nothing behind it, if no choice comes before it.
+    #[inline(always)]
+    fn go_over<S: Store>(
+        self,
+        i: &Instr,
+        r: &[u64; 16],
+        at: &mut Place,
+        memory: &Memory<S>,
+        fuel: &mut Fuel,
+    ) -> Option<Halt>
+        requires operation { i.now.op ≡ Point }
+        requires some { fuel.old.floor < fuel.old.left }
+        ensures counts { IfNone result (Counts fuel.old fuel.new) }
+        ensures halts { IfSome result (λ halt. (fuel.new ≡ fuel.old) × (at.new ≡ at.old)
+            × (halt ≡ Other)) }
+        ensures strides { StridesOver self.entry i.now fuel.old r.now at.old memory.now
+            fuel.new r.now at.new memory.now (halted result) }
+    {
+        if !fuel.may_pass() {
+            return Some(Halt::Other);
+        }
+        *at = self.point_near(*i, r, *at, memory);
+        fuel.pass();
+        fuel.left -= 1;
+        None
+    }
+
     /// An instruction that isn't plain, where nothing has to be chosen or done before or after it.
     #[inline(always)]
     fn go_otherwise<S: Store>(
@@ -259,10 +313,12 @@ impl Turn<'_> {
         ensures strides { StridesOver self.entry i.now fuel.old r.old at.old memory.old
             fuel.new r.new at.new memory.new (halted result) }
     {
-        if i.op.is_point() {
-            self.go_past(i, r, at, memory, fuel)
-        } else {
-            self.go_by(i, r, at, memory, fuel)
+        match i.op {
+            Op::Point => self.go_over(i, r, at, memory, fuel),
+            Op::New | Op::Call | Op::Callr | Op::Callm => self.go_past(i, r, at, memory, fuel),
+            Op::Ret => self.go_back(i, r, at, memory, fuel),
+            Op::Meth | Op::Subt => self.go_by(i, r, at, memory, fuel),
+            _ => Some(Halt::Other),
         }
     }
 

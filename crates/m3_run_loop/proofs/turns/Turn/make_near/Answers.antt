@@ -1,5 +1,5 @@
 use Rattle.std.specs.Prelude.{ℕ, List, Some}
-use Rattle.std.proofs.Common.{subst, sym, rules, arith}
+use Rattle.std.proofs.Common.{subst, sym, rules}
 use Rattle.m3_heap.specs.Heap.{Allots}
 use Rattle.m3_image_decoded.specs.Ready.{image_of}
 use Rattle.m3_isa.specs.Effects.{at_hand}
