@@ -10,7 +10,7 @@ mod texts;
 mod values;
 mod views;
 
-pub use laws::{collections_change_no_view, views_are_one};
+pub use laws::{collections_change_no_view, places_are_in_stacks, views_are_one};
 pub use texts::text;
 pub use values::{FrameView, ThreadView, Value, VarValue, View};
 pub use views::{ViewRefused, view_of};
