@@ -1,6 +1,6 @@
 -- Each variable in scope has its place in its frame.
-use Rattle.std.proofs.Common.{◌≡◌, ◌⊎◌, ℕ, zero, suc, ◌+◌, ◌<◌, ◌≤◌, ◌==◌, ◌&&◌, Bool, true, false, List, [], ◌∷◌, ◌++◌, length, map, pos, Option, None, Some, inl, inr, refl, sym, ap, ◌∙◌, subst, arith, length-append}
-use Rattle.std.specs.Prelude.{nat_lt, nat_le, Contains}
+use Rattle.std.proofs.Common.{◌≡◌, ℕ, zero, suc, ◌+◌, ◌<◌, ◌≤◌, ◌==◌, ◌&&◌, true, false, List, [], ◌∷◌, length, map, pos, Option, None, Some, inl, inr, refl, sym, ap, ◌∙◌, subst, arith, length-append}
+use Rattle.std.specs.Prelude.{nat_lt, nat_le}
 use Rattle.std.specs.List.{slice_get, list_all, AllByRecursion}
 use Rattle.std.specs.Option.{option_map_or}
 use Rattle.std.proofs.lemmas.Bool.Decides.{nat_tests}
@@ -110,8 +110,7 @@ variables_below i follow stack first instr f h (v ∷ vs) fits =
     let parts = and_parts (variable_fits i.program v) (list_all (variable_fits i.program) vs) fits in
     let within = h.within in
     let words = h.words in
-    let housed : containing i.program.procs (instruction_of i f) ≡ Some h.home = ap (containing i.program.procs) h.named ∙ h.housed in
-    (
+    let housed : containing i.program.procs (instruction_of i f) ≡ Some h.home = ap (containing i.program.procs) h.named ∙ h.housed in (
       λ number at. (
           let low = place_low i.program follow v parts.0 (instruction_of i f) number h.home housed at in
           place_below f.first number h.home.frame (length stack) low (omega (arith, within, words))),
