@@ -14,8 +14,8 @@ use Rattle.m3_run_meaning.specs.declared.progress.Progress.TheVariants as answer
 use Rattle.m3_run_meaning.specs.State.{State, executed}
 use Rattle.m3_run_meaning.specs.Progress.{Goes, Rests, Ends, became}
 use Rattle.m3_run_meaning.specs.Steps.{Does}
-use Rattle.m3_run_meaning.specs.Runs.{At_point, Over, rests, run_ends}
-use Rattle.m3_run_loop.specs.Leading.{Track, Went}
+use Rattle.m3_run_meaning.specs.Runs.{At_point, Over, moves, rests, run_ends}
+use Rattle.m3_run_loop.specs.Leading.{Track, Went, Enters, config}
 use Rattle.m3_run_loop.proofs.Leading.{leads_over}
 use Rattle.m3_run_laws.proofs.Stays.{KeepsTurn, EndsTurn}
 use Rattle.m3_run_laws.proofs.Doing.{does_keep}
@@ -23,7 +23,7 @@ use Rattle.m3_run_state.specs.declared.parts.Parts.{Parts}
 use Rattle.m3_run_state.specs.Seen.{state_of, program_of, goes_on, Took}
 use Rattle.m3_machine.specs.declared.runs.Turn.{Turn}
 use Rattle.m3_machine.specs.Deeds.{MayAct}
-use Rattle.m3_machine.specs.Turns.{IsCourse, Known, and_put, Paced, Acts_next, Comes_to, Came_to}
+use Rattle.m3_machine.specs.Turns.{IsCourse, Known, and_put, Paced, Reaches, Acts_next, Comes_to, Came_to}
 use Rattle.m3_machine.proofs.Bounds.{bounded_turn}
 
 -- ---- what is known stays
@@ -65,6 +65,9 @@ few_executed p start k others m turn known h =
 
 -- ---- it leads on
 
+enters_so : (p : Program) (k : Track) (s : State) (n : ℕ) → Reaches p k s n → Enters p k s n
+enters_so p k s n r = λ bytes place carried. moves k.from r.last (config place k.entries (k.output ++ bytes)) r.leads (r.carries bytes place carried)
+
 paced-after : {S : Type 0} {g : Ghosts S} (p : Program) (start : State) (k : Track) (others : ℕ) (m n : Parts S g) (turn new : Turn) (bytes : List ℕ) (h : Acts_next p start k others m turn) → n.points ≡ m.points
     → n.made ≤ m.made + 1 → (is_point h.instruction.op ≡ false → n.made ≡ m.made) → new.points ≡ turn.points → n.stuck ≡ m.stuck → Paced (and_put k bytes) others n new
 paced-after p start k others m n turn new bytes h points one same still unstuck =
@@ -86,7 +89,7 @@ acted p start k others m n turn new bytes answer.Goes known h does one same unst
     let u = state_of n in
     let keeps : KeepsTurn p (executed (state_of m)) u = does_keep p k.input h.thread h.instruction (executed (state_of m)) bytes (Goes u) known.begins h.sound.turn h.running h.stands does in
     let has = keeps.turn.running in
-    let went : Went p (and_put k bytes) u (turn.done + 1) = λ place settles. leads_over p k bytes (state_of m) h.thread h.instruction (turn.done + 1) (Goes u) h.enters h.running h.stands does place settles in
+    let went : Went p (and_put k bytes) u (turn.done + 1) = λ place settles. leads_over p k bytes (state_of m) h.thread h.instruction (turn.done + 1) (Goes u) (enters_so p k (state_of m) (turn.done + 1) h.reaches) h.running h.stands does place settles in
     record {
       thread = has.0;
       running = ap (λ (x : ℕ). thread_named n.memory.threads x) keeps.running ∙ has.1;
@@ -97,13 +100,13 @@ acted p start k others m n turn new bytes answer.Rests known h does one same uns
     let u = state_of n in
     let keeps : EndsTurn p (executed (state_of m)) u = does_keep p k.input h.thread h.instruction (executed (state_of m)) bytes (Rests u) known.begins h.sound.turn h.running h.stands does in
     record {
-      leads = leads_over p k bytes (state_of m) h.thread h.instruction (turn.done + 1) (Rests u) h.enters h.running h.stands does (At_point u) (rests u);
+      leads = leads_over p k bytes (state_of m) h.thread h.instruction (turn.done + 1) (Rests u) (enters_so p k (state_of m) (turn.done + 1) h.reaches) h.running h.stands does (At_point u) (rests u);
       paced = paced-after p start k others m n turn new bytes h keeps.counts.points one same still (unstuck refl);
     }
 acted p start k others m n turn new bytes (answer.Ends outcome) known h does one same unstuck next still =
     let u = state_of n in
     let keeps = does_keep p k.input h.thread h.instruction (executed (state_of m)) bytes (Ends u outcome) known.begins h.sound.turn h.running h.stands does in
-    (leads_over p k bytes (state_of m) h.thread h.instruction (turn.done + 1) (Ends u outcome) h.enters h.running h.stands does (Over u outcome) (run_ends u outcome), keeps.1)
+    (leads_over p k bytes (state_of m) h.thread h.instruction (turn.done + 1) (Ends u outcome) (enters_so p k (state_of m) (turn.done + 1) h.reaches) h.running h.stands does (Over u outcome) (run_ends u outcome), keeps.1)
 
 -- ---- output
 

@@ -7,6 +7,7 @@ use Rattle.m3_base.specs.declared.outcomes.Outcome.{Outcome}
 use Rattle.m3_base.specs.declared.outcomes.Outcome.TheVariants.{Spent}
 use Rattle.m3_isa.specs.Instructions.{is_point}
 use Rattle.m3_isa.specs.declared.instructions.Instr.{Instr}
+use Rattle.m3_ports.specs.declared.sinks.Sink.{Ghosts as SinkGhosts}
 use Rattle.m3_heap.specs.declared.store.Store.{Ghosts}
 use Rattle.m3_threads.specs.Actions.{started}
 use Rattle.m3_image_sections.specs.Parts.{Program}
@@ -16,7 +17,7 @@ use Rattle.m3_run_meaning.specs.declared.progress.Progress.TheVariants as answer
 use Rattle.m3_run_meaning.specs.State.{State, running_thread, outside}
 use Rattle.m3_run_meaning.specs.Points.{Chooses, StopsAtPoint, nobody, trapped, nobody_left, Says_spent, passed, first_entry, later_entries}
 use Rattle.m3_run_meaning.specs.Runs.{Leads, turn_limit, At_point, Over, stays, moves, at_point, stops, spent, then_at, starting}
-use Rattle.m3_run_loop.specs.Leading.{Track, LeadsTo, Enters, config}
+use Rattle.m3_run_loop.specs.Leading.{Track, LeadsTo, config}
 use Rattle.m3_run_laws.specs.Standing.{AtPoint, AllAtPoints, BeginsAtPoints}
 use Rattle.m3_run_laws.specs.Courses.{SoundTurn, SoundPoint, IsOther, EndsSoundly}
 use Rattle.m3_run_laws.specs.Stores.{StaysLawful}
@@ -26,7 +27,8 @@ use Rattle.m3_run_laws.proofs.Moving.{some-limit, leads_sound, chooses_sound, ch
 use Rattle.m3_run_state.specs.declared.parts.Parts.{Parts}
 use Rattle.m3_run_state.specs.Seen.{state_of, program_of, IsGoing}
 use Rattle.m3_machine.specs.declared.runs.Turn.{Turn}
-use Rattle.m3_machine.specs.Turns.{IsCourse, Known, and_put, Acts_next, Rested, Came_to}
+use Rattle.m3_machine.specs.Turns.{IsCourse, Known, and_put, Reaches, Acts_next, Rested, Came_to}
+use Rattle.m3_machine.specs.Faults.{StopsAtFault}
 use Rattle.m3_machine.specs.RunCalls.{At_turn, ended_by, Turned, IsReady, Ran}
 use Rattle.m3_machine.proofs.Bounds.{sound_at, bounded_point}
 use Rattle.m3_machine.proofs.Settling.{point_acts}
@@ -74,9 +76,12 @@ begins_turn p start k m n left others turn known h chooses made unstuck some fir
       running = ap (λ (x : State). running_thread x) chooses.turns ∙ goes.1;
       stands = i.1;
       acts = point_acts i.0.op point;
-      enters = subst (λ (x : ℕ). Enters p (beyond k) (state_of n) (x + 1)) (sym first) (λ bytes place carried.
-          let d = config (At_point s) k.entries k.output in
-          moves k.from d (then_at (config (At_point s) (later_entries k.entries) k.output) place bytes) h.leads (at_point s (state_of n) d bytes place refl few chooses carried));
+      reaches = subst (λ (x : ℕ). Reaches p (beyond k) (state_of n) (x + 1)) (sym first) (record {
+        last = config (At_point s) k.entries k.output;
+        leads = h.leads;
+        output = refl;
+        carries = λ bytes place carried. at_point s (state_of n) (config (At_point s) k.entries k.output) bytes place refl few chooses carried;
+      });
       sound = subst (λ (x : ℕ). SoundTurn p k.allowed start (state_of n) x) (sym first) sound;
       paced = record {
         points = omega (arith, one, h.points, parted);
@@ -125,6 +130,12 @@ known_beyond p start k m known = record {
   depth = known.depth;
   course = record { begins = known.course.begins; sound = known.course.sound; small = known.course.small; short = known.course.short; few = known.course.few };
 }
+
+-- a put of its turn failed
+pub stops_beyond : {O : Type 0} (g : SinkGhosts O) (p : Program) (k : Track) (before after : O) → StopsAtFault g p (beyond k).input (beyond k).allowed (beyond k).from (beyond k).output before after
+    → StopsAtFault g p k.input k.allowed k.from k.output before after
+unfolding beyond
+stops_beyond g p k before after h = h
 
 -- ---- the run
 

@@ -11,8 +11,8 @@ use Rattle.m3_run_loop.specs.declared.halts.Halt.TheVariants.{Trapped}
 use Rattle.m3_run_meaning.specs.declared.progress.Progress.{Progress as Answer}
 use Rattle.m3_run_meaning.specs.declared.progress.Progress.TheVariants.{Goes, Rests, Ends}
 use Rattle.m3_run_meaning.specs.State.{State}
-use Rattle.m3_run_meaning.specs.Runs.{At_point, Over, turn_limit}
-use Rattle.m3_run_loop.specs.Leading.{Track, LeadsTo, Went, Enters}
+use Rattle.m3_run_meaning.specs.Runs.{Config, Place, At_point, Over, Carries_out, Moves, Leads, turn_limit}
+use Rattle.m3_run_loop.specs.Leading.{Track, LeadsTo, Went, config}
 use Rattle.m3_run_laws.specs.Standing.{BeginsAtPoints}
 use Rattle.m3_run_laws.specs.Courses.{SoundTurn, IsOther, IsSound}
 use Rattle.m3_run_state.specs.declared.parts.Parts.{Parts}
@@ -67,6 +67,13 @@ abbrev pub Halted : {S : Type 0} {g : Ghosts S} → Program → Track → ℕ �
 Halted p k others m turn (Trapped n) = LeadsTo p k (Over (state_of m) (Trap n))
 Halted p k others m turn _ = Halts p k others m turn
 
+-- it leads to a place whose next move is that the running thread carries out instruction number n of its turn
+pub record Reaches (p : Program) (k : Track) (s : State) (n : ℕ) : Type 0 where
+  pub last : Config
+  pub leads : Leads p k.input k.allowed k.from last
+  pub output : last.output ≡ k.output
+  pub carries : (bytes : List ℕ) (place : Place) → Carries_out p k.input n s bytes place → Moves p k.input k.allowed last (config place k.entries (k.output ++ bytes))
+
 -- the turn stands before an instruction that isn't plain and comes next
 pub record Acts_next {S : Type 0} {g : Ghosts S} (p : Program) (start : State) (k : Track) (others : ℕ) (m : Parts S g) (turn : Turn) : Type 0 where
   pub thread : Thread
@@ -74,7 +81,7 @@ pub record Acts_next {S : Type 0} {g : Ghosts S} (p : Program) (start : State) (
   pub running : Running m thread
   pub stands : slice_get p.code thread.regs.pc ≡ Some instruction
   pub acts : is_plain instruction.op ≡ false
-  pub enters : Enters p k (state_of m) (turn.done + 1)
+  pub reaches : Reaches p k (state_of m) (turn.done + 1)
   pub sound : SoundTurn p k.allowed start (state_of m) turn.done
   pub paced : Paced k others m turn
   pub made : is_point instruction.op ≡ true → m.made < m.points

@@ -5,6 +5,7 @@ ghost use Rattle.m3_run_meaning.specs.State.{executed};
 ghost use Rattle.m3_run_meaning.specs.Calls.{place_of};
 ghost use Rattle.m3_run_meaning.specs.Steps.{Acts, Does};
 ghost use Rattle.m3_machine.specs.Deeds.{MayAct, IsSilent};
+ghost use Rattle.m3_machine.specs.Faults.{PutsToFault};
 ghost use Rattle.m3_isa.specs.Instructions.{IsInstruction, is_plain, is_point};
 ghost use Rattle.m3_ports.specs.Counts.{Rose};
 ghost use Rattle.m3_threads.specs.declared.status.Thread.{Thread};
@@ -102,6 +103,11 @@ pub(crate) fn act<S: Store, O: Sink>(
         → (bytes : List ℕ) × Took (O.taken out.old) (O.taken out.new) bytes
         × Does (program_of parts.old) parts.old.input.now t i (executed (state_of parts.old)) bytes
         (became progress (state_of parts.new))) }
+    ensures cut { OnErr result ((t : Thread) (i : Instruction)
+        → slice_get (program_of parts.old).code t.regs.pc ≡ Some i → MayAct parts.old t i
+        → parts.old.instructions < 2 ^ 128 - 1
+        → PutsToFault O.Sink (program_of parts.old) parts.old.input.now t i
+        (executed (state_of parts.old)) out.old out.new) }
 {
     let regs = parts.regs();
     match parts.image.fetch(regs.pc) {
@@ -136,6 +142,10 @@ fn act_at<S: Store, O: Sink>(
         → (bytes : List ℕ) × Took (O.taken out.old) (O.taken out.new) bytes
         × Does (program_of parts.old) parts.old.input.now t i (executed (state_of parts.old)) bytes
         (became progress (state_of parts.new))) }
+    ensures cut { OnErr result ((t : Thread) → MayAct parts.old t i
+        → parts.old.instructions < 2 ^ 128 - 1
+        → PutsToFault O.Sink (program_of parts.old) parts.old.input.now t i
+        (executed (state_of parts.old)) out.old out.new) }
 {
     parts.instructions = parts.instructions.saturating_add(1);
     match i.op {

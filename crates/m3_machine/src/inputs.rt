@@ -1,4 +1,4 @@
-ghost use Rattle.std.specs.Prelude.{◌≡◌, ◌<◌, ◌≤◌, nat_le, length, OnOk, OnErr, IfOk};
+ghost use Rattle.std.specs.Prelude.{◌≡◌, ◌<◌, ◌≤◌, [], nat_le, length, OnOk, OnErr, IfOk};
 ghost use Rattle.m3_ports.specs.Counts.{Rose};
 ghost use Rattle.m3_threads.specs.declared.status.Thread.{Thread};
 ghost use Rattle.m3_run_meaning.specs.State.{memory_of};
@@ -7,6 +7,7 @@ ghost use Rattle.m3_run_meaning.specs.Progress.{Follows, became};
 ghost use Rattle.m3_run_meaning.specs.Calls.{stack_of};
 ghost use Rattle.m3_run_meaning.specs.Acts.{puts_number, puts_byte, gets, tells_end, tells_self};
 ghost use Rattle.m3_run_state.specs.Seen.{state_of, program_of, rest_of, Running, Took};
+ghost use Rattle.m3_run_state.specs.Cuts.{CutsOff};
 
 use itoa::Buffer;
 use m3_heap::Store;
@@ -31,6 +32,8 @@ pub(crate) fn put_number<S: Store, O: Sink>(
         → Took (O.taken out.old) (O.taken out.new) (bytes_of (puts_number i t.regs))
         × Follows (program_of parts.old) (puts_number i t.regs) (state_of parts.old)
         (became progress (state_of parts.new))) }
+    ensures cut { OnErr result ((t : Thread) → Running parts.old t
+        → CutsOff O.Sink out.old out.new [] (bytes_of (puts_number i t.regs))) }
 {
     let mut buffer = Buffer::new();
     let number = parts.word(i.a).cast_signed();
@@ -53,6 +56,8 @@ pub(crate) fn put_byte<S: Store, O: Sink>(
         → Took (O.taken out.old) (O.taken out.new) (bytes_of (puts_byte i t.regs))
         × Follows (program_of parts.old) (puts_byte i t.regs) (state_of parts.old)
         (became progress (state_of parts.new))) }
+    ensures cut { OnErr result ((t : Thread) → Running parts.old t
+        → CutsOff O.Sink out.old out.new [] (bytes_of (puts_byte i t.regs))) }
 {
     let byte = (parts.word(i.a) % 256) as u8;
     out.put(&[byte])?;

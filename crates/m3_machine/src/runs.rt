@@ -12,6 +12,7 @@ ghost use Rattle.m3_run_meaning.specs.declared.progress.Progress.TheVariants.{Go
 ghost use Rattle.m3_run_state.specs.Seen.{state_of, program_of, rest_of, Running, Took};
 ghost use Rattle.m3_machine.specs.Turns.{to_come, and_put, Known, Between, Halts, Halted};
 ghost use Rattle.m3_machine.specs.Turns.{Acts_next, Comes_to, Came_to};
+ghost use Rattle.m3_machine.specs.Faults.{StopsAtFault};
 ghost use Rattle.m3_ports.specs.Counts.{Rose};
 
 use crate::acts::act;
@@ -194,6 +195,9 @@ fn act_next<S: Store, O: Sink>(
         → Acts_next p start k others parts.old turn.old
         → (bytes : List ℕ) × Took (O.taken out.old) (O.taken out.new) bytes
         × Came_to p (and_put k bytes) others parts.new turn.new progress) }
+    ensures cut { OnErr result ((p : Program) (start : State) (k : Track) (others : ℕ)
+        → Known p start k parts.old → Acts_next p start k others parts.old turn.old
+        → StopsAtFault O.Sink p k.input k.allowed k.from k.output out.old out.new) }
 {
     let progress = act(parts, out)?;
     turn.done += 1;
@@ -220,6 +224,9 @@ pub(crate) fn take_turn<S: Store, O: Sink>(
         → Acts_next p start k others parts.old turn.old
         → (bytes : List ℕ) × Took (O.taken out.old) (O.taken out.new) bytes
         × Came_to p (and_put k bytes) others parts.new turn.new progress) }
+    ensures cut { OnErr result ((p : Program) (start : State) (k : Track) (others : ℕ)
+        → Known p start k parts.old → Acts_next p start k others parts.old turn.old
+        → StopsAtFault O.Sink p k.input k.allowed k.from k.output out.old out.new) }
 {
     let mut progress = act_next(parts, turn, out)?;
     'acts: while progress == Progress::Goes {

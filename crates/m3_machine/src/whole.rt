@@ -10,6 +10,7 @@ ghost use Rattle.m3_run_laws.specs.Standing.{BeginsAtPoints};
 ghost use Rattle.m3_run_state.specs.Seen.{state_of, program_of, rest_of, Took};
 ghost use Rattle.m3_machine.specs.Turns.{Known};
 ghost use Rattle.m3_machine.specs.RunCalls.{At_turn, ended_by, Turned, IsReady, Ran};
+ghost use Rattle.m3_machine.specs.Faults.{StopsAtFault, RanToFault};
 ghost use Rattle.m3_ports.specs.Counts.{Rose};
 
 use crate::machine::Machine;
@@ -91,6 +92,10 @@ fn next_turn<S: Store, O: Sink>(
         → At_turn p k left.old parts.old → k.entries ≡ entries.now
         → (bytes : List ℕ) × Took (O.taken out.old) (O.taken out.new) bytes
         × Turned p k bytes left.new parts.new ended) }
+    ensures cut { OnErr result ((p : Program) (start : State) (k : Track)
+        → Known p start k parts.old
+        → At_turn p k left.old parts.old → k.entries ≡ entries.now
+        → StopsAtFault O.Sink p k.input k.allowed k.from k.output out.old out.new) }
 {
     if let Some(outcome) = pass_point(parts, first_entry(entries)) {
         return Ok(Some(outcome));
@@ -105,7 +110,9 @@ fn next_turn<S: Store, O: Sink>(
 
 impl<'a, S: Store> Machine<'a, S> {
     /// Runs on, with a schedule and so many points at most. SinkFailed comes only where a put
-    /// failed, and the sink's count of faults rose; an outcome says that the sink took all output.
+    /// failed, and the sink's count of faults rose: then the sink has the output up to the piece
+    /// that failed, but for what waited in it, and nothing more was put. An outcome says that it
+    /// took all output.
     /// A machine that is new or whose last run used up its points may run so long as all of its
     /// points together are below 2^63.
     pub fn run<O: Sink>(
@@ -122,6 +129,10 @@ impl<'a, S: Store> Machine<'a, S> {
             → (bytes : List ℕ) × Took (O.taken out.old) (O.taken out.new) bytes
             × Ran (program_of self.old.parts) self.old.parts.input.now (state_of self.old.parts)
             schedule.now points bytes (state_of self.new.parts) outcome) }
+        ensures cut { OnErr result (IsReady self.old.parts
+            → (state_of self.old.parts).points + points < 2 ^ 63
+            → RanToFault O.Sink (program_of self.old.parts) self.old.parts.input.now
+            (state_of self.old.parts) schedule.now points out.old out.new) }
         ensures ready { result ≡ Ok Spent → IsReady self.old.parts
             → (state_of self.old.parts).points + points < 2 ^ 63 → IsReady self.new.parts }
     {

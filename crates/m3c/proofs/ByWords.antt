@@ -1,32 +1,30 @@
 -- What follows from the words: when status 2 comes, and completeness of `run` and `dump`.
-use Rattle.std.proofs.Common.{◌≡◌, ◌∙◌, ◌==◌, ◌&&◌, ◌⊎◌, ℕ, Bool, cond, not, true, false, List, [], ◌∷◌, Option, None, Some, refl, sym, ap, ap₂, subst, inl, inr, arith, codes}
+use Rattle.std.proofs.Common.{◌≡◌, ◌∙◌, ◌==◌, ◌&&◌, ◌⊎◌, ℕ, Bool, cond, true, false, List, [], ◌∷◌, None, Some, refl, sym, ap, subst, inl, inr, arith, codes}
 use Rattle.std.specs.Prelude.{Result, Ok, Err, MatchResult, is_some}
 use Rattle.std.specs.Str.{bytes_eq}
 use Rattle.std.proofs.lemmas.Bool.{false≢true, not-true}
 use Rattle.std.proofs.lemmas.Slice.Eq.{bytes_eq-Decides}
 use Rattle.clap.proofs.WalkLemmas.{both}
-use Rattle.m3_base.specs.declared.outcomes.Entry.{Entry}
-use Rattle.m3_image.specs.Images.{read_of}
 use Rattle.m3_image_sections.specs.Parts.{Image}
 use Rattle.m3_image_dump.specs.Texts.{IsDump}
-use Rattle.m3c_words.specs.Orders.{Options, Order, run, exec, dump}
+use Rattle.m3c_words.specs.Orders.{Options, Order, build, run, exec, dump}
 use Rattle.m3c_words.specs.Asked.{asked, usual_options}
 use Rattle.m3c_words.proofs.PlainExec.{exec_asked}
 use Rattle.m3c_image_commands.specs.declared.answers.Answer.{Answer}
 use Rattle.m3c_image_commands.specs.declared.answers.Refusal.{Refusal}
-use Rattle.m3c_image_commands.specs.Statuses.{Shelving, Putting, Took, Tells, image_cap}
+use Rattle.m3c_image_commands.specs.Statuses.{Shelving, Putting, Took, Tells}
 use Rattle.m3c_image_commands.specs.Reports.{Setting, Ended, within}
 use Rattle.m3c_image_commands.specs.ImageCommands.{by_schedule, on_input}
-use Rattle.m3c_image_commands.specs.Complete.{CutsShort, IsHeld, HoldsAll}
+use Rattle.m3c_image_commands.specs.Complete.{CutsShort}
 use Rattle.m3c_image_commands.proofs.CompleteLemmas.{runs_whole, dumps_whole}
 use Rattle.m3c_source_commands.specs.Orders.{Commands, usage, no_words, carried_out, Fulfils}
 use Rattle.m3c_source_commands.proofs.UsageLemmas.{never_usage}
-use Rattle.m3c.specs.Command.{Call, UsageByWords, IsCalm, IsRunComplete, IsDumpComplete, RanImage, DumpedImage, RanOut, file_of, is_name}
+use Rattle.m3c.specs.Command.{Call, UsageByWords, IsCalm, IsBuildComplete, IsRunComplete, IsDumpComplete, RanImage, DumpedImage, RanOut, file_of, is_name}
 
-some_same : {A : Type 0} (x y : A) → Some x ≡ Some y → x ≡ y
+pub some_same : {A : Type 0} (x y : A) → Some x ≡ Some y → x ≡ y
 some_same x y e = cc
 
-some_none : {A : Type 0} (x : A) → Some x ≡ None → ⊥
+pub some_none : {A : Type 0} (x : A) → Some x ≡ None → ⊥
 some_none x e = cc
 
 -- ---- `exec FILE`
@@ -62,6 +60,10 @@ exec_runs_none call status files options asks name others i schedule given run_a
 pub exec_dumps_none : (call : Call) (status : ℕ) (files : List (List ℕ)) (options : Options) → asked call.words ≡ Some (exec files options) → IsDumpComplete call status
 exec_dumps_none call status files options asks name i bytes dump_asked held read calm =
     let same : exec files options ≡ dump name = some_same (exec files options) (dump name) (sym asks ∙ dump_asked) in absurd cc
+
+pub exec_builds_none : (call : Call) (status : ℕ) (files : List (List ℕ)) (options : Options) → asked call.words ≡ Some (exec files options) → IsBuildComplete call status
+exec_builds_none call status files options asks held image name text puts build_asked h g short p calm store =
+    let same : exec files options ≡ build image (name ∷ []) = some_same (exec files options) (build image (name ∷ [])) (sym asks ∙ build_asked) in absurd cc
 
 -- ---- any other command
 

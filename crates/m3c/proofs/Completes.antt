@@ -21,7 +21,8 @@ use Rattle.m3c_source_commands.specs.Orders.{Commands, Fulfils}
 use Rattle.m3c_source_commands.proofs.UsageLemmas.{never_usage}
 use Rattle.m3c.specs.Command.{Call, IsSilent, IsRead, Ran, Answers, AnswersOther, IsComplete, NotPlainText, of_words, of_text, IsOther, file_of, Promises, file_cap}
 use Rattle.m3c.proofs.Rows.{row_no_memory, row_write_fault}
-use Rattle.m3c.proofs.ByWords.{dump_of, exec_dumps_none, exec_runs_none, exec_words, run_of, usage_never, usage_of}
+use Rattle.m3c.proofs.Builds.{build_of}
+use Rattle.m3c.proofs.ByWords.{dump_of, exec_builds_none, exec_dumps_none, exec_runs_none, exec_words, run_of, usage_never, usage_of}
 
 or_parts : (a b : Bool) → (a || b) ≡ true → (a ≡ true) ⊎ (b ≡ true)
 or_parts true b e = inl refl
@@ -116,6 +117,7 @@ promised call status name named table =
       complete = λ files name text puts f h g short p a b c. complete call status table files name text puts f h g short p a b c;
       run_complete = exec_runs_none call status _ _ asks;
       dump_complete = exec_dumps_none call status _ _ asks;
+      build_complete = exec_builds_none call status _ _ asks;
     }
 
 -- another command says nothing of the plain form
@@ -143,6 +145,7 @@ text_promised_by call status name result words named text carried told =
       complete = other_complete call status answers;
       run_complete = exec_runs_none call status _ _ asks;
       dump_complete = exec_dumps_none call status _ _ asks;
+      build_complete = exec_builds_none call status _ _ asks;
     }
 
 pub words_promised : (call : Call) (status : ℕ) → call.file ≡ None → Commands call.words call.shelf call.out call.err call.image status → Promises call status
@@ -154,6 +157,7 @@ words_promised call status none commands =
       complete = other_complete call status answers;
       run_complete = run_of call status commands;
       dump_complete = dump_of call status commands;
+      build_complete = build_of call status commands;
     }
 
 -- memory ran out before anything was done

@@ -1,5 +1,7 @@
 pub mod PlainRuns
 pub mod Rows
 pub mod ByWords
+pub mod Texts
+pub mod Builds
 pub mod Completes
-pub mod OtherTexts
+pub mod Execs

@@ -1,25 +1,21 @@
 -- The run of the image of a text in the plain form ended as its puts do.
-use Rattle.std.proofs.Common.{◌≡◌, ℕ, ◌≤◌, List, [], ◌∷◌, Option, Some, None, refl, sym, ap, ◌∙◌, subst, inl, inr, ◌⊎◌, arith}
-use Rattle.std.specs.Prelude.{false, Result, Ok, Err}
+use Rattle.std.proofs.Common.{◌≡◌, ℕ, List, [], ◌∷◌, refl, ap, ◌∙◌, subst, inl, inr, ◌⊎◌, arith}
+use Rattle.std.specs.Prelude.{false}
 use Rattle.m3_base.specs.declared.outcomes.FaultKind.TheVariants.{Overflow}
 use Rattle.m3_base.specs.declared.outcomes.Outcome.{Outcome}
 use Rattle.m3_base.specs.declared.outcomes.Outcome.TheVariants.{Done, Fault}
 use Rattle.m3_heap.specs.Semi.{new_heap}
-use Rattle.m3_image.specs.Images.{read_of}
-use Rattle.m3_image_sections.specs.Parts.{Image}
-use Rattle.m3_image_sections.specs.declared.refusal.ImageRefusal.{ImageRefusal}
 use Rattle.m3_run_meaning.specs.State.{State}
 use Rattle.m3_run_meaning.specs.Runs.{Over}
 use Rattle.m3_run_loop.specs.Leading.{config}
 use Rattle.m3_plain.specs.Terms.{Term, Value, Gives, Overflows, value_of, ended_by, outcome_of, output_of, points_of}
 use Rattle.m3_plain.specs.PlainForm.{IsPlain}
 use Rattle.m3_plain.proofs.Bounds.{plain_points}
-use Rattle.m3_plain_image.specs.Image.{plain_program, plain_image}
+use Rattle.m3_plain_image.specs.Image.{plain_image}
 use Rattle.m3_plain_runs.specs.EndsAs.{EndsAs}
 use Rattle.m3_plain_runs.proofs.Ending.{runs-end}
 use Rattle.m3c_image_commands.specs.Statuses.{Putting, Took}
 use Rattle.m3c_image_commands.specs.Reports.{Ended, end_status, report}
-use Rattle.m3c_image_commands.specs.ImageCommands.{ImageAnswer, image_refused, ended}
 use Rattle.m3c_source_commands.specs.Orders.{usual_setting}
 use Rattle.m3c.specs.Command.{UsualRun}
 
@@ -60,16 +56,3 @@ whole_run text name puts out status line plain e =
       by_status = e.by_status ∙ ap end_status end.ended;
       by_line = e.by_line ∙ ap (λ (o : Outcome). report (plain_image name puts) false o e.to.points e.to.instructions e.to.collections) end.ended;
     }
-
-not-err : (i : Image) (refusal : ImageRefusal) → ◌≡◌ {A = Result Image ImageRefusal} (Ok i) (Err refusal) → ⊥
-not-err i refusal e = cc
-
-same-ok : (i j : Image) → ◌≡◌ {A = Result Image ImageRefusal} (Ok i) (Ok j) → i ≡ j
-same-ok i j e = cc
-
--- of bytes that are the image of a text in the plain form
-pub whole_answer : (text name image : List ℕ) (puts : List Term) (out : Putting) (status : ℕ) (line : List ℕ) → IsPlain text puts → read_of image ≡ Ok (plain_image name puts) → ImageAnswer image usual_setting false out status line → Whole name puts out status line
-whole_answer text name image puts out status line plain is (image_refused refusal e nothing) = absurd (not-err (plain_image name puts) refusal (sym is ∙ e))
-whole_answer text name image puts out status line plain is (ended i told said e run) =
-    let same = same-ok i (plain_image name puts) (sym e ∙ is) in
-    whole_run text name puts out status line plain (subst (λ (x : Image). Ended x usual_setting false out status line) same run)

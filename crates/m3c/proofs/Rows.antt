@@ -1,22 +1,20 @@
 -- The rows of the table of statuses.
-use Rattle.std.proofs.Common.{◌≡◌, ℕ, ◌≤◌, List, [], ◌∷◌, ◌++◌, length, Option, Some, refl, sym, ap, ◌∙◌, subst, inl, inr, ◌⊎◌, arith}
-use Rattle.std.specs.Prelude.{IfSome, codes, false, Result, Ok, Err}
-use Rattle.std.specs.FinMap.{get}
+use Rattle.std.proofs.Common.{◌≡◌, ℕ, List, [], ◌++◌, Some, refl, sym, ap, ◌∙◌, subst, inl, inr, ◌⊎◌, arith}
+use Rattle.std.specs.Prelude.{IfSome, codes, false, Ok}
 use Rattle.m3_base.specs.declared.outcomes.FaultKind.TheVariants.{Overflow}
 use Rattle.m3_base.specs.declared.outcomes.Outcome.{Outcome}
 use Rattle.m3_base.specs.declared.outcomes.Outcome.TheVariants.{Done, Fault}
-use Rattle.m3_ports.specs.Files.{Files, IsNotHeld, IsHeldOver}
+use Rattle.m3_ports.specs.Files.{IsNotHeld, IsHeldOver}
+use Rattle.m3_image.specs.Images.{read_of}
 use Rattle.m3_plain.specs.Terms.{Term, outcome_of}
 use Rattle.m3_plain.specs.PlainForm.{IsPlain}
-use Rattle.m3c_image_commands.specs.declared.answers.Answer.{Answer}
+use Rattle.m3_plain_image.specs.Image.{plain_image}
 use Rattle.m3c_image_commands.specs.declared.answers.Refusal.{Refusal}
-use Rattle.m3c_image_commands.specs.Statuses.{Putting, CountRose, Took, Only, Unfetched, read_fault, no_memory, absent, too_long, Says as SaysLine, Tells}
-use Rattle.m3c_image_commands.specs.Reports.{end_status}
-use Rattle.m3c_image_commands.specs.ImageCommands.{RunsImage}
+use Rattle.m3c_image_commands.specs.Statuses.{CountRose, Took, Only, Unfetched, read_fault, no_memory, absent, too_long, Refuses as Refuses', Says as SaysLine}
+use Rattle.m3c_image_commands.specs.Reports.{Ended, end_status}
 use Rattle.m3c_source_commands.specs.Orders.{usual_setting}
-use Rattle.m3c.specs.Command.{Call, IsSilent, Says, IsRead, Ran, Refuses, NotPlainText, Answers, file_cap}
-use Rattle.m3c.specs.Compiled.{Compiles}
-use Rattle.m3c.proofs.PlainRuns.{Whole, plain_end, whole_answer}
+use Rattle.m3c.specs.Command.{Call, IsSilent, Says, IsRead, Ran, Refuses, Answers, file_cap}
+use Rattle.m3c.proofs.PlainRuns.{Whole, plain_end, whole_run}
 
 -- ---- one row
 
@@ -127,47 +125,45 @@ fetch_refused call file status told front name named silent u (inr t) = subst (�
 
 -- ---- a file that was read
 
--- the bytes that were read
-pub read_text : (held : Option Files) (name text before after bytes : List ℕ) → after ≡ before ++ bytes → before ≡ [] → text ≡ after → length bytes ≤ 1048576 → IfSome held (λ files. get files name ≡ Some bytes) → (length text ≤ file_cap) × IfSome held (λ files. get files name ≡ Some text)
-read_text held name text before after bytes e empty same short told =
-    let t : bytes ≡ text = sym (same ∙ e ∙ ap (λ b. b ++ bytes) empty) in
-    (subst (λ b. length b ≤ 1048576) t short, subst (λ b. IfSome held (λ files. get files name ≡ Some b)) t told)
+-- the run of the image of a file in the plain form
+module _ (call : Call) (name text : List ℕ) (puts : List Term) (read : IsRead call name text) (plain : IsPlain text puts) (only : (others : List Term) → IsPlain text others → others ≡ puts) (bytes : read_of call.image ≡ Ok (plain_image name puts)) where
+  ran : (status : ℕ) (line : List ℕ) → Whole name puts call.out status line → Took call.err.taken line → Ran call (outcome_of puts)
+  ran status line w said = record {
+    name = name;
+    text = text;
+    read = read;
+    puts = puts;
+    plain = plain;
+    only = only;
+    ends = refl;
+    image = bytes;
+    last = w.last;
+    run = w.run;
+    points = w.points;
+    output = w.output;
+    says = subst (λ (l : List ℕ). Took call.err.taken l) w.by_line said;
+  }
 
--- a text that was read and isn't in the plain form
-pub not_plain_text : (held : Option Files) (name text : List ℕ) → (length text ≤ file_cap) × IfSome held (λ files. get files name ≡ Some text) → ((puts : List Term) → IsPlain text puts → ⊥) → NotPlainText (Some name) held
-not_plain_text held name text read other = record { name = name; text = text; named = refl; short = read.0; told = read.1; other = other }
+  -- the status of an end
+  row_ran : (outcome : Outcome) (status : ℕ) → (outcome ≡ Done) ⊎ ((at : ℕ) × (outcome ≡ Fault Overflow 0 at)) → status ≡ end_status outcome → Ran call outcome → Answers call status
+  row_ran outcome status (inl e) s row = subst (λ (n : ℕ). Answers call n) (sym (s ∙ ap end_status e)) (row_done call (subst (λ (o : Outcome). Ran call o) e row))
+  row_ran outcome status (inr e) s row = subst (λ (n : ℕ). Answers call n) (sym (s ∙ ap end_status e.1)) (row_fault call (e.0, subst (λ (o : Outcome). Ran call o) e.1 row))
 
-ran : (call : Call) (name text : List ℕ) (b : Compiles name text call.image) (status : ℕ) (line : List ℕ) → IsRead call name text → Whole name b.puts call.out status line → Took call.err.taken line → Ran call (outcome_of b.puts)
-ran call name text b status line read w said = record {
-  name = name;
-  text = text;
-  read = read;
-  puts = b.puts;
-  plain = b.plain;
-  only = b.only;
-  ends = refl;
-  image = b.image;
-  last = w.last;
-  run = w.run;
-  points = w.points;
-  output = w.output;
-  says = subst (λ (l : List ℕ). Took call.err.taken l) w.by_line said;
-}
+  pub row_run : (status told : ℕ) (line : List ℕ) → Ended (plain_image name puts) usual_setting false call.out status line → SaysLine call.err status line told → Answers call told
+  row_run status told line ended (inl t) =
+      let w = whole_run text name puts call.out status line plain ended in
+      row_ran (outcome_of puts) told (plain_end puts) (t.0 ∙ w.by_status) (ran status line w t.1)
+  row_run status told line ended (inr t) = subst (λ (s : ℕ). Answers call s) (sym t.0) (row_write_fault call (inr t.1))
 
--- the status of an end
-row_ran : (call : Call) (outcome : Outcome) (status : ℕ) → (outcome ≡ Done) ⊎ ((at : ℕ) × (outcome ≡ Fault Overflow 0 at)) → status ≡ end_status outcome → Ran call outcome → Answers call status
-row_ran call outcome status (inl e) s row = subst (λ (n : ℕ). Answers call n) (sym (s ∙ ap end_status e)) (row_done call (subst (λ (o : Outcome). Ran call o) e row))
-row_ran call outcome status (inr e) s row = subst (λ (n : ℕ). Answers call n) (sym (s ∙ ap end_status e.1)) (row_fault call (e.0, subst (λ (o : Outcome). Ran call o) e.1 row))
+-- ---- a refusal
 
-pub row_run : (call : Call) (name text : List ℕ) (b : Compiles name text call.image) (answer : Result Answer Refusal) (told : ℕ) → IsRead call name text → RunsImage call.image usual_setting false call.out answer → Tells call.err answer told → Answers call told
-row_run call name text b (Ok a) told read h (inl t) =
-    let w = whole_answer text name call.image b.puts call.out a.status a.line.items b.plain b.image h in
-    row_ran call (outcome_of b.puts) told (plain_end b.puts) (t.0 ∙ w.by_status) (ran call name text b a.status a.line.items read w t.1)
-row_run call name text b (Ok a) told read h (inr t) = subst (λ (s : ℕ). Answers call s) (sym t.0) (row_write_fault call (inr t.1))
-row_run call name text b (Err r) told read (inl lacks) (inl t) =
+-- no file can be read, or memory ran out, or a put failed
+pub row_refused : (call : Call) (file : List ℕ) (r : Refusal) (told : ℕ) → call.file ≡ Some file → Refuses' call.shelf (Only file file_cap) call.out r → SaysLine call.err r.status (r.front.now ++ r.name.now ++ codes "\n") told → Answers call told
+row_refused call file r told named (inl u) says = fetch_refused call file r.status told r.front.now r.name.now named u.1 u.0 says
+row_refused call file r told named (inr h) (inr t) = subst (λ (s : ℕ). Answers call s) (sym t.0) (row_write_fault call (inr t.1))
+row_refused call file r told named (inr (inl lacks)) (inl t) =
     subst (λ (s : ℕ). Answers call s) (sym (t.0 ∙ lacks.0.status)) (row_no_memory call (lacks.1, said (lacks.0.front) (lacks.0.name) t.1))
   where
     said : r.front.now ≡ codes "out of memory" → r.name.now ≡ [] → Took call.err.taken (r.front.now ++ r.name.now ++ codes "\n") → Took call.err.taken (codes "out of memory" ++ codes "\n")
     said f n took = subst (λ (l : List ℕ). Took call.err.taken (codes "out of memory" ++ l ++ codes "\n")) n (subst (λ (l : List ℕ). Took call.err.taken (l ++ r.name.now ++ codes "\n")) f took)
-row_run call name text b (Err r) told read (inr lacks) (inl t) = subst (λ (s : ℕ). Answers call s) (sym (t.0 ∙ lacks.0.status)) (row_write_fault call (inl lacks.1))
-row_run call name text b (Err r) told read h (inr t) = subst (λ (s : ℕ). Answers call s) (sym t.0) (row_write_fault call (inr t.1))
+row_refused call file r told named (inr (inr lacks)) (inl t) = subst (λ (s : ℕ). Answers call s) (sym (t.0 ∙ lacks.0.status)) (row_write_fault call (inl lacks.1))

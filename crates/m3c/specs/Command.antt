@@ -1,6 +1,6 @@
 -- What the command answers: a row for each status, over what the words say, what the shelf tells that it
 -- holds, which counts rose, and what the sinks took.
-use Rattle.std.specs.Prelude.{ℕ, ◌≡◌, ◌≤◌, ◌==◌, ◌&&◌, ◌⊎◌, Bool, false, not, if◌then◌else◌, Option, None, Some, IfSome, is_some, Result, Ok, List, [], ◌∷◌, ◌++◌, length, codes, decimal, IsTrue}
+use Rattle.std.specs.Prelude.{ℕ, ◌≡◌, ◌≤◌, ◌==◌, ◌&&◌, ◌⊎◌, Bool, false, not, if◌then◌else◌, Option, None, Some, IfSome, is_some, Result, Ok, List, [], ◌∷◌, ◌++◌, length, codes, IsTrue}
 use Rattle.std.specs.List.{list_any}
 use Rattle.std.specs.Str.{bytes_eq}
 use Rattle.std.specs.FinMap.{get}
@@ -20,12 +20,12 @@ use Rattle.m3_run_meaning.specs.State.{State}
 use Rattle.m3_machine.specs.RunCalls.{RunOf}
 use Rattle.m3c_image_commands.specs.declared.answers.Answer.{Answer}
 use Rattle.m3c_image_commands.specs.declared.answers.Refusal.{Refusal}
-use Rattle.m3c_image_commands.specs.Statuses.{Shelving, Putting, Tells, image_cap}
+use Rattle.m3c_image_commands.specs.Statuses.{Shelving, Putting, StoresNothing, StoresUnder, Tells, image_cap}
 pub use Rattle.m3c_image_commands.specs.Statuses.{CountRose, Took}
 use Rattle.m3c_image_commands.specs.Reports.{Setting, Ended, within, end_status, report}
 use Rattle.m3c_image_commands.specs.ImageCommands.{by_schedule, on_input}
 use Rattle.m3c_image_commands.specs.Complete.{IsHeld, HoldsAll}
-use Rattle.m3c_words.specs.Orders.{Options, run, exec, dump}
+use Rattle.m3c_words.specs.Orders.{Options, build, run, exec, dump}
 use Rattle.m3c_words.specs.Asked.{asked, usual_options}
 use Rattle.m3c_source_commands.specs.Orders.{Fulfils, Commands, usual_setting}
 
@@ -187,6 +187,21 @@ IsDumpComplete call status =
     (name : List ℕ) (i : Image) (bytes : List ℕ) → asked call.words ≡ Some (dump name) → IsHeld call.shelf.held.0 name image_cap bytes → read_of bytes ≡ Ok i → IsCalm call
     → DumpedImage call i status ⊎ RanOut call status
 
+-- the image of what a file puts, which is in the plain form, was stored under a name: it is the image that `exec` of
+-- the file runs
+pub record Stored (call : Call) (image name : List ℕ) (puts : List Term) : Type 0 where
+  pub bytes : read_of call.image ≡ Ok (plain_image name puts)
+  pub under : StoresUnder call.shelf image call.image
+  pub silent : IsSilent call
+
+-- completeness of `build` of a file in the plain form that is held within its cap: its image is stored, or memory ran
+-- out and all stays
+abbrev pub IsBuildComplete : Call → ℕ → Type 0
+IsBuildComplete call status =
+    (files : Files) (image name text : List ℕ) (puts : List Term) → asked call.words ≡ Some (build image (name ∷ [])) → call.shelf.held.0 ≡ Some files → get files name ≡ Some text → length text ≤ file_cap → IsPlain text puts
+    → IsCalm call → ¬ CountRose call.shelf.store_faults
+    → ((status ≡ 0) × Stored call image name puts) ⊎ ((status ≡ 5) × StoresNothing call.shelf)
+
 -- the table, the words, and completeness
 pub record Promises (call : Call) (status : ℕ) : Type 0 where
   pub table : Answers call status ⊎ AnswersOther call status
@@ -194,3 +209,4 @@ pub record Promises (call : Call) (status : ℕ) : Type 0 where
   pub complete : IsComplete call status
   pub run_complete : IsRunComplete call status
   pub dump_complete : IsDumpComplete call status
+  pub build_complete : IsBuildComplete call status

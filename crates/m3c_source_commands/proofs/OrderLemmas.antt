@@ -1,6 +1,6 @@
 -- From the parts of a command over sources to what it answers.
-use Rattle.std.proofs.Common.{◌≡◌, ℕ, ◌≤◌, ◌<◌, Bool, true, false, List, [], ◌∷◌, ◌++◌, Option, refl, sym, ap, ◌∙◌, subst, inl, inr, ◌⊎◌, arith}
-use Rattle.std.specs.Prelude.{Result, Ok, Err, IfErr, IsOk, IsErr, MatchResult, is_some, None, Some, IfSome}
+use Rattle.std.proofs.Common.{◌≡◌, ℕ, ◌≤◌, Bool, List, [], ◌∷◌, ◌++◌, Option, refl, sym, ap, ◌∙◌, subst, inl, inr, ◌⊎◌, arith, map, slice_index_or}
+use Rattle.std.specs.Prelude.{Result, Ok, Err, IfOk, IfErr, IsOk, IsErr, is_some, IfSome}
 use Rattle.std.specs.Option.{option_map}
 use Rattle.std.specs.FinMap.{insert}
 use Rattle.std.proofs.lemmas.Bool.{false≢true}
@@ -21,13 +21,31 @@ use Rattle.m3_image_sections.specs.declared.refusal.ImageRefusal.{ImageRefusal}
 use Rattle.m3c_image_commands.proofs.FetchLemmas.{Follows, Rises, Among, joined, options_before}
 use Rattle.m3c_image_commands.specs.ImageCommands.{ImageAnswer, image_refused, ended, RunsImage, by_schedule, on_input}
 use Rattle.m3c_words.specs.declared.limits.Limits.{Limits}
-use Rattle.m3c_words.specs.Ranges.{AreUsual, AreOfBench}
-use Rattle.m3c_source_commands.specs.Orders.{Order, Fulfils, bench_setting, usual_setting}
-use Rattle.m3c_source_commands.specs.SourceCommands.{AreAllRead, OfFiles, RefusesSources, Stores, BuildAnswer, not_built, stored, Builds, ExecAnswer, not_run, no_schedule, run_ended, ExecsTexts, OfExec, Execs}
+use Rattle.m3c_words.specs.Ranges.{AreOfBench}
+use Rattle.m3c_source_commands.specs.Orders.{Order, Fulfils, bench_setting}
+use Rattle.m3c_source_commands.specs.SourceCommands.{AreAllRead, AreTextsOf, OfFiles, IsImageOf, IsNotPlain, RefusesFiles, RefusesSources, Stores, BuildAnswer, not_built, stored, Builds, ExecAnswer, not_run, no_schedule, run_ended, ExecsTexts, OfExec, Execs}
 
 pub never_both : {A E : Type 0} (r : Result A E) → IsOk r → IsErr r → ⊥
 never_both (Ok x) h e = false≢true e
 never_both (Err x) h e = false≢true h
+
+pub is_ok : {A E : Type 0} (r : Result A E) (x : A) → r ≡ Ok x → IsOk r
+is_ok r x e = subst (λ s. IsOk s) (sym e) refl
+
+pub if_ok : {A E P : Type 0} (r : Result A E) → IsOk r → IfOk r (λ _. P) → P
+if_ok (Ok x) h p = p
+if_ok (Err e) h p = absurd (false≢true h)
+
+same_head : (x y : List ℕ) → x ∷ [] ≡ y ∷ [] → x ≡ y
+same_head x y e = cc
+
+-- the only one of some texts
+pub only_one : {V : Type 0} (items : V → List ℕ) (all slice : List V) (v : V) (text : List ℕ) → slice ≡ all → v ≡ slice_index_or slice 0 v → map items all ≡ text ∷ [] → text ≡ items v
+only_one items [] slice v text e is one = absurd (cc)
+only_one items (x ∷ []) slice v text e is one =
+    let first : v ≡ x = is ∙ ap (λ xs. slice_index_or xs 0 v) e in
+    same_head text (items x) (sym one) ∙ ap items (sym first)
+only_one items (x ∷ y ∷ rest) slice v text e is one = absurd (cc)
 
 -- ---- refusals
 
@@ -43,8 +61,27 @@ nothing_in : (good rest : List (List ℕ)) (line : List ℕ) → [] ≡ good ++ 
 nothing_in [] rest line e = cc
 nothing_in (g ∷ good) rest line e = cc
 
+-- of files of which none is the only one with a text in the plain form
+pub files_refused : (files texts : List (List ℕ)) (switches : List ℕ) (result : Result Answer Refusal) → IsNotPlain files texts → RefusesSources files switches result → RefusesFiles files texts switches result
+files_refused files texts switches (Ok a) other (inl one) = inl (one.0, other, one.1)
+files_refused files texts switches (Ok a) other (inr nine) = inr nine
+files_refused files texts switches (Err r) other h = h
+
+pub files_refused_if : {A : Type 0} (files names texts : List (List ℕ)) (switches : List ℕ) (result : Result A (Result Answer Refusal)) → names ≡ files → IsNotPlain files texts → IfErr result (RefusesSources names switches) → IfErr result (RefusesFiles files texts switches)
+files_refused_if files names texts switches (Ok x) e other h = h
+files_refused_if files names texts switches (Err r) e other h = files_refused files texts switches r other (subst (λ (f : List (List ℕ)). RefusesSources f switches r) e h)
+
+-- of one in the plain form nothing but the switches
+switches_refused : (files texts : List (List ℕ)) (switches : List ℕ) (result : Result Answer Refusal) → RefusesSchedule switches result → RefusesFiles files texts switches result
+switches_refused files texts switches (Ok a) h = inr h
+switches_refused files texts switches (Err r) h = h
+
+pub switches_refused_if : {A : Type 0} (files texts : List (List ℕ)) (switches : List ℕ) (result : Result A (Result Answer Refusal)) → IfErr result (RefusesSchedule switches) → IfErr result (RefusesFiles files texts switches)
+switches_refused_if files texts switches (Ok x) h = h
+switches_refused_if files texts switches (Err r) h = switches_refused files texts switches r h
+
 -- the empty text is a schedule
-is_schedule : (line : List ℕ) → IsScheduleLine [] line → ⊥
+pub is_schedule : (line : List ℕ) → IsScheduleLine [] line → ⊥
 unfolding lines_of
 is_schedule line (of_bad_line number b) = nothing_in b.good b.rest b.bad b.lines
 is_schedule line (of_too_many m) = nothing_in m.good m.rest m.next m.lines
@@ -85,28 +122,40 @@ module _ (a b : Shelving) (f : Follows a b) (k : Rises a) (name bytes : List ℕ
   stores_on (Err r) h = refused_on r h
 
 module _ (shelf : Shelving) (name : List ℕ) (files : List (List ℕ)) (image : List ℕ) where
-  pub builds_refused : (result : Result Answer Refusal) → AreAllRead shelf.held.0 files → RefusesSources files [] result → StoresNothing shelf → Builds shelf name files image result
-  builds_refused (Ok a) r (inl one) s = (r, subst (λ x. BuildAnswer shelf files name image x a.line.items) (sym one.0) (not_built a.line.items one.1 s))
-  builds_refused (Ok a) r (inr nine) s = absurd (is_schedule a.line.items nine.1)
-  builds_refused (Err x) r h s = inr (inl (h, s))
+  pub builds_refused : (texts : List (List ℕ)) (result : Result Answer Refusal) → AreTextsOf shelf.held.0 files texts → RefusesFiles files texts [] result → StoresNothing shelf → Builds shelf name files image result
+  builds_refused texts (Ok a) r (inl one) s = (texts, r, subst (λ x. BuildAnswer shelf files texts name image x a.line.items) (sym one.0) (not_built a.line.items one.1 one.2 s))
+  builds_refused texts (Ok a) r (inr nine) s = absurd (is_schedule a.line.items nine.1)
+  builds_refused texts (Err x) r h s = inr (inl (h, s))
 
-  builds_image : (result : Result Answer Refusal) → AreAllRead shelf.held.0 files → Stores shelf name image result → IsOk (read_of image) → Builds shelf name files image result
-  builds_image (Ok a) r h ok =
-      (r, subst (λ x. BuildAnswer shelf files name image x a.line.items) (sym h.0) (subst (λ l. BuildAnswer shelf files name image 0 l) (sym h.1) (stored ok h.2)))
-  builds_image (Err x) r (inl h) ok = inr (inl h)
-  builds_image (Err x) r (inr h) ok = inr (inr (h.0, h.1, r))
+  builds_image : (texts : List (List ℕ)) (result : Result Answer Refusal) → AreTextsOf shelf.held.0 files texts → Stores shelf name image result → IsImageOf files texts image → Builds shelf name files image result
+  builds_image texts (Ok a) r h ok =
+      (texts, r, subst (λ x. BuildAnswer shelf files texts name image x a.line.items) (sym h.0) (subst (λ l. BuildAnswer shelf files texts name image 0 l) (sym h.1) (stored ok h.2)))
+  builds_image texts (Err x) r (inl h) ok = inr (inl h)
+  builds_image texts (Err x) r (inr h) ok = inr (inr (h.0, h.1, (texts, r)))
 
-  pub builds_stored : (bytes : List ℕ) (result : Result Answer Refusal) → bytes ≡ image → AreAllRead shelf.held.0 files → Stores shelf name bytes result → IsOk (read_of image) → Builds shelf name files image result
-  builds_stored bytes result e r h ok = builds_image result r (subst (λ (b : List ℕ). Stores shelf name b result) e h) ok
+  pub builds_stored : (texts : List (List ℕ)) (bytes : List ℕ) (result : Result Answer Refusal) → bytes ≡ image → AreTextsOf shelf.held.0 files texts → Stores shelf name bytes result → IsImageOf files texts image → Builds shelf name files image result
+  builds_stored texts bytes result e r h ok = builds_image texts result r (subst (λ (b : List ℕ). Stores shelf name b result) e h) ok
 
   pub builds_unfetched : {A : Type 0} (r : Refusal) → Fetches {A = A} shelf (OfFiles shelf.held.0 files) (Err r) → Builds shelf name files image (Err r)
   builds_unfetched r f = inl (f.unfetched, f.held)
 
+-- the files that the sources have
+pub named_files : (files names texts : List (List ℕ)) (image : List ℕ) → names ≡ files → IsImageOf names texts image → IsImageOf files texts image
+named_files files names texts image e h = subst (λ (f : List (List ℕ)). IsImageOf f texts image) e h
+
+pub named_refused : (files names texts : List (List ℕ)) (switches : List ℕ) (result : Result Answer Refusal) → names ≡ files → RefusesFiles names texts switches result → RefusesFiles files texts switches result
+named_refused files names texts switches result e h = subst (λ (f : List (List ℕ)). RefusesFiles f texts switches result) e h
+
 -- ---- exec
 
-module _ (files : List (List ℕ)) (image switches : List ℕ) (MayRunBy : List Entry → Type 0) (setting : Setting) (tells : Bool) (out : Putting) where
-  pub execs_refused : (result : Result Answer Refusal) → RefusesSources files switches result → PutsNothing out → ExecsTexts files image switches MayRunBy setting tells out result
-  execs_refused (Ok a) (inl one) p = subst (λ x. ExecAnswer files image switches MayRunBy setting tells out x a.line.items) (sym one.0) (not_run a.line.items one.1 p)
+-- an image of files is one
+pub is_image : (files texts : List (List ℕ)) (image : List ℕ) → IsImageOf files texts image → IsOk (read_of image)
+is_image files texts image (inl h) = subst (λ (r : Result Image ImageRefusal). IsOk r) (sym h.bytes) refl
+is_image files texts image (inr h) = h.1
+
+module _ (files texts : List (List ℕ)) (image switches : List ℕ) (MayRunBy : List Entry → Type 0) (setting : Setting) (tells : Bool) (out : Putting) where
+  pub execs_refused : (result : Result Answer Refusal) → RefusesFiles files texts switches result → PutsNothing out → ExecsTexts files texts image switches MayRunBy setting tells out result
+  execs_refused (Ok a) (inl one) p = subst (λ x. ExecAnswer files texts image switches MayRunBy setting tells out x a.line.items) (sym one.0) (not_run a.line.items one.1 one.2 p)
   execs_refused (Ok a) (inr nine) p = no_schedule a.status a.line.items (nine.0, nine.1, p)
   execs_refused (Err r) h p = inl (h, p)
 
@@ -114,16 +163,17 @@ module _ (files : List (List ℕ)) (image switches : List ℕ) (MayRunBy : List 
   never_image refusal ok e = never_both (read_of image) ok (subst (λ (r : Result Image ImageRefusal). IsErr r) (sym e) refl)
 
   module _ (schedule : List Entry) (may : MayRunBy schedule) where
-    answer_ran : (status : ℕ) (line : List ℕ) → IsOk (read_of image) → ImageAnswer image (by_schedule setting schedule) tells out status line → ExecAnswer files image switches MayRunBy setting tells out status line
-    answer_ran status line ok (image_refused r e p) = absurd (never_image r ok e)
-    answer_ran status line ok (ended i s l e r) = run_ended i schedule s l e may r
+    answer_ran : (status : ℕ) (line : List ℕ) → IsImageOf files texts image → ImageAnswer image (by_schedule setting schedule) tells out status line
+        → ExecAnswer files texts image switches MayRunBy setting tells out status line
+    answer_ran status line ok (image_refused r e p) = absurd (never_image r (is_image files texts image ok) e)
+    answer_ran status line ok (ended i s l e r) = run_ended i schedule s l ok e may r
 
-    runs_answer : (result : Result Answer Refusal) → IsOk (read_of image) → RunsImage image (by_schedule setting schedule) tells out result → ExecsTexts files image switches MayRunBy setting tells out result
+    runs_answer : (result : Result Answer Refusal) → IsImageOf files texts image → RunsImage image (by_schedule setting schedule) tells out result → ExecsTexts files texts image switches MayRunBy setting tells out result
     runs_answer (Ok a) ok h = answer_ran a.status a.line.items ok h
-    runs_answer (Err r) ok h = h
+    runs_answer (Err r) ok h = h.0
 
-    pub execs_ran : (bytes : List ℕ) (told : Bool) (done : Setting) (result : Result Answer Refusal) → bytes ≡ image → told ≡ tells → done ≡ by_schedule setting schedule → IsOk (read_of image) → RunsImage bytes done told out result
-        → ExecsTexts files image switches MayRunBy setting tells out result
+    pub execs_ran : (bytes : List ℕ) (told : Bool) (done : Setting) (result : Result Answer Refusal) → bytes ≡ image → told ≡ tells → done ≡ by_schedule setting schedule → IsImageOf files texts image → RunsImage bytes done told out result
+        → ExecsTexts files texts image switches MayRunBy setting tells out result
     execs_ran bytes told done result b t d ok h =
         runs_answer result ok
         (subst (λ (x : Setting). RunsImage image x tells out result) d (subst (λ x. RunsImage image done x out result) t (subst (λ (x : List ℕ). RunsImage x done told out result) b h)))
@@ -133,12 +183,9 @@ pub same_run : (limits : Setting) (schedule schedule' : List Entry) (input input
 same_run limits schedule schedule' input input' e f =
     subst (λ (x : List ℕ). by_schedule (on_input limits input) schedule ≡ by_schedule (on_input limits x) schedule') f (ap (λ (x : List Entry). by_schedule (on_input limits input) x) e)
 
--- the limits of a run without options, and those of `bench`
+-- the limits of `bench`
 abbrev of_numbers : ℕ → ℕ → ℕ → ℕ → Setting
 of_numbers points heap stack threads = record { points = points; heap = heap; stack = stack; threads = threads; schedule = []; input = [] }
-
-pub usual_limits : (limits : Limits) → AreUsual limits → setting_of limits ≡ usual_setting
-usual_limits limits usual = λ i. of_numbers (usual.0 i) (usual.1 i) (usual.2 i) (usual.3 i)
 
 pub bench_limits : (limits : Limits) → AreOfBench limits → setting_of limits ≡ bench_setting
 bench_limits limits bench = λ i. of_numbers (bench.0 i) (bench.1 i) (bench.2 i) (bench.3 i)
@@ -148,17 +195,18 @@ given_now : (a b : Option Files) (name : Option (List ℕ)) (text : List ℕ) �
 given_now a b name text e h = subst (λ (o : Option Files). IsGiven o name text) e h
 
 module _ (shelf : Shelving) (out : Putting) (files : List (List ℕ)) (switches input : Option (List ℕ)) (limits : Setting) (image : List ℕ) where
-  pub execs_fetched : (result : Result Answer Refusal) (held : Option Files) (text bytes : List ℕ) → held ≡ shelf.held.0 → StoresNothing shelf → AreAllRead shelf.held.0 files → IsGiven held switches text → IsGiven held input bytes
-      → ExecsTexts files image text (IsSchedule text) (on_input limits bytes) (is_some switches) out result → Execs shelf out files switches input limits image result
-  execs_fetched (Ok a) held text bytes e s r g k h = record { held = s; answer = (r, (text, bytes, given_now held shelf.held.0 switches text e g, given_now held shelf.held.0 input bytes e k, h)); refusal = tt }
-  execs_fetched (Err x) held text bytes e s r g k h = record { held = s; answer = tt; refusal = inr h }
+  pub execs_fetched : (texts : List (List ℕ)) (result : Result Answer Refusal) (held : Option Files) (text bytes : List ℕ) → held ≡ shelf.held.0 → StoresNothing shelf → AreTextsOf shelf.held.0 files texts → IsGiven held switches text → IsGiven held input bytes
+      → ExecsTexts files texts image text (IsSchedule text) (on_input limits bytes) (is_some switches) out result → Execs shelf out files switches input limits image result
+  execs_fetched texts (Ok a) held text bytes e s r g k h =
+      record { held = s; answer = (texts, r, (text, bytes, given_now held shelf.held.0 switches text e g, given_now held shelf.held.0 input bytes e k, h)); refusal = tt }
+  execs_fetched texts (Err x) held text bytes e s r g k h = record { held = s; answer = tt; refusal = inr h }
 
-  pub execs_told : (result : Result Answer Refusal) (held : Option Files) (names : List (List ℕ)) (text bytes : List ℕ) (told : Bool) → names ≡ files → told ≡ is_some switches → held ≡ shelf.held.0 → StoresNothing shelf → AreAllRead shelf.held.0 files
-      → IsGiven held switches text → IsGiven held input bytes → ExecsTexts names image text (IsSchedule text) (on_input limits bytes) told out result → Execs shelf out files switches input limits image result
-  execs_told result held names text bytes told n t e s r g k h =
-      execs_fetched result held text bytes e s r g k
-      (subst (λ (x : Bool). ExecsTexts files image text (IsSchedule text) (on_input limits bytes) x out result) t
-      (subst (λ (x : List (List ℕ)). ExecsTexts x image text (IsSchedule text) (on_input limits bytes) told out result) n h))
+  pub execs_told : (texts : List (List ℕ)) (result : Result Answer Refusal) (held : Option Files) (names : List (List ℕ)) (text bytes : List ℕ) (told : Bool) → names ≡ files → told ≡ is_some switches → held ≡ shelf.held.0 → StoresNothing shelf → AreTextsOf shelf.held.0 files texts
+      → IsGiven held switches text → IsGiven held input bytes → ExecsTexts names texts image text (IsSchedule text) (on_input limits bytes) told out result → Execs shelf out files switches input limits image result
+  execs_told texts result held names text bytes told n t e s r g k h =
+      execs_fetched texts result held text bytes e s r g k
+      (subst (λ (x : Bool). ExecsTexts files texts image text (IsSchedule text) (on_input limits bytes) x out result) t
+      (subst (λ (x : List (List ℕ)). ExecsTexts x texts image text (IsSchedule text) (on_input limits bytes) told out result) n h))
 
   pub execs_unfetched : {A : Type 0} (r : Refusal) → PutsNothing out → Fetches {A = A} shelf (OfExec shelf.held.0 files switches input) (Err r) → Execs shelf out files switches input limits image (Err r)
   execs_unfetched r p f = record { held = f.held; answer = tt; refusal = inl (f.unfetched, p) }
@@ -166,16 +214,6 @@ module _ (shelf : Shelving) (out : Putting) (files : List (List ℕ)) (switches 
 -- the options, once the FILEs were read
 pub among_exec : (a b : Option Files) (files : List (List ℕ)) (switches input : Option (List ℕ)) → a ≡ b → AreAllRead b files → Among (OfOptions a switches input) (OfExec b files switches input)
 among_exec a b files switches input e r n c o = inr (r, options_before a b switches input e n c o)
-
--- without options
-pub execs_plain : (files names : List (List ℕ)) (image : List ℕ) (out : Putting) (result : Result Answer Refusal) (text bytes : List ℕ) (told : Bool) (limits usual : Setting) → names ≡ files → text ≡ [] → bytes ≡ [] → told ≡ false → limits ≡ usual
-    → ExecsTexts names image text (IsSchedule text) (on_input limits bytes) told out result → ExecsTexts files image [] (IsSchedule []) (on_input usual []) false out result
-execs_plain files names image out result text bytes told limits usual n e b t l h =
-    subst (λ (s : Setting). ExecsTexts files image [] (IsSchedule []) (on_input s []) false out result) l
-    (subst (λ (x : Bool). ExecsTexts files image [] (IsSchedule []) (on_input limits []) x out result) t
-    (subst (λ (x : List ℕ). ExecsTexts files image x (IsSchedule x) (on_input limits []) told out result) e
-    (subst (λ (x : List ℕ). ExecsTexts files image text (IsSchedule text) (on_input limits x) told out result) b
-    (subst (λ (x : List (List ℕ)). ExecsTexts x image text (IsSchedule text) (on_input limits bytes) told out result) n h))))
 
 -- the files as they were handed on
 pub builds_of : (shelf : Shelving) (name : List ℕ) (files given : List (List ℕ)) (image : List ℕ) (result : Result Answer Refusal) → given ≡ files → Builds shelf name given image result → Builds shelf name files image result

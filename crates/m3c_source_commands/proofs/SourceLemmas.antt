@@ -1,5 +1,5 @@
 -- FILEs that are read one after the other.
-use Rattle.std.proofs.Common.{◌≡◌, ℕ, zero, suc, ◌+◌, ◌-◌, ◌<◌, ◌≤◌, min, List, [], ◌∷◌, ◌++◌, length, take, map, Option, Some, None, refl, sym, ap, ◌∙◌, subst, arith, length-append, add-one}
+use Rattle.std.proofs.Common.{◌≡◌, ℕ, zero, suc, ◌+◌, ◌-◌, min, List, [], ◌∷◌, ◌++◌, length, take, map, Option, Some, refl, sym, ap, ◌∙◌, subst, arith, length-append, add-one}
 use Rattle.std.specs.Prelude.{Result, Ok, Err, slice_get}
 use Rattle.std.specs.Option.{option_map}
 use Rattle.std.proofs.lemmas.Option.{slice_get-map}
@@ -10,7 +10,7 @@ use Rattle.m3c_image_commands.specs.declared.answers.Refusal.{Refusal}
 use Rattle.m3c_image_commands.specs.Statuses.{Shelving, Only, IsRead, Fetches}
 use Rattle.m3c_image_commands.proofs.FetchLemmas.{Rises, Among, Follows, joined, rises, fetches_on, fails_as}
 use Rattle.m3c_source_commands.specs.Texts.{IsNext}
-use Rattle.m3c_source_commands.specs.SourceCommands.{sources_cap, source_cap, total, AreRead, AreAllRead, OfFiles}
+use Rattle.m3c_source_commands.specs.SourceCommands.{sources_cap, source_cap, total, AreRead, AreTextsOf, OfFiles}
 
 -- so many files were read, and so many bytes are left for the others
 pub record Reading (shelf : Shelving) (files names texts : List (List ℕ)) (k left : ℕ) : Type 0 where
@@ -99,8 +99,8 @@ reading_done a files names texts k left R x r = record {
   unfetched = tt;
 }
 
-pub all_read : (a : Shelving) (files names texts : List (List ℕ)) (k left : ℕ) → Reading a files names texts k left → k ≡ length files → AreAllRead a.held.0 files
-all_read a files names texts k left r e = (texts, r.read, r.count ∙ e)
+pub all_read : (a : Shelving) (files names texts : List (List ℕ)) (k left : ℕ) → Reading a files names texts k left → k ≡ length files → AreTextsOf a.held.0 files texts
+all_read a files names texts k left r e = (r.read, r.count ∙ e)
 
 take_all : (files : List (List ℕ)) → take (length files) files ≡ files
 take_all [] = refl

@@ -1,6 +1,6 @@
 -- No command that was carried out has the status of words that ask for nothing.
-use Rattle.std.proofs.Common.{◌≡◌, ◌∙◌, ◌⊎◌, ℕ, Bool, false, List, [], Option, refl, sym, subst, inl, inr, arith}
-use Rattle.std.specs.Prelude.{Result, Ok, Err, MatchResult, is_some}
+use Rattle.std.proofs.Common.{◌≡◌, ◌∙◌, ◌⊎◌, ℕ, Bool, false, List, [], sym, subst, inl, inr, arith}
+use Rattle.std.specs.Prelude.{Result, Ok, Err, is_some}
 use Rattle.m3_base.specs.declared.outcomes.Entry.{Entry}
 use Rattle.m3_base.specs.declared.outcomes.Outcome.{Outcome}
 use Rattle.m3_base.specs.declared.outcomes.Outcome.TheVariants.{Done, Fault, Uncaught, Deadlock, ThreadsFull, Spent, HeapFull, StackFull, Trap}
@@ -44,14 +44,14 @@ dump_other : (image : List ℕ) (out : Putting) (status : ℕ) (line : List ℕ)
 dump_other image out status line (not_dumped r bad p) e = omega arith
 dump_other image out status line (dumped i text read says took) e = omega arith
 
-build_other : (shelf : Shelving) (files : List (List ℕ)) (name image : List ℕ) (status : ℕ) (line : List ℕ) → BuildAnswer shelf files name image status line → status ≡ 2 → ⊥
-build_other shelf files name image status line (not_built l r s) e = omega arith
-build_other shelf files name image status line (stored ok s) e = omega arith
+build_other : (shelf : Shelving) (files texts : List (List ℕ)) (name image : List ℕ) (status : ℕ) (line : List ℕ) → BuildAnswer shelf files texts name image status line → status ≡ 2 → ⊥
+build_other shelf files texts name image status line (not_built l other r s) e = omega arith
+build_other shelf files texts name image status line (stored ok s) e = omega arith
 
-exec_other : (files : List (List ℕ)) (image switches : List ℕ) (MayRunBy : List Entry → Type 0) (setting : Setting) (tells : Bool) (out : Putting) (status : ℕ) (line : List ℕ) → ExecAnswer files image switches MayRunBy setting tells out status line → status ≡ 2 → ⊥
-exec_other files image switches MayRunBy setting tells out status line (not_run l r p) e = omega arith
-exec_other files image switches MayRunBy setting tells out status line (no_schedule s l h) e = nine_other status h.0 e
-exec_other files image switches MayRunBy setting tells out status line (run_ended i schedule s l read may h) e = ended_other i _ tells out status line h e
+exec_other : (files texts : List (List ℕ)) (image switches : List ℕ) (MayRunBy : List Entry → Type 0) (setting : Setting) (tells : Bool) (out : Putting) (status : ℕ) (line : List ℕ) → ExecAnswer files texts image switches MayRunBy setting tells out status line → status ≡ 2 → ⊥
+exec_other files texts image switches MayRunBy setting tells out status line (not_run l other r p) e = omega arith
+exec_other files texts image switches MayRunBy setting tells out status line (no_schedule s l h) e = nine_other status h.0 e
+exec_other files texts image switches MayRunBy setting tells out status line (run_ended i schedule s l of read may h) e = ended_other i _ tells out status line h e
 
 -- ---- refusals
 
@@ -92,17 +92,17 @@ result_status (Ok a) = a.status
 result_status (Err r) = r.status
 
 fulfilled_other : (order : Order) (shelf : Shelving) (out : Putting) (image : List ℕ) (result : Result Answer Refusal) → Fulfils order shelf out image result → result_status result ≡ 2 → ⊥
-fulfilled_other (build name files) shelf out image (Ok a) h e = build_other shelf files name image a.status a.line.items h.0.1 e
+fulfilled_other (build name files) shelf out image (Ok a) h e = build_other shelf files h.0.0 name image a.status a.line.items h.0.2 e
 fulfilled_other (build name files) shelf out image (Err r) (inl f, p) e = unfetched_other shelf _ r.status r.front.now r.name.now f.0 e
 fulfilled_other (build name files) shelf out image (Err r) (inr (inl m), p) e = memory_other r m.0 e
 fulfilled_other (build name files) shelf out image (Err r) (inr (inr o), p) e = output_other r o.0 e
 fulfilled_other (run name options) shelf out image (Ok a) h e = run_other image h.answer.1.0 (on_input (within options.bounds) h.answer.1.1) (is_some options.switches) out a.status a.line.items h.answer.1.4 e
 fulfilled_other (run name options) shelf out image (Err r) h e = refused_other shelf _ out r h.refusal e
-fulfilled_other (exec files options) shelf out image (Ok a) h e = exec_other files image _ _ _ (is_some options.switches) out a.status a.line.items h.answer.1.4 e
+fulfilled_other (exec files options) shelf out image (Ok a) h e = exec_other files h.answer.0 image _ _ _ (is_some options.switches) out a.status a.line.items h.answer.2.4 e
 fulfilled_other (exec files options) shelf out image (Err r) h e = refused_other shelf _ out r h.refusal e
 fulfilled_other (dump name) shelf out image (Ok a) h e = dump_other image out a.status a.line.items h.answer.1 e
 fulfilled_other (dump name) shelf out image (Err r) h e = not_dumped_other shelf name image out r h.refusal e
-fulfilled_other (bench number) shelf out image (Ok a) h e = exec_other [] image [] (IsOfNumber number) bench_setting false out a.status a.line.items h.0 e
+fulfilled_other (bench number) shelf out image (Ok a) h e = exec_other [] [] image [] (IsOfNumber number) bench_setting false out a.status a.line.items h.0 e
 fulfilled_other (bench number) shelf out image (Err r) h e = cut_other out r h.0 e
 
 told_other : (err : Putting) (result : Result Answer Refusal) → Tells err result 2 → result_status result ≡ 2

@@ -1,5 +1,5 @@
 -- Every command: what its words ask for, and what it answers.
-use Rattle.std.specs.Prelude.{ℕ, ◌≡◌, false, Option, None, Some, Result, List, [], codes}
+use Rattle.std.specs.Prelude.{ℕ, ◌≡◌, false, None, Some, Result, List, [], codes}
 pub use Rattle.m3c_words.specs.Orders.{Order, build, run, exec, dump, bench, order_of}
 use Rattle.m3c_words.specs.Asked.{asked, usual_options}
 use Rattle.m3c_image_commands.specs.declared.answers.Answer.{Answer}
@@ -26,7 +26,7 @@ Fulfils (exec files options) shelf out image result =
     Execs shelf out files options.switches options.input (within options.bounds) image result
 Fulfils (dump name) shelf out image result = Dumps shelf out name image result
 Fulfils (bench number) shelf out image result =
-    ExecsTexts [] image [] (IsOfNumber number) bench_setting false out result × StoresNothing shelf
+    ExecsTexts [] [] image [] (IsOfNumber number) bench_setting false out result × StoresNothing shelf
 
 abbrev pub usage_line : List ℕ
 usage_line = codes "usage: m3c build, run, exec, dump or bench\n"

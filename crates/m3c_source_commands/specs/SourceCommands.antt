@@ -9,6 +9,9 @@ use Rattle.m3c_image_commands.specs.Statuses.{Shelving, Putting, StoresNothing, 
 use Rattle.m3_base.specs.declared.outcomes.Entry.{Entry}
 use Rattle.m3_base.specs.Rules.{rule_text_of}
 use Rattle.m3_base.specs.Schedules.{IsSchedule}
+use Rattle.m3_plain.specs.Terms.{Term}
+use Rattle.m3_plain.specs.PlainForm.{IsPlain}
+use Rattle.m3_plain_image.specs.Image.{plain_image}
 use Rattle.m3_workload.specs.Schedules.{schedule_of}
 use Rattle.m3c_image_commands.specs.Refusals.{IsScheduleLine}
 use Rattle.m3c_image_commands.specs.Reports.{Setting, Ended}
@@ -33,9 +36,13 @@ AreRead held left files [] = Unit {0}
 AreRead held left [] (text ∷ texts) = ⊥
 AreRead held left (name ∷ files) (text ∷ texts) = IsRead held name (min left source_cap) text × AreRead held (left - length text) files texts
 
+-- these are the texts of all files
+abbrev pub AreTextsOf : Option Files → List (List ℕ) → List (List ℕ) → Type 0
+AreTextsOf held files texts = AreRead held sources_cap files texts × (length texts ≡ length files)
+
 -- all of the files were read
 abbrev pub AreAllRead : Option Files → List (List ℕ) → Type 0
-AreAllRead held files = (texts : List (List ℕ)) × AreRead held sources_cap files texts × (length texts ≡ length files)
+AreAllRead held files = (texts : List (List ℕ)) × AreTextsOf held files texts
 
 -- one of the files, once those before it were read, with the most bytes that it may have behind them
 pub record OfFiles (held : Option Files) (files : List (List ℕ)) (name : List ℕ) (cap : ℕ) : Type 0 where
@@ -43,6 +50,31 @@ pub record OfFiles (held : Option Files) (files : List (List ℕ)) (name : List 
   pub read : AreRead held sources_cap files texts
   pub next : slice_get files (length texts) ≡ Some name
   pub left : cap ≡ min (sources_cap - total texts) source_cap
+
+-- ---- the image of sources
+
+-- no file is the only one, with a text in the plain form
+abbrev pub IsNotPlain : List (List ℕ) → List (List ℕ) → Type 0
+IsNotPlain files texts = (name text : List ℕ) (puts : List Term) → files ≡ name ∷ [] → texts ≡ text ∷ [] → IsPlain text puts → ⊥
+
+-- the only file has this name and a text in the plain form, which puts these terms
+pub record IsPlainProgram (files texts : List (List ℕ)) (name : List ℕ) (puts : List Term) : Type 0 where
+  pub text : List ℕ
+  pub file : files ≡ name ∷ []
+  pub source : texts ≡ text ∷ []
+  pub plain : IsPlain text puts
+  pub only : (others : List Term) → IsPlain text others → others ≡ puts
+
+-- the bytes are the image of what it puts
+pub record IsPlainImage (files texts : List (List ℕ)) (image : List ℕ) : Type 0 where
+  pub name : List ℕ
+  pub puts : List Term
+  pub program : IsPlainProgram files texts name puts
+  pub bytes : read_of image ≡ Ok (plain_image name puts)
+
+-- the bytes are the image of these files: of one in the plain form that of its puts; of others they are some image
+abbrev pub IsImageOf : List (List ℕ) → List (List ℕ) → List ℕ → Type 0
+IsImageOf files texts image = IsPlainImage files texts image ⊎ (IsNotPlain files texts × IsOk (read_of image))
 
 -- ---- sources that are refused
 
@@ -67,6 +99,11 @@ abbrev pub RefusesSources : List (List ℕ) → List ℕ → Result Answer Refus
 RefusesSources files switches result =
     MatchResult result (λ a. ((a.status ≡ 1) × IsRuleLine files a.line.items) ⊎ ((a.status ≡ 9) × IsScheduleLine switches a.line.items)) LacksMemory
 
+-- the same of files with these texts, where one in the plain form breaks no rule
+abbrev pub RefusesFiles : List (List ℕ) → List (List ℕ) → List ℕ → Result Answer Refusal → Type 0
+RefusesFiles files texts switches result =
+    MatchResult result (λ a. ((a.status ≡ 1) × IsNotPlain files texts × IsRuleLine files a.line.items) ⊎ ((a.status ≡ 9) × IsScheduleLine switches a.line.items)) LacksMemory
+
 -- ---- build
 
 -- bytes were stored under a name; or memory ran out and all stays, or the store failed
@@ -76,9 +113,9 @@ Stores shelf name bytes result =
     (λ r. (LacksMemory r × StoresNothing shelf) ⊎ (LacksOutput r × StoresFront shelf name bytes))
 
 -- the sources break a rule; or their image was stored
-pub data BuildAnswer (shelf : Shelving) (files : List (List ℕ)) (name image : List ℕ) : ℕ → List ℕ → Type 0 where
-  not_built : (line : List ℕ) → IsRuleLine files line → StoresNothing shelf → BuildAnswer shelf files name image 1 line
-  stored : IsOk (read_of image) → StoresUnder shelf name image → BuildAnswer shelf files name image 0 []
+pub data BuildAnswer (shelf : Shelving) (files texts : List (List ℕ)) (name image : List ℕ) : ℕ → List ℕ → Type 0 where
+  not_built : (line : List ℕ) → IsNotPlain files texts → IsRuleLine files line → StoresNothing shelf → BuildAnswer shelf files texts name image 1 line
+  stored : IsImageOf files texts image → StoresUnder shelf name image → BuildAnswer shelf files texts name image 0 []
 
 -- a file can't be read or memory ran out, and all stays; or the store failed
 abbrev pub BuildRefuses : Shelving → List (List ℕ) → List ℕ → List ℕ → Refusal → Type 0
@@ -89,7 +126,8 @@ BuildRefuses shelf files name image r =
 -- `build`: where a rule is broken or an image was stored, all of the files were read
 abbrev pub Builds : Shelving → List ℕ → List (List ℕ) → List ℕ → Result Answer Refusal → Type 0
 Builds shelf name files image result =
-    MatchResult result (λ a. AreAllRead shelf.held.0 files × BuildAnswer shelf files name image a.status a.line.items) (BuildRefuses shelf files name image)
+    MatchResult result (λ a. (texts : List (List ℕ)) × AreTextsOf shelf.held.0 files texts × BuildAnswer shelf files texts name image a.status a.line.items)
+    (BuildRefuses shelf files name image)
 
 -- ---- exec and bench
 
@@ -98,16 +136,16 @@ abbrev pub IsOfNumber : ℕ → List Entry → Type 0
 IsOfNumber number schedule = schedule ≡ schedule_of number
 
 -- the sources break a rule; the switches are no schedule; or the run of the sources' image by a schedule ended
-pub data ExecAnswer (files : List (List ℕ)) (image switches : List ℕ) (MayRunBy : List Entry → Type 0) (setting : Setting) (tells : Bool) (out : Putting) : ℕ → List ℕ → Type 0 where
-  not_run : (line : List ℕ) → IsRuleLine files line → PutsNothing out → ExecAnswer files image switches MayRunBy setting tells out 1 line
-  no_schedule : (status : ℕ) (line : List ℕ) → RefusesSwitches switches out status line → ExecAnswer files image switches MayRunBy setting tells out status line
-  run_ended : (i : Image) (schedule : List Entry) (status : ℕ) (line : List ℕ) → read_of image ≡ Ok i → MayRunBy schedule
-      → Ended i (by_schedule setting schedule) tells out status line → ExecAnswer files image switches MayRunBy setting tells out status line
+pub data ExecAnswer (files texts : List (List ℕ)) (image switches : List ℕ) (MayRunBy : List Entry → Type 0) (setting : Setting) (tells : Bool) (out : Putting) : ℕ → List ℕ → Type 0 where
+  not_run : (line : List ℕ) → IsNotPlain files texts → IsRuleLine files line → PutsNothing out → ExecAnswer files texts image switches MayRunBy setting tells out 1 line
+  no_schedule : (status : ℕ) (line : List ℕ) → RefusesSwitches switches out status line → ExecAnswer files texts image switches MayRunBy setting tells out status line
+  run_ended : (i : Image) (schedule : List Entry) (status : ℕ) (line : List ℕ) → IsImageOf files texts image → read_of image ≡ Ok i → MayRunBy schedule
+      → Ended i (by_schedule setting schedule) tells out status line → ExecAnswer files texts image switches MayRunBy setting tells out status line
 
 -- what comes of sources and switches that are there
-abbrev pub ExecsTexts : List (List ℕ) → List ℕ → List ℕ → (List Entry → Type 0) → Setting → Bool → Putting → Result Answer Refusal → Type 0
-ExecsTexts files image switches MayRunBy setting tells out result =
-    MatchResult result (λ a. ExecAnswer files image switches MayRunBy setting tells out a.status a.line.items) (Cuts out)
+abbrev pub ExecsTexts : List (List ℕ) → List (List ℕ) → List ℕ → List ℕ → (List Entry → Type 0) → Setting → Bool → Putting → Result Answer Refusal → Type 0
+ExecsTexts files texts image switches MayRunBy setting tells out result =
+    MatchResult result (λ a. ExecAnswer files texts image switches MayRunBy setting tells out a.status a.line.items) (Cuts out)
 
 -- the files that `exec` reads, in this order: the FILEs, and once all of them were read, those of the options
 abbrev pub OfExec : Option Files → List (List ℕ) → Option (List ℕ) → Option (List ℕ) → List ℕ → ℕ → Type 0
@@ -116,7 +154,7 @@ OfExec held files switches input n c = OfFiles held files n c ⊎ (AreAllRead he
 -- `exec`: the switches and the input are those that are named, and the line tells collections where switches are named
 pub record Execs (shelf : Shelving) (out : Putting) (files : List (List ℕ)) (switches input : Option (List ℕ)) (limits : Setting) (image : List ℕ) (result : Result Answer Refusal) : Type 0 where
   pub held : StoresNothing shelf
-  pub answer : IfOk result (λ a. AreAllRead shelf.held.0 files
+  pub answer : IfOk result (λ a. (texts : List (List ℕ)) × AreTextsOf shelf.held.0 files texts
       × ((text : List ℕ) × (bytes : List ℕ) × IsGiven shelf.held.0 switches text × IsGiven shelf.held.0 input bytes
-      × ExecAnswer files image text (IsSchedule text) (on_input limits bytes) (is_some switches) out a.status a.line.items))
+      × ExecAnswer files texts image text (IsSchedule text) (on_input limits bytes) (is_some switches) out a.status a.line.items))
   pub refusal : IfErr result (Refuses shelf (OfExec shelf.held.0 files switches input) out)

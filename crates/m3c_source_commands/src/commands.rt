@@ -1,25 +1,18 @@
 //! The commands.
-ghost use Rattle.std.specs.Prelude.{◌≡◌, false, [], ◌∷◌, None, Result, IfOk, IfErr};
-ghost use Rattle.std.specs.Prelude.{IsOk, is_some, map};
-ghost use Rattle.m3c_words.specs.Ranges.{AreUsual};
+ghost use Rattle.std.specs.Prelude.{◌≡◌, false, [], is_some, map};
 ghost use Rattle.m3c_words.specs.Orders.{name_of};
-ghost use Rattle.m3_image.specs.Images.{read_of};
-ghost use Rattle.m3c_image_commands.specs.declared.answers.Answer.{Answer as AnswerValue};
-ghost use Rattle.m3c_image_commands.specs.declared.answers.Refusal.{Refusal as RefusalValue};
-ghost use Rattle.m3c_image_commands.specs.Statuses.{LacksMemory, LacksOutput, Tells};
+ghost use Rattle.m3c_image_commands.specs.Statuses.{LacksMemory, LacksOutput};
 ghost use Rattle.m3c_image_commands.specs.Statuses.{putting, shelving};
 ghost use Rattle.m3c_image_commands.specs.Reports.{setting_of};
 ghost use Rattle.m3_base.specs.Schedules.{IsSchedule};
 ghost use Rattle.m3c_image_commands.specs.ImageCommands.{on_input};
 ghost use Rattle.m3c_source_commands.specs.SourceCommands.{Builds, Execs, ExecsTexts, IsOfNumber};
-ghost use Rattle.m3c_source_commands.specs.SourceCommands.{RefusesSources, Stores};
-ghost use Rattle.m3c_source_commands.specs.Texts.{names_of};
+ghost use Rattle.m3c_source_commands.specs.SourceCommands.{Stores};
+ghost use Rattle.m3c_source_commands.specs.Texts.{names_of, texts_of};
 ghost use Rattle.m3c_source_commands.specs.Orders.{Fulfils, Commands, bench_setting, order_of};
-ghost use Rattle.m3c_source_commands.specs.Orders.{usual_setting};
 
-use crate::compiling::compile;
-use crate::sources::{Sources, fetch_sources, views_of, views_of_bytes};
-use m3_base::{Entry, NoMemory, Source};
+use crate::imaging::{compile_files, compile_into};
+use crate::sources::{Sources, fetch_sources, views_of_bytes};
 use m3_ports::{Shelf, ShelfFault, Sink};
 use m3_workload::make;
 use m3c_image_commands::{
@@ -54,27 +47,6 @@ fn store_refusal(fault: ShelfFault) -> Refusal<'static>
     }
 }
 
-/// Puts the bytes of a program's image into `image`, and gives the schedule of its switch file.
-fn compile_into(
-    alloc: Global,
-    names: &[&str],
-    sources: Result<Vec<Source<'_>>, NoMemory>,
-    switches: &[u8],
-    image: &mut Vec<u8>,
-) -> Result<Vec<Entry>, Result<Answer, Refusal<'static>>>
-    ensures ok { IfOk result (λ entries. IsOk (read_of image.new.items)) }
-    ensures schedule { IfOk result (λ entries. IsSchedule switches.now entries.items) }
-    ensures err { IfErr result
-        (RefusesSources (map (λ n. n.now) names.now) switches.now) }
-{
-    let Ok(sources) = sources else {
-        return Err(Err(Refusal::NO_MEMORY));
-    };
-    let (bytes, schedule) = compile(alloc, names, &sources, switches)?;
-    *image = bytes;
-    Ok(schedule)
-}
-
 /// `build IMAGE FILE..`: stores the image of a program.
 fn build_files<'a, F: Shelf>(
     alloc: Global,
@@ -87,8 +59,7 @@ fn build_files<'a, F: Shelf>(
         (map (λ n. n.now) files.entry.now) image.new.items result }
 {
     let sources = fetch_sources(alloc, shelf, files)?;
-    let views = views_of(alloc, &sources.names, &sources.texts);
-    match compile_into(alloc, files, views, b"", image) {
+    match compile_files(alloc, &sources, b"", image) {
         Ok(_) => store_image(alloc, name, shelf, image),
         Err(answer) => answer,
     }
@@ -128,13 +99,12 @@ fn exec_sources<'a, O: Sink>(
     out: &mut O,
     image: &mut Vec<u8>,
 ) -> Result<Answer, Refusal<'static>>
-    ensures { ExecsTexts (names_of sources.now) image.new.items given.now.switches.items
+    ensures { ExecsTexts (names_of sources.now) (texts_of sources.now) image.new.items given.now.switches.items
         (IsSchedule given.now.switches.items)
         (on_input (setting_of options.entry.limits) given.now.input.items)
         (is_some options.entry.switches) (putting O.Sink out.old out.new) result }
 {
-    let views = views_of(alloc, &sources.names, &sources.texts);
-    match compile_into(alloc, &sources.names, views, &given.switches, image) {
+    match compile_files(alloc, sources, &given.switches, image) {
         Ok(schedule) => {
             let run = Run {
                 limits: options.limits,
@@ -148,70 +118,6 @@ fn exec_sources<'a, O: Sink>(
     }
 }
 
-/// The options of a run where none was given.
-fn no_options() -> RunOptions<'static>
-    ensures switches { result.switches ≡ None }
-    ensures limits { AreUsual result.limits }
-{
-    RunOptions {
-        switches: None,
-        input: None,
-        limits: Limits::usual(),
-    }
-}
-
-/// The files of a run where none is named.
-fn no_files(alloc: Global) -> RunFiles
-    ensures switches { result.switches.items ≡ [] }
-    ensures input { result.input.items ≡ [] }
-{
-    RunFiles {
-        switches: Vec::new(alloc),
-        input: Vec::new(alloc),
-    }
-}
-
-/// Runs the program of one file, without options.
-fn exec_one<O: Sink>(
-    alloc: Global,
-    name: &str,
-    text: Vec<u8>,
-    out: &mut O,
-    image: &mut Vec<u8>,
-) -> Result<Answer, Refusal<'static>>
-    ensures { ExecsTexts (name.now ∷ []) image.new.items [] (IsSchedule []) usual_setting false
-        (putting O.Sink out.old out.new) result }
-{
-    let mut sources = Sources::new(alloc);
-    match sources.add(name, text) {
-        Ok(()) => {
-            let given = no_files(alloc);
-            exec_sources(alloc, &sources, &given, no_options(), out, image)
-        }
-        Err(_) => Err(Refusal::NO_MEMORY),
-    }
-}
-
-/// Runs the program of one file, without options: `exec FILE` where its text is there already.
-/// Output goes to `out`, one line to `err`, and the bytes of the image to `image`. Gives the
-/// status.
-pub fn exec_text<O: Sink, E: Sink>(
-    alloc: Global,
-    name: &str,
-    text: Vec<u8>,
-    out: &mut O,
-    err: &mut E,
-    image: &mut Vec<u8>,
-) -> u8
-    ensures { (answer : Result AnswerValue RefusalValue)
-        × ExecsTexts (name.now ∷ []) image.new.items [] (IsSchedule []) usual_setting false
-        (putting O.Sink out.old out.new) answer
-        × Tells (putting E.Sink err.old err.new) answer result }
-{
-    let answer = exec_one(alloc, name, text, out, image);
-    tell(err, answer)
-}
-
 /// `bench N`: runs the workload of a number.
 fn bench<O: Sink>(
     alloc: Global,
@@ -219,7 +125,7 @@ fn bench<O: Sink>(
     out: &mut O,
     image: &mut Vec<u8>,
 ) -> Result<Answer, Refusal<'static>>
-    ensures { ExecsTexts [] image.new.items [] (IsOfNumber number) bench_setting false
+    ensures { ExecsTexts [] [] image.new.items [] (IsOfNumber number) bench_setting false
         (putting O.Sink out.old out.new) result }
 {
     let Ok(workload) = make(alloc, number) else {

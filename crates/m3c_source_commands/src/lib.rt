@@ -4,6 +4,7 @@
 
 mod commands;
 mod compiling;
+mod imaging;
 mod sources;
 
-pub use commands::{command, exec_text};
+pub use commands::command;

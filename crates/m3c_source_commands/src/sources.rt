@@ -1,7 +1,7 @@
 //! The FILEs of a command.
 ghost use Rattle.std.specs.Prelude.{◌≡◌, [], ◌∷◌, ◌++◌, OnOk, IfOk, map, min};
 ghost use Rattle.m3c_image_commands.specs.Statuses.{Fetches, Only, shelving};
-ghost use Rattle.m3c_source_commands.specs.SourceCommands.{AreAllRead, OfFiles, source_cap};
+ghost use Rattle.m3c_source_commands.specs.SourceCommands.{AreTextsOf, OfFiles, source_cap};
 ghost use Rattle.m3c_source_commands.specs.Texts.{names_of, texts_of, IsNext};
 
 use m3_base::{Bytes, NoMemory, Source};
@@ -78,7 +78,8 @@ pub fn fetch_sources<'a, F: Shelf>(
 ) -> Result<Sources<'a>, Refusal<'a>>
     ensures fetches { Fetches (shelving F.Shelf shelf.old shelf.new)
         (OfFiles (F.held shelf.old) (map (λ n. n.now) files.entry.now)) result }
-    ensures read { OnOk result (AreAllRead (F.held shelf.old) (map (λ n. n.now) files.entry.now)) }
+    ensures read { IfOk result (λ sources.
+        AreTextsOf (F.held shelf.old) (map (λ n. n.now) files.entry.now) (texts_of sources)) }
     ensures named { IfOk result (λ sources. names_of sources ≡ map (λ n. n.now) files.entry.now) }
 {
     let mut sources = Sources::new(alloc);

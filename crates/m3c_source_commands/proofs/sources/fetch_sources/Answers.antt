@@ -1,5 +1,5 @@
-use Rattle.std.proofs.Common.{Bor, ◌≡◌, ℕ, List, map, refl, ap, sym, ◌∙◌, Some, arith}
-use Rattle.std.specs.Prelude.{slice_get, ◌<◌, length}
+use Rattle.std.proofs.Common.{Bor, ◌≡◌, ℕ, List, map, refl, ap, sym, ◌∙◌, arith}
+use Rattle.std.specs.Prelude.{length}
 use Rattle.std.proofs.lemmas.List.{length-map}
 use Rattle.std.proofs.lemmas.Option.{slice_get_read}
 use Rattle.m3c_image_commands.specs.Statuses.{Shelving, shelving}

@@ -1,0 +1,1 @@
+INTERFACE OrderSorting = Sorting(Order) END OrderSorting.

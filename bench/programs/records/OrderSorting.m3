@@ -1,0 +1,1 @@
+MODULE OrderSorting = Sorting(Order) END OrderSorting.

@@ -1,0 +1,3 @@
+GENERIC INTERFACE Sorting(Item);
+PROCEDURE Sort(VAR items: ARRAY OF Item.T);
+END Sorting.
