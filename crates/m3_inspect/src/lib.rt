@@ -10,7 +10,9 @@ mod texts;
 mod values;
 mod views;
 
-pub use laws::{collections_change_no_view, places_are_in_stacks, views_are_one};
+pub use laws::{
+    collections_change_no_view, places_are_in_stacks, views_are_one, views_have_all_frames,
+};
 pub use texts::text;
 pub use values::{FrameView, ThreadView, Value, VarValue, View};
 pub use views::{ViewRefused, view_of};
