@@ -3,5 +3,6 @@ pub mod CollectLemmas
 pub mod ListLemmas
 pub mod MoveLemmas
 pub mod OnceLemmas
+pub mod PlaceLemmas
 pub mod StayLemmas
 pub mod ThreadLemmas

@@ -14,7 +14,8 @@ use Rattle.m3_roots.specs.Collected.{words_at, AreFrames}
 use Rattle.m3_roots.specs.RowMeaning.{AreBelow, AreFramesAt, HaveRows}
 use Rattle.m3_roots.proofs.ThreadSteps.{frames_from}
 use Rattle.m3_inspect.specs.declared.values.ThreadView.{ThreadView}
-use Rattle.m3_inspect.specs.Shown.{ShownFrame, ShownThread, shown_thread, IsUnframed, ShowsThread, ShowThreads, no_thread, thread, shown_frames, cells_after_frames}
+use Rattle.m3_inspect.specs.Standing.{globals_from}
+use Rattle.m3_inspect.specs.Shown.{Shown, ShownFrame, ShownThread, shown_thread, IsUnframed, ShowsThread, ShowThreads, no_thread, thread, shown_frames, cells_after_frames, cells_after, IsShown}
 
 pub there : {A : Type 0} (xs : List A) (i : ℕ) → i < length xs → (x : A) × (slice_get xs i ≡ Some x)
 there [] i lt = absurd (omega arith)
@@ -103,3 +104,10 @@ pub within : (ts : List Thread) (k : ℕ) (t : Thread) → slice_get ts k ≡ So
 within [] k t e = absurd cc
 within (u ∷ ts) zero t e = omega arith
 within (u ∷ ts) (suc k) t e = let rest = within ts k t e in omega (arith, rest)
+
+-- a thread that has no frames isn't shown
+pub frames_clash : (i : Image) (all : Everyone) (globals : List ℕ) (s : Shown) (number : ℕ) → IsShown i all globals s → IsUnframed i all number → ⊥
+frames_clash i all globals s number shown none =
+    let lt = within all.threads none.place none.thread none.there in
+    let found = framed_before i all (cells_after [] (globals_from globals 0 i.variables)) (length all.threads) s.threads shown.cells shown.threads_shown none.place none.thread lt none.there in
+    none.unframed found.0 found.1

@@ -1,5 +1,5 @@
 -- What the rows and the globals of an image say of the words of its variables: which of them a collection changes.
-use Rattle.std.specs.Prelude.{ℕ, ◌≡◌, ◌==◌, ◌&&◌, Bool, true, not, if◌then◌else◌, List, [], map, length, Option, None, Some}
+use Rattle.std.specs.Prelude.{ℕ, ◌≡◌, ◌<◌, ◌==◌, ◌&&◌, Bool, true, not, if◌then◌else◌, List, [], map, length, Option, None, Some}
 use Rattle.std.specs.List.{AllByRecursion}
 use Rattle.m3_tables.specs.Numbers.{has}
 use Rattle.m3_threads.specs.All.{Everyone, HoldsOfEach}
@@ -33,3 +33,7 @@ pub record AreListed (i : Image) (all : Everyone) : Type 0 where
 -- each thread has its sixteen registers
 abbrev pub HaveRegisters : Everyone → Type 0
 HaveRegisters all = HoldsOfEach (λ t. length t.regs.r ≡ 16) all.threads
+
+-- each variable in scope in each of some frames has its place among so many words
+abbrev pub PlacesAreBelow : Image → ℕ → List Frame → Type 0
+PlacesAreBelow i end frames = AllByRecursion (λ f. AllByRecursion (λ v. (number : ℕ) → place_at (instruction_of i f) v.spans ≡ Some number → place_from f.first number < end) i.variables) frames

@@ -15,6 +15,7 @@ fn cell_number(cells: &mut IndexSet<u64>, at: u64) -> Result<u64, NoMemory>
     ensures cells { OnOk result (cells.new.keys ≡ with_cell cells.old.keys at) }
 {
     let (place, _) = cells.insert_full(at)?;
+    // It is among the cells that the set counts, so its number fits.
     let _known = cells.len();
     Ok(place as u64 + 1)
 }

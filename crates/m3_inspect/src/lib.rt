@@ -6,11 +6,15 @@ mod cells;
 mod frames;
 mod laws;
 mod locals;
+mod machines;
 mod texts;
 mod values;
 mod views;
 
-pub use laws::{collections_change_no_view, views_are_one};
+pub use laws::{
+    collections_change_no_view, places_are_in_stacks, views_are_one, views_have_all_frames,
+};
+pub use machines::{Quiet, view};
 pub use texts::text;
 pub use values::{FrameView, ThreadView, Value, VarValue, View};
 pub use views::{ViewRefused, view_of};

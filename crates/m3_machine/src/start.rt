@@ -1,4 +1,5 @@
 ghost use Rattle.m3_image.specs.Views.{image_view};
+ghost use Rattle.m3_image_decoded.specs.Ready.{image_of};
 ghost use Rattle.std.specs.Prelude.{◌≡◌, ◌≤◌, ◌<◌, ◌+◌, ◌*◌, ◌^◌, ℕ, [], false, length, replicate};
 ghost use Rattle.std.specs.Prelude.{slice_get, slice_set, Some, IfOk};
 ghost use Rattle.m3_image_sections.specs.Parts.{CellType};
@@ -95,6 +96,7 @@ impl<'a, S: Store, L: Ledger> Machine<'a, S, L> {
         requires empty { (S.heap store).cells ≡ [] }
         requires closed { (S.heap store).is_open ≡ false }
         ensures program { IfOk result (λ m. program_of m.parts ≡ (image_view image.entry).program) }
+        ensures image { IfOk result (λ m. image_of m.parts.image ≡ image_view image.entry) }
         ensures input { IfOk result (λ m. m.parts.input.now ≡ input.now) }
         ensures begins { IfOk result (λ m. Begins (image_view image.entry).program (S.heap store)
             stacks.count stacks.words (state_of m.parts)) }

@@ -1,6 +1,7 @@
 ghost use Rattle.std.specs.Prelude.{◌≡◌, ◌≤◌, ◌<◌, ◌+◌, ◌^◌, ℕ, List, [], None, OnOk, OnErr, IfOk};
 ghost use Rattle.std.specs.Prelude.{Ok};
 ghost use Rattle.m3_base.specs.declared.outcomes.Outcome.TheVariants.{Spent};
+ghost use Rattle.m3_image_decoded.specs.Ready.{image_of};
 ghost use Rattle.m3_image_sections.specs.Parts.{Program};
 ghost use Rattle.m3_run_meaning.specs.State.{State};
 ghost use Rattle.m3_run_meaning.specs.Points.{first_entry as first_of, later_entries as later_of};
@@ -136,6 +137,7 @@ impl<'a, S: Store, L: Ledger> Machine<'a, S, L> {
             (state_of self.old.parts) schedule.now points out.old out.new) }
         ensures ready { result ≡ Ok Spent → IsReady self.old.parts
             → (state_of self.old.parts).points + points < 2 ^ 63 → IsReady self.new.parts }
+        ensures image { image_of self.new.parts.image ≡ image_of self.old.parts.image }
     {
         know_image(&self.parts);
         let mut entries = schedule;

@@ -3,7 +3,7 @@ use Rattle.std.specs.Prelude.{ℕ, ◌≡◌, ◌++◌, Bool, true, false, List,
 use Rattle.m3_heap.specs.declared.store.Store.{Ghosts}
 use Rattle.m3_threads.specs.declared.status.Thread.{Thread}
 use Rattle.m3_threads.specs.All.{Everyone, thread_named}
-use Rattle.m3_image_sections.specs.Parts.{Program}
+use Rattle.m3_image_sections.specs.Parts.{Image, Program}
 use Rattle.m3_image_decoded.specs.Ready.{image_of}
 use Rattle.m3_roots.specs.Collected.{Parts as Roots}
 use Rattle.m3_run_memory.specs.declared.outside.Outside.{Outside}
@@ -33,9 +33,10 @@ program_of m = record (image_of m.image).program { constants = m.memory.outside.
 abbrev pub parts_in : {S : Type 0} {g : Ghosts S} → Everyone → Outside S g → Roots
 parts_in {g = g} all outside = record { all = all; globals = outside.globals.items; heap = g.heap outside.heap.store }
 
--- its program and its input, the words of a stack, how many forks, waits and ends it carried out at most, and
+-- its image, program and input, the words of a stack, how many forks, waits and ends it carried out at most, and
 -- whether a collection ended in trap 9
 pub record Rest : Type 0 where
+  pub image : Image
   pub program : Program
   pub input : List ℕ
   pub stack : ℕ
@@ -43,7 +44,7 @@ pub record Rest : Type 0 where
   pub stuck : Bool
 
 abbrev pub rest_of : {S L : Type 0} {g : Ghosts S} → Parts S L g → Rest
-rest_of m = record { program = program_of m; input = m.input.now; stack = m.stack; made = m.made; stuck = m.stuck }
+rest_of m = record { image = image_of m.image; program = program_of m; input = m.input.now; stack = m.stack; made = m.made; stuck = m.stuck }
 
 -- No collection ended in trap 9, and the stacks have as many words as there is room for in a collection: the next one
 -- ends in trap 9 only where it has to stop.

@@ -15,7 +15,7 @@ use Rattle.m3_run_meaning.specs.State.{State}
 use Rattle.m3_run_meaning.specs.Runs.{Begins, begins, Leads, moves, starting}
 use Rattle.m3_run_laws.specs.Stores.{IsLawful}
 use Rattle.m3_run_state.specs.Cuts.{CutsOff}
-use Rattle.m3_machine.specs.RunCalls.{Ran}
+use Rattle.m3_machine.specs.RunCalls.{Ran, RunOf}
 use Rattle.m3_machine.specs.Faults.{RanToFault}
 use Rattle.m3_image_dump.specs.Texts.{IsDump}
 use Rattle.m3c_image_commands.specs.declared.answers.Answer.{Answer}
@@ -237,3 +237,13 @@ front_taken (Some b) after waiting piece h = (h.0, h.1.0, h.2)
 pub dumps_fetched : (shelf : Shelving) (out : Putting) (name image bytes : List ℕ) (result : Result Answer Refusal) → bytes ≡ image → StoresNothing shelf → IsRead shelf.held.0 name image_cap image → DumpsBytes bytes out result → Dumps shelf out name image result
 dumps_fetched shelf out name image bytes (Ok a) e s r h = record { held = s; answer = (r, subst (λ (x : List ℕ). DumpAnswer x out a.status a.line.items) e h); refusal = tt }
 dumps_fetched shelf out name image bytes (Err x) e s r h = record { held = s; answer = tt; refusal = inr (r, subst (λ (y : List ℕ). CutsDump y out x) e h) }
+
+-- the run of a machine that was made for it, whatever became of its output
+pub run_of : (i : Image) (setting : Setting) (p : Program) (input : List ℕ) (heap : Heap) (start to : State) (outcome : Outcome) (bytes : List ℕ) → p ≡ i.program → input ≡ setting.input → heap ≡ new_heap setting.heap → Begins i.program heap setting.threads setting.stack start
+    → Ran p input start setting.schedule setting.points bytes to outcome → RunOf i.program (new_heap setting.heap) setting.threads setting.stack setting.points setting.schedule setting.input bytes to outcome
+run_of i setting p input heap start to outcome bytes program same empty begun ran = record {
+  start = start;
+  begins = subst (λ (h : Heap). Begins i.program h setting.threads setting.stack start) empty begun;
+  lawful = new_lawful setting.heap;
+  ran = subst (λ (q : List ℕ). Ran i.program q start setting.schedule setting.points bytes to outcome) same (subst (λ (q : Program). Ran q input start setting.schedule setting.points bytes to outcome) program ran);
+}

@@ -11,5 +11,6 @@ mod running;
 pub use answers::{Answer, Refusal, tell};
 pub use dumping::dump_image;
 pub use fetching::{RunFiles, fetch, fetch_run_files};
+pub use line::{LINE_ROOM, answer_of, counted_answer, longest_name};
 pub use refusals::push_number;
-pub use running::{Run, run_bytes, run_image, schedule_of};
+pub use running::{Run, fetch_all, read_image, run_bytes, run_image, schedule_of};

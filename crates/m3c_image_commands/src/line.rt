@@ -231,6 +231,22 @@ pub fn answer_of<S: Store, L: Ledger>(
         machine.now.parts.points machine.now.parts.instructions machine.now.parts.collections }
 {
     let status = add_ending(&mut line, image, outcome);
+    counted_answer(line, status, machine, tells)
+}
+
+/// The answer of a status and of a line, which has the room, with the counts of a machine behind it.
+pub fn counted_answer<S: Store>(
+    mut line: Vec<u8>,
+    status: u8,
+    machine: &Machine<'_, S>,
+    tells: bool,
+) -> Answer
+    requires { vec_len line + 160 ≤ vec_capacity line }
+    ensures status { result.status ≡ status }
+    ensures line { result.line.items ≡ with_collections tells (with_counts line.items
+        machine.now.parts.points machine.now.parts.instructions) machine.now.parts.collections
+        ++ codes "\n" }
+{
     add_counts(&mut line, machine);
     add_collections(&mut line, machine, tells);
     add(&mut line, b"\n");

@@ -194,8 +194,8 @@ pub fn run_image<'a, F: Shelf, O: Sink>(
     run_fetched(alloc, image, &files.switches, run, out)
 }
 
-// Fetches an image, and then the files of a run's options.
-fn fetch_all<'a, F: Shelf>(
+/// Fetches an image into an empty list, and then the files of a run's options.
+pub fn fetch_all<'a, F: Shelf>(
     alloc: Global,
     name: &'a str,
     options: RunOptions<'a>,
