@@ -10,6 +10,7 @@ use m3_heap::Store;
 use m3_machine::Machine;
 use m3_ports::{Sink, SinkFailed};
 use std::alloc::Global;
+use std::sync::ledger::Ledger;
 
 /// A sink that takes all that is put and keeps none of it. It never fails.
 #[derive(Clone, Copy, Debug, PartialEq, Eq)]
@@ -28,7 +29,10 @@ impl Sink for Quiet {
 }
 
 /// What a machine shows whose run used up its points.
-pub fn view<S: Store>(alloc: Global, machine: &Machine<'_, S>) -> Result<View, ViewRefused>
+pub fn view<S: Store, L: Ledger>(
+    alloc: Global,
+    machine: &Machine<'_, S, L>,
+) -> Result<View, ViewRefused>
     ensures { Views (image_of machine.now.parts.image) (state_of machine.now.parts).all
         (state_of machine.now.parts).globals result }
 {

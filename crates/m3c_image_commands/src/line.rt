@@ -235,10 +235,10 @@ pub fn answer_of<S: Store, L: Ledger>(
 }
 
 /// The answer of a status and of a line, which has the room, with the counts of a machine behind it.
-pub fn counted_answer<S: Store>(
+pub fn counted_answer<S: Store, L: Ledger>(
     mut line: Vec<u8>,
     status: u8,
-    machine: &Machine<'_, S>,
+    machine: &Machine<'_, S, L>,
     tells: bool,
 ) -> Answer
     requires { vec_len line + 160 ≤ vec_capacity line }

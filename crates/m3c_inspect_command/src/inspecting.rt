@@ -13,10 +13,10 @@ ghost use Rattle.m3c_inspect_command.specs.Inspecting.{PutsText, Shows, is_spent
 ghost use Rattle.m3c_words.specs.Orders.{name_of};
 
 use m3_base::Outcome;
-use m3_heap::{SemiSpace, Store};
+use m3_heap::{SemiSpace, Steps, Store};
 use m3_image::ImageView;
 use m3_inspect::{Quiet, View, ViewRefused, text, view};
-use m3_machine::Machine;
+use m3_machine::{Machine, Stacks};
 use m3_ports::{Shelf, Sink};
 use m3c_image_commands::{
     Answer, LINE_ROOM, Refusal, Run, answer_of, counted_answer, fetch_all, longest_name,
@@ -24,6 +24,8 @@ use m3c_image_commands::{
 };
 use m3c_words::RunOptions;
 use std::alloc::Global;
+use std::marker::Brand;
+use std::sync::ledger::{Blank, Ledger};
 
 /// Puts the text of a view, and gives the answer that is ready.
 fn put_view<O: Sink>(
@@ -47,11 +49,11 @@ fn put_view<O: Sink>(
 
 /// Puts what a machine shows whose run used up its points. A thread that hasn't its frames is told
 /// as trap 9.
-fn show<S: Store, O: Sink>(
+fn show<S: Store, L: Ledger, O: Sink>(
     alloc: Global,
     mut line: Vec<u8>,
     image: &ImageView<'_>,
-    machine: &Machine<'_, S>,
+    machine: &Machine<'_, S, L>,
     tells: bool,
     out: &mut O,
 ) -> Result<Answer, Refusal<'static>>
@@ -84,13 +86,18 @@ fn is_spent(outcome: Outcome) -> bool
     matches!(outcome, Outcome::Spent)
 }
 
-/// Runs an image for the points of its limits, and puts what it shows then.
-fn inspect_view<O: Sink>(
+/// Runs an image for the points of its limits, and puts what it shows then. The steps of its
+/// collections are counted by a ledger of its own.
+fn inspect_by<O: Sink, L: Ledger>(
     alloc: Global,
     image: ImageView<'_>,
     run: Run<'_>,
     out: &mut O,
+    blank: Blank,
 ) -> Result<Answer, Refusal<'static>>
+    requires name { blank.name ≡ L.name }
+    requires parts { blank.parts ≡ L.parts }
+    requires whole { blank.parts ≡ 1 }
     ensures { InspectsView (image_view image.entry) (setting_of_run run.entry)
         run.entry.tells_collections (putting O.Sink out.old out.new) result }
 {
@@ -103,7 +110,12 @@ fn inspect_view<O: Sink>(
     };
     let limits = run.limits;
     let tells = run.tells_collections;
-    let made = Machine::new(alloc, image, run.input, store, limits.stack, limits.threads);
+    let stacks = Stacks {
+        count: limits.threads,
+        words: limits.stack,
+    };
+    let steps = Steps::<L>::new(blank);
+    let made = Machine::new(alloc, image, run.input, store, stacks, steps);
     let Ok(mut machine) = made else {
         return Err(Refusal::NO_MEMORY);
     };
@@ -115,6 +127,19 @@ fn inspect_view<O: Sink>(
     } else {
         Ok(answer_of(line, &image, &machine, outcome, tells))
     }
+}
+
+/// Runs an image for the points of its limits, and puts what it shows then.
+fn inspect_view<O: Sink>(
+    alloc: Global,
+    image: ImageView<'_>,
+    run: Run<'_>,
+    out: &mut O,
+) -> Result<Answer, Refusal<'static>>
+    ensures { InspectsView (image_view image.entry) (setting_of_run run.entry)
+        run.entry.tells_collections (putting O.Sink out.old out.new) result }
+{
+    inspect_by::<O, Brand>(alloc, image, run, out, Blank::new(1))
 }
 
 /// Reads an image and a schedule, runs the one by the other, and puts what it shows then.

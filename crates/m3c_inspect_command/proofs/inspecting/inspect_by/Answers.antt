@@ -6,7 +6,7 @@ use Rattle.m3c_image_commands.specs.ImageCommands.{setting_of_run}
 use Rattle.m3c_image_commands.proofs.RunLemmas.{begins_first}
 use Rattle.m3c_inspect_command.specs.Inspecting.{Stops}
 use Rattle.m3c_inspect_command.proofs.InspectLemmas.{stops_of, spent_if, other_if, points_used, other_end}
-use Rattle.m3c_inspect_command.proofs.inspecting.inspect_view.Goals as goal
+use Rattle.m3c_inspect_command.proofs.inspecting.inspect_by.Goals as goal
 
 pub returns-then-is_spent : goal.returns-then-is_spent
 returns-then-is_spent g c =
