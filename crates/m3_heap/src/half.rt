@@ -75,6 +75,13 @@ impl Half {
         self.base
     }
 
+    /// How many words it has.
+    pub fn size(&self) -> u64
+        ensures { result ≡ self.now.size }
+    {
+        self.words.len() as u64
+    }
+
     /// The words of all cells.
     pub fn total(&self) -> u64
         ensures total { result ≡ total_words self.now.cells }
@@ -117,6 +124,17 @@ impl Half {
         } else {
             None
         }
+    }
+
+    /// Where the cell starts that has a word at an address.
+    pub fn start_of(&self, at: u64) -> u64
+        requires { is_some (cell_word_at self.now.cells at) ≡ true }
+        ensures starts { is_start self.now.cells result ≡ true }
+        ensures low { result ≤ at }
+        ensures within { at < result + length (words_from self.now.cells result) }
+    {
+        let place = (at - self.base) as usize;
+        self.base + self.starts.last(place) as u64
     }
 
     /// Sets the word at an address, and says whether it did: it doesn't outside a cell and at a header.
