@@ -9,3 +9,4 @@ pub mod Rolling
 pub mod Settling
 pub mod Taking
 pub mod Turning
+pub mod Cutting

@@ -32,7 +32,7 @@ use Rattle.m3_machine.specs.Turns.{IsCourse, Paced, Between, Halts, Halted}
 use Rattle.m3_machine.proofs.Bounds.{Bounded, bounded_end, bounded_went}
 
 -- the run is followed from this state of the machine
-pub track : {S : Type 0} {g : Ghosts S} → Track → Parts S g → Thread → Track
+pub track : {S L : Type 0} {g : Ghosts S} → Track → Parts S L g → Thread → Track
 track k m t = record k { base = state_of m; thread = t }
 
 all_with : Everyone → List Thread → Everyone
@@ -46,7 +46,7 @@ left-over : (limit done : ℕ) → done < limit → limit - (limit - done) ≡ d
 left-over limit done more = omega (arith, more)
 
 -- where the turn stands before the stride
-pub far_from : {S : Type 0} {g : Ghosts S} (k : Track) (others : ℕ) (m : Parts S g) (turn : Turn) (limit points : ℕ) (stack : Stack) (r : List ℕ) (at : At) (h : Between (program_of m) k others m turn)
+pub far_from : {S L : Type 0} {g : Ghosts S} (k : Track) (others : ℕ) (m : Parts S L g) (turn : Turn) (limit points : ℕ) (stack : Stack) (r : List ℕ) (at : At) (h : Between (program_of m) k others m turn)
     → k.allowed < 2 ^ 63 → limit ≡ turn_limit (program_of m) (state_of m) → turn.done < limit → stack ≡ stack_of m.memory.threads h.thread → at_hand r at.pc at.fp ≡ h.thread.regs
     → points ≤ turn.points → (1 ≤ points → h.thread.status ≡ Ready)
     → Stands_in (image_of m.image).program (track k m h.thread) stack limit (limit - turn.done) points r at m.memory
@@ -71,17 +71,17 @@ far_from {g = g} k others m turn limit points stack r at h small limited more pl
 with_constants : Program → List ℕ → Program
 with_constants p cs = record p { constants = cs }
 
-pub same_program : {S : Type 0} {g : Ghosts S} (m : Parts S g) (memory : Memory S g) → memory.outside.constants.items ≡ m.memory.outside.constants.items → program_in (image_of m.image).program memory ≡ program_of m
+pub same_program : {S L : Type 0} {g : Ghosts S} (m : Parts S L g) (memory : Memory S g) → memory.outside.constants.items ≡ m.memory.outside.constants.items → program_in (image_of m.image).program memory ≡ program_of m
 unfolding with_constants
 same_program m memory e = ap (λ (cs : List ℕ). with_constants (image_of m.image).program cs) e
 
 -- what the machine has after the stride, by its parts
-pub after : {S : Type 0} {g : Ghosts S} → Parts S g → ℕ → ℕ → List ℕ → At → Memory S g → State
+pub after : {S L : Type 0} {g : Ghosts S} → Parts S L g → ℕ → ℕ → List ℕ → At → Memory S g → State
 after m d count r at memory =
     seen_in (record (state_of m) { points = m.points + d; instructions = m.instructions + count }) r at memory
 
 -- no count exceeds its range
-bounded-at : {S : Type 0} {g : Ghosts S} (start : State) (k : Track) (m : Parts S g) (t : Thread) (d count limit left points : ℕ) (stack : Stack) (r : List ℕ) (at : At) (memory : Memory S g) (halt : Halt)
+bounded-at : {S L : Type 0} {g : Ghosts S} (start : State) (k : Track) (m : Parts S L g) (t : Thread) (d count limit left points : ℕ) (stack : Stack) (r : List ℕ) (at : At) (memory : Memory S g) (halt : Halt)
     → memory.outside.constants.items ≡ m.memory.outside.constants.items → IsCourse (program_of m) start k
     → Halts_in (image_of m.image).program (further (track k m t) d count) stack limit left points r at memory halt → Bounded k (after m d count r at memory)
 unfolding track after
@@ -98,7 +98,7 @@ bounded-at start k m t d count limit left points stack r at memory Other same kn
     bounded_went (program_of m) start (after m d count r at memory) k (regs_set (at_hand r at.pc at.fp) t) (limit - left) known (found-again (at_hand r at.pc at.fp) m.running memory.threads.threads t h.running)
     (subst (λ (p : Program). Went p k (after m d count r at memory) (limit - left)) (same_program m memory same) h.went)
 
-pub far_bounded : {S : Type 0} {g : Ghosts S} (start : State) (k : Track) (m : Parts S g) (t : Thread) (d count limit left points : ℕ) (stack : Stack) (r : List ℕ) (at : At) (memory : Memory S g) (halt : Halt)
+pub far_bounded : {S L : Type 0} {g : Ghosts S} (start : State) (k : Track) (m : Parts S L g) (t : Thread) (d count limit left points : ℕ) (stack : Stack) (r : List ℕ) (at : At) (memory : Memory S g) (halt : Halt)
     → memory.outside.constants.items ≡ m.memory.outside.constants.items → IsCourse (program_of m) start k
     → Halts_in (image_of m.image).program (further (track k m t) d count) stack limit left points r at memory halt
     → ((after m d count r at memory).points ≤ k.allowed) × ((after m d count r at memory).instructions ≤ (after m d count r at memory).points * 4611686018427387904)
@@ -108,7 +108,7 @@ far_bounded start k m t d count limit left points stack r at memory halt same kn
 abbrev pub NextIs : Program → ℕ → Turn → State → Type 0
 NextIs p pc turn s = (i : Instr) → slice_get p.code pc ≡ Some i → turn.done < turn_limit p s → is_plain i.op ≡ false
 
-halts-at : {S : Type 0} {g : Ghosts S} (k : Track) (others : ℕ) (m n : Parts S g) (turn : Turn) (t : Thread) (d count limit left : ℕ) (r : List ℕ) (at : At) (memory : Memory S g)
+halts-at : {S L : Type 0} {g : Ghosts S} (k : Track) (others : ℕ) (m n : Parts S L g) (turn : Turn) (t : Thread) (d count limit left : ℕ) (r : List ℕ) (at : At) (memory : Memory S g)
     → memory.outside.constants.items ≡ m.memory.outside.constants.items → state_of n ≡ after m d count r at memory → turn.done ≡ limit - left → Paced k others n turn
     → NextIs (program_of m) at.pc turn (state_of n) → running_thread (after m d count r at memory) ≡ Some (regs_set (at_hand r at.pc at.fp) t)
     → Went (program_in (image_of m.image).program memory) k (after m d count r at memory) (limit - left) → Halts (program_of m) k others n turn
@@ -127,7 +127,7 @@ halts-at k others m n turn t d count limit left r at memory same is done paced n
     }
 
 -- where the turn stands after it, or how the run ended
-pub far_to : {S : Type 0} {g : Ghosts S} (k : Track) (others : ℕ) (m n : Parts S g) (turn : Turn) (t : Thread) (d count limit left points : ℕ) (stack : Stack) (r : List ℕ) (at : At) (memory : Memory S g) (halt : Halt)
+pub far_to : {S L : Type 0} {g : Ghosts S} (k : Track) (others : ℕ) (m n : Parts S L g) (turn : Turn) (t : Thread) (d count limit left points : ℕ) (stack : Stack) (r : List ℕ) (at : At) (memory : Memory S g) (halt : Halt)
     → memory.outside.constants.items ≡ m.memory.outside.constants.items → state_of n ≡ after m d count r at memory → turn.done ≡ limit - left → Paced k others n turn → (halt ≡ Used → ⊥)
     → (halt ≡ Left → NextIs (program_of m) at.pc turn (state_of n)) → (halt ≡ Other → NextIs (program_of m) at.pc turn (state_of n))
     → Halts_in (image_of m.image).program (further (track k m t) d count) stack limit left points r at memory halt → Halted (program_of m) k others n turn halt
@@ -150,10 +150,10 @@ abbrev pub with_counts : State → ℕ → ℕ → State
 with_counts s points instructions = record s { points = points; instructions = instructions }
 
 -- the words, threads and heap of a memory beside what a machine has
-abbrev pub over_memory : {S : Type 0} {g : Ghosts S} → Parts S g → Memory S g → State
+abbrev pub over_memory : {S L : Type 0} {g : Ghosts S} → Parts S L g → Memory S g → State
 over_memory {g = g} m memory = record (state_of m) { all = memory.threads; globals = memory.outside.globals.items; heap = g.heap memory.outside.heap.store }
 
-pub after_is : {S : Type 0} {g : Ghosts S} (m : Parts S g) (memory : Memory S g) (r : List ℕ) (at : At) (d count points instructions : ℕ) (s : State) → s ≡ with_regs (over_memory m memory) (at_hand r at.pc at.fp)
+pub after_is : {S L : Type 0} {g : Ghosts S} (m : Parts S L g) (memory : Memory S g) (r : List ℕ) (at : At) (d count points instructions : ℕ) (s : State) → s ≡ with_regs (over_memory m memory) (at_hand r at.pc at.fp)
     → points ≡ m.points + d → instructions ≡ m.instructions + count → with_counts s points instructions ≡ after m d count r at memory
 unfolding after
 after_is m memory r at d count points instructions s is one two =
@@ -161,13 +161,13 @@ after_is m memory r at d count points instructions s is one two =
     ∙ ap (λ (n : ℕ). with_counts (with_regs (over_memory m memory) (at_hand r at.pc at.fp)) n instructions) one
     ∙ ap (λ (n : ℕ). with_counts (with_regs (over_memory m memory) (at_hand r at.pc at.fp)) (m.points + d) n) two
 
-pub after_points : {S : Type 0} {g : Ghosts S} (k : Track) (m : Parts S g) (memory : Memory S g) (r : List ℕ) (at : At) (d count : ℕ)
+pub after_points : {S L : Type 0} {g : Ghosts S} (k : Track) (m : Parts S L g) (memory : Memory S g) (r : List ℕ) (at : At) (d count : ℕ)
     → ((after m d count r at memory).points ≤ k.allowed) × ((after m d count r at memory).instructions ≤ (after m d count r at memory).points * 4611686018427387904)
     → (m.points + d ≤ k.allowed) × (m.instructions + count ≤ (m.points + d) * 4611686018427387904)
 unfolding after
 after_points k m memory r at d count h = h
 
-pub after_depth : {S : Type 0} {g : Ghosts S} (p : Program) (m : Parts S g) (memory : Memory S g) (r : List ℕ) (at : At) (d count : ℕ) (s : State) → s ≡ after m d count r at memory → memory.threads.stack ≡ m.memory.threads.stack
+pub after_depth : {S L : Type 0} {g : Ghosts S} (p : Program) (m : Parts S L g) (memory : Memory S g) (r : List ℕ) (at : At) (d count : ℕ) (s : State) → s ≡ after m d count r at memory → memory.threads.stack ≡ m.memory.threads.stack
     → turn_limit p s ≡ turn_limit p (state_of m)
 unfolding after
 after_depth p m memory r at d count s is depth = same-limit p s (state_of m) (ap (λ (x : State). x.all.stack) is ∙ depth)
@@ -179,11 +179,11 @@ pub past_code : (code : List Instr) (n : ℕ) (i : Instr) → length code ≤ n 
 past_code code n i past e = none-some i (sym (slice_get_past code n past) ∙ e)
 
 -- a turn that wasn't ended by a trap
-pub stopped_before : {S : Type 0} {g : Ghosts S} (p : Program) (k : Track) (others : ℕ) (m : Parts S g) (turn : Turn) (halt : Halt) → ((n : ℕ) → halt ≡ Trapped n → ⊥) → Halted p k others m turn halt → Halts p k others m turn
+pub stopped_before : {S L : Type 0} {g : Ghosts S} (p : Program) (k : Track) (others : ℕ) (m : Parts S L g) (turn : Turn) (halt : Halt) → ((n : ℕ) → halt ≡ Trapped n → ⊥) → Halted p k others m turn halt → Halts p k others m turn
 stopped_before p k others m turn (Trapped n) not h = absurd (not n refl)
 stopped_before p k others m turn Used not h = h
 stopped_before p k others m turn Left not h = h
 stopped_before p k others m turn Other not h = h
 
-pub halted_by : {S : Type 0} {g : Ghosts S} (k : Track) (others : ℕ) (m : Parts S g) (turn : Turn) (halt : Halt) (p q : Program) → p ≡ q → Halted p k others m turn halt → Halted q k others m turn halt
+pub halted_by : {S L : Type 0} {g : Ghosts S} (k : Track) (others : ℕ) (m : Parts S L g) (turn : Turn) (halt : Halt) (p q : Program) → p ≡ q → Halted p k others m turn halt → Halted q k others m turn halt
 halted_by k others m turn halt p q e h = subst (λ (r : Program). Halted r k others m turn halt) e h

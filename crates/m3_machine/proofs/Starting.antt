@@ -17,24 +17,26 @@ use Rattle.m3_run_state.specs.declared.parts.Parts.{Parts}
 use Rattle.m3_run_state.specs.Seen.{state_of, program_of}
 use Rattle.m3_machine.specs.RunCalls.{IsReady}
 
-abbrev pub at_first : Everyone → List ℕ → Heap → State
-at_first all globals heap = record { all = all; globals = globals; heap = heap; running = 0; taken = 0; points = 0; instructions = 0; collections = 0 }
+abbrev pub at_first : Everyone → List ℕ → Heap → ℕ → State
+at_first all globals heap steps = record { all = all; globals = globals; heap = heap; running = 0; taken = 0; points = 0; instructions = 0; collections = 0; steps = steps }
 
-pub first_is : (p : Program) (heap : Heap) (threads stack : ℕ) (all : Everyone) (globals : List ℕ) → all ≡ at_start threads stack → globals ≡ first_globals p.globals.words → at_first all globals heap ≡ start p heap threads stack
-first_is p heap threads stack all globals one two = ap (λ (a : Everyone). at_first a globals heap) one ∙ ap (λ (g : List ℕ). at_first (at_start threads stack) g heap) two
+pub first_is : (p : Program) (heap : Heap) (threads stack : ℕ) (all : Everyone) (globals : List ℕ) (steps : ℕ) → all ≡ at_start threads stack → globals ≡ first_globals p.globals.words → steps ≡ 0 → at_first all globals heap steps ≡ start p heap threads stack
+first_is p heap threads stack all globals steps one two none =
+    ap (λ (a : Everyone). at_first a globals heap steps) one ∙ ap (λ (g : List ℕ). at_first (at_start threads stack) g heap steps) two
+    ∙ ap (λ (n : ℕ). at_first (at_start threads stack) (first_globals p.globals.words) heap n) none
 
 -- once its thread stands at the first instruction
-abbrev pub StandsAt : {S : Type 0} {g : Ghosts S} → Program → State → Parts S g → Type 0
+abbrev pub StandsAt : {S L : Type 0} {g : Ghosts S} → Program → State → Parts S L g → Type 0
 StandsAt q s n = (t : Thread) (i : Instr) → running_thread s ≡ Some t → slice_get q.code t.regs.pc ≡ Some i → state_of n ≡ stands i s
 
-stood : {S : Type 0} {g : Ghosts S} (p q : Program) (s : State) (n : Parts S g) (heap : Heap) (threads stack : ℕ) → q ≡ p → s ≡ start p heap threads stack → StandsAt q s n → (i : Instr) → slice_get p.code 0 ≡ Some i
+stood : {S L : Type 0} {g : Ghosts S} (p q : Program) (s : State) (n : Parts S L g) (heap : Heap) (threads stack : ℕ) → q ≡ p → s ≡ start p heap threads stack → StandsAt q s n → (i : Instr) → slice_get p.code 0 ≡ Some i
     → state_of n ≡ stands i (start p heap threads stack)
 stood p q s n heap threads stack program is there i next =
     let t = started 0 0 0 in
     let running : running_thread s ≡ Some t = ap (λ (x : State). running_thread x) is in
     there t i running (subst (λ (r : Program). slice_get r.code 0 ≡ Some i) (sym program) next) ∙ ap (λ (x : State). stands i x) is
 
-pub begins_there : {S : Type 0} {g : Ghosts S} (p q : Program) (s : State) (n : Parts S g) (heap : Heap) (threads stack : ℕ) → q ≡ p → s ≡ start p heap threads stack → StandsAt q s n → is_point_at p.code 0 ≡ true
+pub begins_there : {S L : Type 0} {g : Ghosts S} (p q : Program) (s : State) (n : Parts S L g) (heap : Heap) (threads stack : ℕ) → q ≡ p → s ≡ start p heap threads stack → StandsAt q s n → is_point_at p.code 0 ≡ true
     → Begins p heap threads stack (state_of n)
 begins_there p q s n heap threads stack program is there point =
     let i = some-at (slice_get p.code 0) point in
@@ -43,7 +45,7 @@ begins_there p q s n heap threads stack program is there point =
 all-first : (p : Program) (heap : Heap) (threads stack : ℕ) (i : Instr) → 1 ≤ threads → is_point_at p.code 0 ≡ true → AllAtPoints p (stands i (start p heap threads stack)).all
 all-first p heap threads stack i some point = record { each = (point, tt); few = some }
 
-pub ready_there : {S : Type 0} {g : Ghosts S} (p q : Program) (s : State) (n : Parts S g) (heap : Heap) (threads stack : ℕ) → q ≡ p → program_of n ≡ p → s ≡ start p heap threads stack → n.made ≡ 0 → n.stuck ≡ false → n.stack ≡ stack → StandsAt q s n
+pub ready_there : {S L : Type 0} {g : Ghosts S} (p q : Program) (s : State) (n : Parts S L g) (heap : Heap) (threads stack : ℕ) → q ≡ p → program_of n ≡ p → s ≡ start p heap threads stack → n.made ≡ 0 → n.stuck ≡ false → n.stack ≡ stack → StandsAt q s n
     → 1 ≤ threads → is_point_at p.code 0 ≡ true → IsReady n
 ready_there p q s n heap threads stack program same is none unstuck deep there some point =
     let i = some-at (slice_get p.code 0) point in

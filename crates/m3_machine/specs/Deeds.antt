@@ -12,7 +12,7 @@ use Rattle.m3_run_state.specs.Seen.{IsGoing, Running}
 
 -- the thread runs and is awake, the instruction isn't plain, there is room in the counts of forks and waits, and no
 -- collection ended in trap 9
-pub record MayAct {S : Type 0} {g : Ghosts S} (m : Parts S g) (t : Thread) (i : Instr) : Type 0 where
+pub record MayAct {S L : Type 0} {g : Ghosts S} (m : Parts S L g) (t : Thread) (i : Instr) : Type 0 where
   pub running : Running m t
   pub awake : IsAwake t
   pub acts : is_plain i.op ≡ false

@@ -1,3 +1,4 @@
 pub mod Deeds
 pub mod Turns
 pub mod RunCalls
+pub mod Faults

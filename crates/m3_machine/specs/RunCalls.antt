@@ -18,7 +18,7 @@ use Rattle.m3_run_state.specs.declared.parts.Parts.{Parts}
 use Rattle.m3_run_state.specs.Seen.{state_of, program_of, IsGoing}
 
 -- between two turns, with so many points left
-pub record At_turn {S : Type 0} {g : Ghosts S} (p : Program) (k : Track) (left : ℕ) (m : Parts S g) : Type 0 where
+pub record At_turn {S L : Type 0} {g : Ghosts S} (p : Program) (k : Track) (left : ℕ) (m : Parts S L g) : Type 0 where
   pub leads : LeadsTo p k (At_point (state_of m))
   pub points : m.points + left ≡ k.allowed
   pub made : m.made ≤ m.points
@@ -34,12 +34,12 @@ ended_by (Ends outcome) = Some outcome
 ended_by _ = None
 
 -- the next turn was carried out, or the run ended
-abbrev pub Turned : {S : Type 0} {g : Ghosts S} → Program → Track → List ℕ → ℕ → Parts S g → Option Outcome → Type 0
+abbrev pub Turned : {S L : Type 0} {g : Ghosts S} → Program → Track → List ℕ → ℕ → Parts S L g → Option Outcome → Type 0
 Turned p k bytes left m None = At_turn p (past k bytes) left m
 Turned p k bytes left m (Some outcome) = (later : List Entry) × Leads p k.input k.allowed k.from (config (Over (state_of m) outcome) later (k.output ++ bytes)) × IsOther outcome
 
 -- a machine may run: it is new, or its last run used up its points
-pub record IsReady {S : Type 0} {g : Ghosts S} (m : Parts S g) : Type 0 where
+pub record IsReady {S L : Type 0} {g : Ghosts S} (m : Parts S L g) : Type 0 where
   pub at_points : AllAtPoints (program_of m) (state_of m).all
   pub few : (state_of m).instructions ≤ (state_of m).points * 4611686018427387904
   pub made : m.made ≤ (state_of m).points

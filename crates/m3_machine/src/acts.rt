@@ -5,6 +5,7 @@ ghost use Rattle.m3_run_meaning.specs.State.{executed};
 ghost use Rattle.m3_run_meaning.specs.Calls.{place_of};
 ghost use Rattle.m3_run_meaning.specs.Steps.{Acts, Does};
 ghost use Rattle.m3_machine.specs.Deeds.{MayAct, IsSilent};
+ghost use Rattle.m3_machine.specs.Faults.{PutsToFault};
 ghost use Rattle.m3_isa.specs.Instructions.{IsInstruction, is_plain, is_point};
 ghost use Rattle.m3_ports.specs.Counts.{Rose};
 ghost use Rattle.m3_threads.specs.declared.status.Thread.{Thread};
@@ -23,6 +24,7 @@ use m3_ports::{Sink, SinkFailed};
 use m3_run_meaning::Progress;
 use m3_run_meaning::near::{Place, before};
 use m3_run_state::Parts;
+use std::sync::ledger::Ledger;
 
 /// The kind of fault of a number.
 fn kind_of(number: u8) -> Option<FaultKind>
@@ -50,7 +52,7 @@ fn kind_of(number: u8) -> Option<FaultKind>
 }
 
 /// FAULT, whose kind and place every image has.
-fn fault<S: Store>(parts: &Parts<'_, S>, i: Instr) -> Progress
+fn fault<S: Store, L: Ledger>(parts: &Parts<'_, S, L>, i: Instr) -> Progress
     ensures { Follows (program_of parts.now) (faults_at (program_of parts.now) i)
         (state_of parts.now) (became result (state_of parts.now)) }
 {
@@ -64,7 +66,7 @@ fn fault<S: Store>(parts: &Parts<'_, S>, i: Instr) -> Progress
 }
 
 /// UNC: an exception that nobody handled.
-fn uncaught<S: Store>(parts: &Parts<'_, S>, i: Instr) -> Progress
+fn uncaught<S: Store, L: Ledger>(parts: &Parts<'_, S, L>, i: Instr) -> Progress
     requires { i.a < 16 }
     ensures { (t : Thread) → Running parts.now t
         → Follows (program_of parts.now) (is_uncaught (program_of parts.now) i t.regs)
@@ -81,8 +83,8 @@ fn uncaught<S: Store>(parts: &Parts<'_, S>, i: Instr) -> Progress
 }
 
 /// Carries out the running thread's instruction, which isn't plain.
-pub(crate) fn act<S: Store, O: Sink>(
-    parts: &mut Parts<'_, S>,
+pub(crate) fn act<S: Store, L: Ledger, O: Sink>(
+    parts: &mut Parts<'_, S, L>,
     out: &mut O,
 ) -> Result<Progress, SinkFailed>
     ensures rises { O.faults out.old ≤ O.faults out.new }
@@ -102,6 +104,11 @@ pub(crate) fn act<S: Store, O: Sink>(
         → (bytes : List ℕ) × Took (O.taken out.old) (O.taken out.new) bytes
         × Does (program_of parts.old) parts.old.input.now t i (executed (state_of parts.old)) bytes
         (became progress (state_of parts.new))) }
+    ensures cut { OnErr result ((t : Thread) (i : Instruction)
+        → slice_get (program_of parts.old).code t.regs.pc ≡ Some i → MayAct parts.old t i
+        → parts.old.instructions < 2 ^ 128 - 1
+        → PutsToFault O.Sink (program_of parts.old) parts.old.input.now t i
+        (executed (state_of parts.old)) out.old out.new) }
 {
     let regs = parts.regs();
     match parts.image.fetch(regs.pc) {
@@ -114,8 +121,8 @@ pub(crate) fn act<S: Store, O: Sink>(
 }
 
 /// Carries out an instruction, at which the running thread stands.
-fn act_at<S: Store, O: Sink>(
-    parts: &mut Parts<'_, S>,
+fn act_at<S: Store, L: Ledger, O: Sink>(
+    parts: &mut Parts<'_, S, L>,
     i: Instr,
     at: Place,
     out: &mut O,
@@ -136,6 +143,10 @@ fn act_at<S: Store, O: Sink>(
         → (bytes : List ℕ) × Took (O.taken out.old) (O.taken out.new) bytes
         × Does (program_of parts.old) parts.old.input.now t i (executed (state_of parts.old)) bytes
         (became progress (state_of parts.new))) }
+    ensures cut { OnErr result ((t : Thread) → MayAct parts.old t i
+        → parts.old.instructions < 2 ^ 128 - 1
+        → PutsToFault O.Sink (program_of parts.old) parts.old.input.now t i
+        (executed (state_of parts.old)) out.old out.new) }
 {
     parts.instructions = parts.instructions.saturating_add(1);
     match i.op {
@@ -147,7 +158,7 @@ fn act_at<S: Store, O: Sink>(
 }
 
 /// Carries out an instruction that puts nothing.
-fn act_silently<S: Store>(parts: &mut Parts<'_, S>, i: Instr, at: Place) -> Progress
+fn act_silently<S: Store, L: Ledger>(parts: &mut Parts<'_, S, L>, i: Instr, at: Place) -> Progress
     requires instruction { IsInstruction i }
     requires inside { at.pc < length (image_of parts.old.image).program.code }
     ensures rest { rest_of parts.new ≡ record (rest_of parts.old)

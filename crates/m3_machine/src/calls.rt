@@ -15,11 +15,12 @@ use m3_isa::Instr;
 use m3_run_meaning::Progress;
 use m3_run_meaning::near::{Place, called_method, enter, is_of_type, leave, method_of, truth};
 use m3_run_state::Parts;
+use std::sync::ledger::Ledger;
 
 /// CALL, CALLR and CALLM: a procedure that was found is called, by the running thread, which stands
 /// at a place.
-pub(crate) fn call<S: Store>(
-    parts: &mut Parts<'_, S>,
+pub(crate) fn call<S: Store, L: Ledger>(
+    parts: &mut Parts<'_, S, L>,
     callee: Result<u32, Outcome>,
     at: Place,
 ) -> Progress
@@ -43,8 +44,8 @@ pub(crate) fn call<S: Store>(
 }
 
 /// The procedure that CALLM calls.
-pub(crate) fn method_for<S: Store>(
-    parts: &Parts<'_, S>,
+pub(crate) fn method_for<S: Store, L: Ledger>(
+    parts: &Parts<'_, S, L>,
     i: Instr,
     at: Place,
 ) -> Result<u32, Outcome>
@@ -56,7 +57,7 @@ pub(crate) fn method_for<S: Store>(
 }
 
 /// RET.
-pub(crate) fn return_back<S: Store>(parts: &mut Parts<'_, S>, at: Place) -> Progress
+pub(crate) fn return_back<S: Store, L: Ledger>(parts: &mut Parts<'_, S, L>, at: Place) -> Progress
     ensures rest { rest_of parts.new ≡ rest_of parts.old }
     ensures returns { (t : Thread) → Running parts.old t → at ≡ place_of t.regs
         → Follows (program_of parts.old)
@@ -72,7 +73,7 @@ pub(crate) fn return_back<S: Store>(parts: &mut Parts<'_, S>, at: Place) -> Prog
 }
 
 /// METH.
-pub(crate) fn tell_method<S: Store>(parts: &mut Parts<'_, S>, i: Instr) -> Progress
+pub(crate) fn tell_method<S: Store, L: Ledger>(parts: &mut Parts<'_, S, L>, i: Instr) -> Progress
     requires answer { i.a < 16 }
     requires cell { i.b < 16 }
     ensures rest { rest_of parts.new ≡ rest_of parts.old }
@@ -90,7 +91,7 @@ pub(crate) fn tell_method<S: Store>(parts: &mut Parts<'_, S>, i: Instr) -> Progr
 }
 
 /// SUBT: 1 where the type of the cell is that of the number or has it among its parents, else 0.
-pub(crate) fn test_type<S: Store>(parts: &mut Parts<'_, S>, i: Instr) -> Progress
+pub(crate) fn test_type<S: Store, L: Ledger>(parts: &mut Parts<'_, S, L>, i: Instr) -> Progress
     requires answer { i.a < 16 }
     requires cell { i.b < 16 }
     ensures rest { rest_of parts.new ≡ rest_of parts.old }

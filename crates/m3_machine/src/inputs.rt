@@ -1,4 +1,4 @@
-ghost use Rattle.std.specs.Prelude.{◌≡◌, ◌<◌, ◌≤◌, nat_le, length, OnOk, OnErr, IfOk};
+ghost use Rattle.std.specs.Prelude.{◌≡◌, ◌<◌, ◌≤◌, [], nat_le, length, OnOk, OnErr, IfOk};
 ghost use Rattle.m3_ports.specs.Counts.{Rose};
 ghost use Rattle.m3_threads.specs.declared.status.Thread.{Thread};
 ghost use Rattle.m3_run_meaning.specs.State.{memory_of};
@@ -7,6 +7,7 @@ ghost use Rattle.m3_run_meaning.specs.Progress.{Follows, became};
 ghost use Rattle.m3_run_meaning.specs.Calls.{stack_of};
 ghost use Rattle.m3_run_meaning.specs.Acts.{puts_number, puts_byte, gets, tells_end, tells_self};
 ghost use Rattle.m3_run_state.specs.Seen.{state_of, program_of, rest_of, Running, Took};
+ghost use Rattle.m3_run_state.specs.Cuts.{CutsOff};
 
 use itoa::Buffer;
 use m3_heap::Store;
@@ -15,10 +16,11 @@ use m3_ports::{Sink, SinkFailed};
 use m3_run_meaning::Progress;
 use m3_run_meaning::near::truth;
 use m3_run_state::Parts;
+use std::sync::ledger::Ledger;
 
 /// PUTN: a signed number in decimal.
-pub(crate) fn put_number<S: Store, O: Sink>(
-    parts: &mut Parts<'_, S>,
+pub(crate) fn put_number<S: Store, L: Ledger, O: Sink>(
+    parts: &mut Parts<'_, S, L>,
     i: Instr,
     out: &mut O,
 ) -> Result<Progress, SinkFailed>
@@ -31,6 +33,8 @@ pub(crate) fn put_number<S: Store, O: Sink>(
         → Took (O.taken out.old) (O.taken out.new) (bytes_of (puts_number i t.regs))
         × Follows (program_of parts.old) (puts_number i t.regs) (state_of parts.old)
         (became progress (state_of parts.new))) }
+    ensures cut { OnErr result ((t : Thread) → Running parts.old t
+        → CutsOff O.Sink out.old out.new [] (bytes_of (puts_number i t.regs))) }
 {
     let mut buffer = Buffer::new();
     let number = parts.word(i.a).cast_signed();
@@ -39,8 +43,8 @@ pub(crate) fn put_number<S: Store, O: Sink>(
 }
 
 /// PUTC: the low byte.
-pub(crate) fn put_byte<S: Store, O: Sink>(
-    parts: &mut Parts<'_, S>,
+pub(crate) fn put_byte<S: Store, L: Ledger, O: Sink>(
+    parts: &mut Parts<'_, S, L>,
     i: Instr,
     out: &mut O,
 ) -> Result<Progress, SinkFailed>
@@ -53,6 +57,8 @@ pub(crate) fn put_byte<S: Store, O: Sink>(
         → Took (O.taken out.old) (O.taken out.new) (bytes_of (puts_byte i t.regs))
         × Follows (program_of parts.old) (puts_byte i t.regs) (state_of parts.old)
         (became progress (state_of parts.new))) }
+    ensures cut { OnErr result ((t : Thread) → Running parts.old t
+        → CutsOff O.Sink out.old out.new [] (bytes_of (puts_byte i t.regs))) }
 {
     let byte = (parts.word(i.a) % 256) as u8;
     out.put(&[byte])?;
@@ -60,14 +66,14 @@ pub(crate) fn put_byte<S: Store, O: Sink>(
 }
 
 /// Whether all of the input was taken.
-fn is_at_end<S: Store>(parts: &Parts<'_, S>) -> bool
+fn is_at_end<S: Store, L: Ledger>(parts: &Parts<'_, S, L>) -> bool
     ensures { result ≡ nat_le (length parts.now.input.now) parts.now.taken }
 {
     parts.taken >= parts.input.len()
 }
 
 /// GETC: the next byte of the input, or a jump where none is left.
-pub(crate) fn get_byte<S: Store>(parts: &mut Parts<'_, S>, i: Instr) -> Progress
+pub(crate) fn get_byte<S: Store, L: Ledger>(parts: &mut Parts<'_, S, L>, i: Instr) -> Progress
     requires { i.a < 16 }
     ensures rest { rest_of parts.new ≡ rest_of parts.old }
     ensures gets { (t : Thread) → Running parts.old t
@@ -83,7 +89,7 @@ pub(crate) fn get_byte<S: Store>(parts: &mut Parts<'_, S>, i: Instr) -> Progress
 }
 
 /// EOF.
-pub(crate) fn tell_end<S: Store>(parts: &mut Parts<'_, S>, i: Instr) -> Progress
+pub(crate) fn tell_end<S: Store, L: Ledger>(parts: &mut Parts<'_, S, L>, i: Instr) -> Progress
     requires { i.a < 16 }
     ensures rest { rest_of parts.new ≡ rest_of parts.old }
     ensures tells { (t : Thread) → Running parts.old t
@@ -95,7 +101,7 @@ pub(crate) fn tell_end<S: Store>(parts: &mut Parts<'_, S>, i: Instr) -> Progress
 }
 
 /// SELF: word 2 of the thread's stack.
-pub(crate) fn tell_self<S: Store>(parts: &mut Parts<'_, S>, i: Instr) -> Progress
+pub(crate) fn tell_self<S: Store, L: Ledger>(parts: &mut Parts<'_, S, L>, i: Instr) -> Progress
     requires { i.a < 16 }
     ensures rest { rest_of parts.new ≡ rest_of parts.old }
     ensures tells { (t : Thread) → Running parts.old t

@@ -14,3 +14,4 @@ mod threading;
 mod whole;
 
 pub use machine::Machine;
+pub use start::Stacks;

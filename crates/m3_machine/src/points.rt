@@ -11,9 +11,10 @@ ghost use Rattle.m3_run_state.specs.Seen.{state_of, program_of, rest_of, IsGoing
 use m3_base::{Entry, Outcome};
 use m3_heap::Store;
 use m3_run_state::Parts;
+use std::sync::ledger::Ledger;
 
 /// The running thread stands at the instruction that it has come to.
-pub(crate) fn stand<S: Store>(parts: &mut Parts<'_, S>)
+pub(crate) fn stand<S: Store, L: Ledger>(parts: &mut Parts<'_, S, L>)
     ensures rest { rest_of parts.new ≡ rest_of parts.old }
     ensures stands { parts.old.made < 2 ^ 63 → (t : Thread) (i : Instruction) → Running parts.old t
         → slice_get (program_of parts.old).code t.regs.pc ≡ Some i
@@ -30,7 +31,7 @@ pub(crate) fn stand<S: Store>(parts: &mut Parts<'_, S>)
 }
 
 /// The thread that goes, by what an entry names.
-fn choose<S: Store>(parts: &Parts<'_, S>, to: Option<u64>) -> Option<u64>
+fn choose<S: Store, L: Ledger>(parts: &Parts<'_, S, L>, to: Option<u64>) -> Option<u64>
     ensures { parts.now.made < 2 ^ 63 → IsChoice parts.now.memory.threads
         (outside (program_of parts.now) (state_of parts.now)) to parts.now.running result }
 {
@@ -44,7 +45,7 @@ fn choose<S: Store>(parts: &Parts<'_, S>, to: Option<u64>) -> Option<u64>
 }
 
 /// Whether any thread may go.
-fn may_go_on<S: Store>(parts: &Parts<'_, S>) -> bool
+fn may_go_on<S: Store, L: Ledger>(parts: &Parts<'_, S, L>) -> bool
     ensures some { parts.now.made < 2 ^ 63 → result ≡ true
         → NoneGoes parts.now.memory.threads (outside (program_of parts.now) (state_of parts.now))
         → ⊥ }
@@ -55,7 +56,7 @@ fn may_go_on<S: Store>(parts: &Parts<'_, S>) -> bool
 }
 
 /// How a run ends that may pass no point more.
-pub(crate) fn spent<S: Store>(parts: &Parts<'_, S>) -> Outcome
+pub(crate) fn spent<S: Store, L: Ledger>(parts: &Parts<'_, S, L>) -> Outcome
     ensures { parts.now.made < 2 ^ 63 → Says_spent (program_of parts.now) (state_of parts.now)
         result }
 {
@@ -68,7 +69,7 @@ pub(crate) fn spent<S: Store>(parts: &Parts<'_, S>) -> Outcome
 
 /// Collects the heap where an entry asks for it. False comes exactly where that has to stop, in
 /// trap 9; or where an earlier collection did.
-fn collect_if<S: Store>(parts: &mut Parts<'_, S>, asked: bool) -> bool
+fn collect_if<S: Store, L: Ledger>(parts: &mut Parts<'_, S, L>, asked: bool) -> bool
     ensures rest { rest_of parts.new ≡ record (rest_of parts.old) { stuck = parts.new.stuck } }
     ensures going { result ≡ true → parts.new.stuck ≡ parts.old.stuck }
     ensures good { result ≡ true → IsGoing parts.old
@@ -83,7 +84,10 @@ fn collect_if<S: Store>(parts: &mut Parts<'_, S>, asked: bool) -> bool
 
 /// Passes a point: an entry is taken, the heap is collected where it says so, and the thread that
 /// goes is chosen. Or the run ends here.
-pub(crate) fn pass_point<S: Store>(parts: &mut Parts<'_, S>, entry: Entry) -> Option<Outcome>
+pub(crate) fn pass_point<S: Store, L: Ledger>(
+    parts: &mut Parts<'_, S, L>,
+    entry: Entry,
+) -> Option<Outcome>
     ensures rest { rest_of parts.new ≡ record (rest_of parts.old) { stuck = parts.new.stuck } }
     ensures going { result ≡ None → parts.new.stuck ≡ parts.old.stuck }
     ensures passes { parts.old.made < 2 ^ 63 → IsGoing parts.old → MatchOption result

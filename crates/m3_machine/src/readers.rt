@@ -7,8 +7,9 @@ use crate::machine::Machine;
 use m3_heap::Store;
 use m3_image::ImageView;
 use m3_threads::Threads;
+use std::sync::ledger::Ledger;
 
-impl<'a, S: Store> Machine<'a, S> {
+impl<'a, S: Store, L: Ledger> Machine<'a, S, L> {
     /// How many points were passed since the machine was made.
     pub fn points(&self) -> u64
         ensures { result ≡ (state_of self.now.parts).points }

@@ -12,6 +12,7 @@ ghost use Rattle.m3_run_meaning.specs.declared.progress.Progress.TheVariants.{Go
 ghost use Rattle.m3_run_state.specs.Seen.{state_of, program_of, rest_of, Running, Took};
 ghost use Rattle.m3_machine.specs.Turns.{to_come, and_put, Known, Between, Halts, Halted};
 ghost use Rattle.m3_machine.specs.Turns.{Acts_next, Comes_to, Came_to};
+ghost use Rattle.m3_machine.specs.Faults.{StopsAtFault};
 ghost use Rattle.m3_ports.specs.Counts.{Rose};
 
 use crate::acts::act;
@@ -23,6 +24,7 @@ use m3_run_meaning::Progress;
 use m3_run_meaning::near::Place;
 use m3_run_state::Parts;
 use m3_threads::Status;
+use std::sync::ledger::Ledger;
 
 /// Whether a thread that stands at such an instruction may have to wait.
 fn may_wait(op: Op) -> bool
@@ -43,7 +45,7 @@ pub(crate) struct Turn {
 }
 
 /// How many instructions a turn may have.
-fn turn_limit<S: Store>(parts: &Parts<'_, S>) -> u64
+fn turn_limit<S: Store, L: Ledger>(parts: &Parts<'_, S, L>) -> u64
     ensures limit { (t : Thread) → Running parts.now t
         → result ≡ longest (program_of parts.now) (state_of parts.now) }
     ensures small { result ≤ 4611686018427387904 }
@@ -55,7 +57,7 @@ fn turn_limit<S: Store>(parts: &Parts<'_, S>) -> u64
 }
 
 /// How many points the running thread may pass without a choice.
-fn free_points<S: Store>(parts: &Parts<'_, S>, turn: &Turn) -> u64
+fn free_points<S: Store, L: Ledger>(parts: &Parts<'_, S, L>, turn: &Turn) -> u64
     ensures few { result ≤ turn.now.points }
     ensures ready { 1 ≤ result → (t : Thread) → Running parts.now t → t.status ≡ Ready }
 {
@@ -67,7 +69,7 @@ fn free_points<S: Store>(parts: &Parts<'_, S>, turn: &Turn) -> u64
 
 /// Goes on with the running thread, as far as nothing has to be chosen or done between its
 /// instructions.
-fn go_far<S: Store>(parts: &mut Parts<'_, S>, turn: &mut Turn) -> Halt
+fn go_far<S: Store, L: Ledger>(parts: &mut Parts<'_, S, L>, turn: &mut Turn) -> Halt
     ensures ahead { to_come turn.new ≤ to_come turn.old }
     ensures fewer { turn.new.points ≤ turn.old.points }
     ensures rest { rest_of parts.new ≡ rest_of parts.old }
@@ -108,7 +110,11 @@ fn go_far<S: Store>(parts: &mut Parts<'_, S>, turn: &mut Turn) -> Halt
 
 /// What follows where the running thread has come to a point instruction: it stands there, and its
 /// turn is over, or the next begins at once where no choice is left.
-fn settle_at_point<S: Store>(parts: &mut Parts<'_, S>, turn: &mut Turn, i: Instr) -> Progress
+fn settle_at_point<S: Store, L: Ledger>(
+    parts: &mut Parts<'_, S, L>,
+    turn: &mut Turn,
+    i: Instr,
+) -> Progress
     requires instruction { IsInstruction i }
     requires point { is_point i.op ≡ true }
     ensures ahead { to_come turn.new ≤ to_come turn.old }
@@ -134,7 +140,7 @@ fn settle_at_point<S: Store>(parts: &mut Parts<'_, S>, turn: &mut Turn, i: Instr
 /// What follows where the running thread has come to an instruction that the machine has to look
 /// at: at a point instruction the turn is over, else it goes on, if so many instructions may still
 /// be executed.
-fn settle<S: Store>(parts: &mut Parts<'_, S>, turn: &mut Turn) -> Progress
+fn settle<S: Store, L: Ledger>(parts: &mut Parts<'_, S, L>, turn: &mut Turn) -> Progress
     ensures ahead { to_come turn.new ≤ to_come turn.old }
     ensures fewer { turn.new.points ≤ turn.old.points }
     ensures some { result ≡ Goes → turn.new.done < 4611686018427387904 }
@@ -159,7 +165,7 @@ fn settle<S: Store>(parts: &mut Parts<'_, S>, turn: &mut Turn) -> Progress
 
 /// Goes on to the next instruction that isn't carried out in passing, if there is one in this turn
 /// or one that begins at once.
-fn go_to_act<S: Store>(parts: &mut Parts<'_, S>, turn: &mut Turn) -> Progress
+fn go_to_act<S: Store, L: Ledger>(parts: &mut Parts<'_, S, L>, turn: &mut Turn) -> Progress
     ensures ahead { to_come turn.new ≤ to_come turn.old }
     ensures fewer { turn.new.points ≤ turn.old.points }
     ensures some { result ≡ Goes → turn.new.done < 4611686018427387904 }
@@ -176,8 +182,8 @@ fn go_to_act<S: Store>(parts: &mut Parts<'_, S>, turn: &mut Turn) -> Progress
 }
 
 /// Carries out the next instruction, which isn't plain.
-fn act_next<S: Store, O: Sink>(
-    parts: &mut Parts<'_, S>,
+fn act_next<S: Store, L: Ledger, O: Sink>(
+    parts: &mut Parts<'_, S, L>,
     turn: &mut Turn,
     out: &mut O,
 ) -> Result<Progress, SinkFailed>
@@ -194,6 +200,9 @@ fn act_next<S: Store, O: Sink>(
         → Acts_next p start k others parts.old turn.old
         → (bytes : List ℕ) × Took (O.taken out.old) (O.taken out.new) bytes
         × Came_to p (and_put k bytes) others parts.new turn.new progress) }
+    ensures cut { OnErr result ((p : Program) (start : State) (k : Track) (others : ℕ)
+        → Known p start k parts.old → Acts_next p start k others parts.old turn.old
+        → StopsAtFault O.Sink p k.input k.allowed k.from k.output out.old out.new) }
 {
     let progress = act(parts, out)?;
     turn.done += 1;
@@ -202,8 +211,8 @@ fn act_next<S: Store, O: Sink>(
 
 /// Goes on to a point instruction at which the machine has to choose or to act, to the thread's end
 /// or to the run's.
-pub(crate) fn take_turn<S: Store, O: Sink>(
-    parts: &mut Parts<'_, S>,
+pub(crate) fn take_turn<S: Store, L: Ledger, O: Sink>(
+    parts: &mut Parts<'_, S, L>,
     turn: &mut Turn,
     out: &mut O,
 ) -> Result<Progress, SinkFailed>
@@ -220,6 +229,9 @@ pub(crate) fn take_turn<S: Store, O: Sink>(
         → Acts_next p start k others parts.old turn.old
         → (bytes : List ℕ) × Took (O.taken out.old) (O.taken out.new) bytes
         × Came_to p (and_put k bytes) others parts.new turn.new progress) }
+    ensures cut { OnErr result ((p : Program) (start : State) (k : Track) (others : ℕ)
+        → Known p start k parts.old → Acts_next p start k others parts.old turn.old
+        → StopsAtFault O.Sink p k.input k.allowed k.from k.output out.old out.new) }
 {
     let mut progress = act_next(parts, turn, out)?;
     'acts: while progress == Progress::Goes {

@@ -10,7 +10,7 @@ ghost use Rattle.m3_run_state.specs.Seen.{state_of, program_of};
 use crate::machine::Machine;
 use crate::points::stand;
 use m3_base::NoMemory;
-use m3_heap::{Closed, Store};
+use m3_heap::{Closed, Steps, Store};
 use m3_image::ImageView;
 use m3_image_decoded::Decoded;
 use m3_roots::Room;
@@ -18,6 +18,7 @@ use m3_run_memory::{Memory, Outside};
 use m3_run_state::Parts;
 use m3_threads::Threads;
 use std::alloc::Global;
+use std::sync::ledger::Ledger;
 
 /// The globals at the start: the header of the main thread's cell, of type 1 and four words, and
 /// zeros.
@@ -65,37 +66,46 @@ fn most_dims(image: &ImageView<'_>) -> u32
     most
 }
 
-impl<'a, S: Store> Machine<'a, S> {
+/// The stacks of a machine: one for each thread that there may be at once, 1 to 64, and its words,
+/// 1024 to 2^20.
+#[derive(Clone, Copy)]
+pub struct Stacks {
+    pub count: u32,
+    pub words: u64,
+}
+
+impl<'a, S: Store, L: Ledger> Machine<'a, S, L> {
     /// A machine at the start of an image: the main thread alone, at its first instruction. All
-    /// memory is taken here.
+    /// memory is taken here. The steps of its collections are counted from none.
     pub fn new(
         alloc: Global,
         image: ImageView<'a>,
         input: &'a [u8],
         store: S,
-        stack: u64,
-        threads: u32,
-    ) -> Result<Machine<'a, S>, NoMemory>
+        stacks: Stacks,
+        steps: Steps<L>,
+    ) -> Result<Machine<'a, S, L>, NoMemory>
     where
         S: Drop,
-        requires some { 1 ≤ threads }
-        requires few { threads ≤ 64 }
-        requires large { 1024 ≤ stack }
-        requires small { stack ≤ 1048576 }
+        requires some { 1 ≤ stacks.count }
+        requires few { stacks.count ≤ 64 }
+        requires large { 1024 ≤ stacks.words }
+        requires small { stacks.words ≤ 1048576 }
+        requires none { steps ≡ 0 }
         requires empty { (S.heap store).cells ≡ [] }
         requires closed { (S.heap store).is_open ≡ false }
         ensures program { IfOk result (λ m. program_of m.parts ≡ (image_view image.entry).program) }
         ensures input { IfOk result (λ m. m.parts.input.now ≡ input.now) }
         ensures begins { IfOk result (λ m. Begins (image_view image.entry).program (S.heap store)
-            threads stack (state_of m.parts)) }
+            stacks.count stacks.words (state_of m.parts)) }
         ensures ready { IfOk result (λ m. IsReady m.parts) }
     {
         image.keeps_its_form();
         let globals = first_globals(alloc, image.global_words())?;
         let constants = constants_of(alloc, &image)?;
         let sizes = Vec::with_capacity(alloc, most_dims(&image) as usize)?;
-        let room = Room::new(alloc, stack)?;
-        let threads = Threads::new(alloc, threads, stack)?;
+        let room = Room::new(alloc, stacks.words)?;
+        let threads = Threads::new(alloc, stacks.count, stacks.words)?;
         let image = Decoded::of(alloc, image)?;
         let mut parts = Parts {
             image,
@@ -110,12 +120,13 @@ impl<'a, S: Store> Machine<'a, S> {
             },
             room,
             sizes,
-            stack,
+            stack: stacks.words,
             running: 0,
             taken: 0,
             points: 0,
             instructions: 0,
             collections: 0,
+            steps,
             made: 0,
             stuck: false,
         };

@@ -19,6 +19,7 @@ use m3_run_meaning::Progress;
 use m3_run_memory::Outside;
 use m3_run_state::Parts;
 use m3_threads::{Done, Threads};
+use std::sync::ledger::Ledger;
 
 /// The thread goes on, or it rests since it sleeps; or the instruction trapped.
 fn told(done: Done) -> Progress
@@ -80,7 +81,7 @@ fn act_of<S: Store>(threads: &mut Threads, outside: &mut Outside<S>, running: u6
 }
 
 /// An instruction of the running thread, on threads, mutexes, conditions and alerts.
-fn act_with_threads<S: Store>(parts: &mut Parts<'_, S>, i: Instr) -> Done
+fn act_with_threads<S: Store, L: Ledger>(parts: &mut Parts<'_, S, L>, i: Instr) -> Done
     requires instruction { IsInstruction i }
     requires operation { i.op ≡ Endt → ⊥ }
     ensures rest { rest_of parts.new ≡ record (rest_of parts.old) { made = parts.new.made } }
@@ -105,7 +106,7 @@ fn act_with_threads<S: Store>(parts: &mut Parts<'_, S>, i: Instr) -> Done
 }
 
 /// Instructions on other threads, mutexes, conditions and alerts.
-pub(crate) fn act_on_threads<S: Store>(parts: &mut Parts<'_, S>, i: Instr) -> Progress
+pub(crate) fn act_on_threads<S: Store, L: Ledger>(parts: &mut Parts<'_, S, L>, i: Instr) -> Progress
     requires instruction { IsInstruction i }
     requires operation { i.op ≡ Endt → ⊥ }
     ensures rest { rest_of parts.new ≡ record (rest_of parts.old) { made = parts.new.made } }
@@ -143,7 +144,7 @@ fn end_of<S: Store>(threads: &mut Threads, outside: &mut Outside<S>, running: u6
 }
 
 /// The end of the running thread.
-fn end_with_threads<S: Store>(parts: &mut Parts<'_, S>, i: Instr) -> Done
+fn end_with_threads<S: Store, L: Ledger>(parts: &mut Parts<'_, S, L>, i: Instr) -> Done
     requires instruction { IsInstruction i }
     requires operation { i.op ≡ Endt }
     ensures rest { rest_of parts.new ≡ rest_of parts.old }
@@ -166,7 +167,7 @@ fn end_with_threads<S: Store>(parts: &mut Parts<'_, S>, i: Instr) -> Done
 }
 
 /// ENDT.
-pub(crate) fn end_thread<S: Store>(parts: &mut Parts<'_, S>, i: Instr) -> Progress
+pub(crate) fn end_thread<S: Store, L: Ledger>(parts: &mut Parts<'_, S, L>, i: Instr) -> Progress
     requires instruction { IsInstruction i }
     requires operation { i.op ≡ Endt }
     ensures rest { rest_of parts.new ≡ rest_of parts.old }

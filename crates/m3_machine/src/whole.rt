@@ -10,6 +10,7 @@ ghost use Rattle.m3_run_laws.specs.Standing.{BeginsAtPoints};
 ghost use Rattle.m3_run_state.specs.Seen.{state_of, program_of, rest_of, Took};
 ghost use Rattle.m3_machine.specs.Turns.{Known};
 ghost use Rattle.m3_machine.specs.RunCalls.{At_turn, ended_by, Turned, IsReady, Ran};
+ghost use Rattle.m3_machine.specs.Faults.{StopsAtFault, RanToFault};
 ghost use Rattle.m3_ports.specs.Counts.{Rose};
 
 use crate::machine::Machine;
@@ -20,6 +21,7 @@ use m3_heap::Store;
 use m3_ports::{Sink, SinkFailed};
 use m3_run_meaning::Progress;
 use m3_run_state::Parts;
+use std::sync::ledger::Ledger;
 
 /// Past its last entry a schedule names no thread and asks for no collection.
 fn first_entry(entries: &[Entry]) -> Entry
@@ -44,7 +46,7 @@ fn later_entries(entries: &[Entry]) -> &[Entry]
 }
 
 /// What every image keeps, and the most instructions of a turn.
-fn know_image<S: Store>(parts: &Parts<'_, S>)
+fn know_image<S: Store, L: Ledger>(parts: &Parts<'_, S, L>)
     ensures begins { BeginsAtPoints (program_of parts.now) }
     ensures short { longest (program_of parts.now) (state_of parts.now) ≤ 4611686018427387904 }
 {
@@ -73,8 +75,8 @@ fn ended(progress: Progress) -> Option<Outcome>
 }
 
 /// Passes a point, and carries out the turn that begins there; or the run ends.
-fn next_turn<S: Store, O: Sink>(
-    parts: &mut Parts<'_, S>,
+fn next_turn<S: Store, L: Ledger, O: Sink>(
+    parts: &mut Parts<'_, S, L>,
     entries: &[Entry],
     left: &mut u64,
     out: &mut O,
@@ -91,6 +93,10 @@ fn next_turn<S: Store, O: Sink>(
         → At_turn p k left.old parts.old → k.entries ≡ entries.now
         → (bytes : List ℕ) × Took (O.taken out.old) (O.taken out.new) bytes
         × Turned p k bytes left.new parts.new ended) }
+    ensures cut { OnErr result ((p : Program) (start : State) (k : Track)
+        → Known p start k parts.old
+        → At_turn p k left.old parts.old → k.entries ≡ entries.now
+        → StopsAtFault O.Sink p k.input k.allowed k.from k.output out.old out.new) }
 {
     if let Some(outcome) = pass_point(parts, first_entry(entries)) {
         return Ok(Some(outcome));
@@ -103,9 +109,11 @@ fn next_turn<S: Store, O: Sink>(
     Ok(ended(progress))
 }
 
-impl<'a, S: Store> Machine<'a, S> {
+impl<'a, S: Store, L: Ledger> Machine<'a, S, L> {
     /// Runs on, with a schedule and so many points at most. SinkFailed comes only where a put
-    /// failed, and the sink's count of faults rose; an outcome says that the sink took all output.
+    /// failed, and the sink's count of faults rose: then the sink has the output up to the piece
+    /// that failed, but for what waited in it, and nothing more was put. An outcome says that it
+    /// took all output.
     /// A machine that is new or whose last run used up its points may run so long as all of its
     /// points together are below 2^63.
     pub fn run<O: Sink>(
@@ -122,6 +130,10 @@ impl<'a, S: Store> Machine<'a, S> {
             → (bytes : List ℕ) × Took (O.taken out.old) (O.taken out.new) bytes
             × Ran (program_of self.old.parts) self.old.parts.input.now (state_of self.old.parts)
             schedule.now points bytes (state_of self.new.parts) outcome) }
+        ensures cut { OnErr result (IsReady self.old.parts
+            → (state_of self.old.parts).points + points < 2 ^ 63
+            → RanToFault O.Sink (program_of self.old.parts) self.old.parts.input.now
+            (state_of self.old.parts) schedule.now points out.old out.new) }
         ensures ready { result ≡ Ok Spent → IsReady self.old.parts
             → (state_of self.old.parts).points + points < 2 ^ 63 → IsReady self.new.parts }
     {

@@ -12,8 +12,8 @@ use Rattle.m3_run_memory.specs.Addresses.{outside_of, settable_of}
 use Rattle.m3_run_memory.specs.Kept.{KeepsStacks}
 
 -- the threads with their stacks and the counts of forks and waits; the words of the globals; the heap; the
--- thread that went last; how many bytes of the input were taken; and how many points were passed, instructions
--- executed and collections made
+-- thread that went last; how many bytes of the input were taken; how many points were passed, instructions executed
+-- and collections made; and how many steps the collections took
 pub record State : Type 0 where
   pub all : Everyone
   pub globals : List ℕ
@@ -23,6 +23,7 @@ pub record State : Type 0 where
   pub points : ℕ
   pub instructions : ℕ
   pub collections : ℕ
+  pub steps : ℕ
 
 -- ---- addresses
 
@@ -100,4 +101,5 @@ start p heap threads stack = record {
   points = 0;
   instructions = 0;
   collections = 0;
+  steps = 0;
 }

@@ -1,7 +1,7 @@
 -- What PUT does, from what its parts told.
-use Rattle.std.specs.Prelude.{ℕ, ◌≡◌, ◌+◌, ◌-◌, ◌*◌, ◌<◌, min, Bool, if◌then◌else◌, List, ◌++◌, map, Option, Some, IfSome}
+use Rattle.std.specs.Prelude.{ℕ, ◌≡◌, ◌+◌, ◌-◌, ◌*◌, ◌<◌, min, Bool, if◌then◌else◌, List, [], ◌++◌, map, Option, Some, IfSome, Result, Ok, Err, OnErr}
 use Rattle.std.specs.List.{range_with_len}
-use Rattle.std.proofs.Common.{ap, subst, ◌∙◌, arith}
+use Rattle.std.proofs.Common.{sym, ap, subst, ◌∙◌, arith}
 use Rattle.m3_base.specs.Words.{add_words}
 use Rattle.m3_isa.specs.Memory.{Memory}
 use Rattle.m3_isa.specs.Effects.{reg, next}
@@ -13,8 +13,11 @@ use Rattle.m3_run_meaning.specs.Act.{Act, Puts, bytes_of, stops_with_trap, loadi
 use Rattle.m3_run_meaning.specs.Progress.{Progress, Follows}
 use Rattle.m3_run_meaning.specs.Texts.{text_bytes}
 use Rattle.m3_run_meaning.specs.Acts.{has_text, puts_text, puts_bytes}
+use Rattle.m3_ports.specs.Files.{LeavesAtFault}
+use Rattle.m3_ports.specs.declared.sinks.Sink.{Ghosts as SinkGhosts}
 use Rattle.m3_run_state.specs.Seen.{Took}
-use Rattle.m3_run_state.proofs.TextBytes.{put_more, put_none}
+use Rattle.m3_run_state.specs.Cuts.{CutsOff}
+use Rattle.m3_run_state.proofs.TextBytes.{put_more, put_none, joined}
 
 -- the length was loaded, and its words were looked for
 pub put_loaded : (i : Instr) (regs : Regs) (memory : Memory) (text : ℕ) (o : Option ℕ) → text ≡ reg regs i.a → o ≡ memory (add_words text 1)
@@ -47,3 +50,35 @@ more_pieces before now after g count k left piece below is so-far took all =
     let next-one : min count (8 * k) + left ≡ min count (8 * (k + 1)) = omega arith in
     subst (λ (n : ℕ). IfSome before (λ bytes. after ≡ Some (bytes ++ map g (range_with_len 0 n)))) next-one
     (put_more before now after g (min count (8 * k)) left piece so-far took (all ∙ ap (λ (n : ℕ). map g (range_with_len n left)) here))
+
+-- the put of a piece failed
+pub cut_pieces : {O : Type 0} (s : SinkGhosts O) (before at after : O) (g : ℕ → ℕ) (count k left : ℕ) (piece : List ℕ) → 8 * k < count → left ≡ min (count - 8 * k) 8
+    → IfSome (s.taken before) (λ bytes. s.taken at ≡ Some (bytes ++ map g (range_with_len 0 (min count (8 * k)))))
+    → IfSome (s.taken at) (λ taken. (all : List ℕ) × LeavesAtFault (s.waiting at) taken piece all × (s.taken after ≡ Some all))
+    → piece ≡ map g (range_with_len (8 * k) left) → CutsOff s before after [] (map g (range_with_len 0 count))
+cut_pieces s before at after g count k left piece below is so-far failed all =
+    let here : min count (8 * k) ≡ 8 * k = omega arith in
+    let rest = count - (8 * k + left) in
+    let whole : 8 * k + left + rest ≡ count = omega arith in
+    record {
+      at = at;
+      part = map g (range_with_len 0 (8 * k));
+      piece = piece;
+      took = subst (λ (n : ℕ). IfSome (s.taken before) (λ bytes. s.taken at ≡ Some (bytes ++ map g (range_with_len 0 n)))) here so-far;
+      next = (
+        map g (range_with_len (8 * k + left) rest),
+        ap (λ (n : ℕ). map g (range_with_len 0 n)) (sym whole) ∙ joined g (8 * k + left) rest
+            ∙ ap (λ (xs : List ℕ). xs ++ map g (range_with_len (8 * k + left) rest)) (joined g (8 * k) left ∙ ap (λ (xs : List ℕ). map g (range_with_len 0 (8 * k)) ++ xs) (sym all)),
+      );
+      left = failed;
+    }
+
+-- what is put of a text that was found
+pub cut_as : {O : Type 0} (s : SinkGhosts O) (before after : O) (bytes : List ℕ) (regs : Regs) (one other : Act) → one ≡ other → one ≡ Puts bytes regs → CutsOff s before after [] bytes
+    → (bytes : List ℕ) × (other ≡ Puts bytes regs) × CutsOff s before after [] bytes
+cut_as s before after bytes regs one other same puts h = (bytes, sym same ∙ puts, h)
+
+-- what holds after any failure
+pub at_any : {T E : Type 0} (P : Type 0) (r : Result T E) → P → OnErr r P
+at_any P (Ok _) h = tt
+at_any P (Err _) h = h

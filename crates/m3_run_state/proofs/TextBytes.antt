@@ -32,7 +32,7 @@ moved g a b (suc n) =
     let next : a + (b + 1) ≡ a + b + 1 = omega arith in
     ap (λ xs. g (a + b) ∷ xs) (moved g a (b + 1) n ∙ ap (λ m. map g (range_with_len m n)) next)
 
-joined : (g : ℕ → ℕ) (n k : ℕ) → map g (range_with_len 0 (n + k)) ≡ map g (range_with_len 0 n) ++ map g (range_with_len n k)
+pub joined : (g : ℕ → ℕ) (n k : ℕ) → map g (range_with_len 0 (n + k)) ≡ map g (range_with_len 0 n) ++ map g (range_with_len n k)
 joined g n zero =
     let none : n + 0 ≡ n = omega arith in
     ap (λ m. map g (range_with_len 0 m)) none ∙ sym (append-nil (map g (range_with_len 0 n)))

@@ -12,7 +12,7 @@ use Rattle.m3_run_meaning.specs.declared.progress.Progress.{Progress as Answer}
 use Rattle.m3_run_meaning.specs.declared.progress.Progress.TheVariants.{Ends}
 use Rattle.m3_run_meaning.specs.State.{State}
 
-abbrev pub state_of : {S : Type 0} {g : Ghosts S} → Parts S g → State
+abbrev pub state_of : {S L : Type 0} {g : Ghosts S} → Parts S L g → State
 state_of {g = g} m = record {
   all = m.memory.threads;
   globals = m.memory.outside.globals.items;
@@ -22,10 +22,11 @@ state_of {g = g} m = record {
   points = m.points;
   instructions = m.instructions;
   collections = m.collections;
+  steps = m.steps;
 }
 
 -- the program of its image, with the constants that stand in its memory
-abbrev pub program_of : {S : Type 0} {g : Ghosts S} → Parts S g → Program
+abbrev pub program_of : {S L : Type 0} {g : Ghosts S} → Parts S L g → Program
 program_of m = record (image_of m.image).program { constants = m.memory.outside.constants.items }
 
 -- what a collection sees of threads and of the memory outside their stacks
@@ -41,12 +42,12 @@ pub record Rest : Type 0 where
   pub made : ℕ
   pub stuck : Bool
 
-abbrev pub rest_of : {S : Type 0} {g : Ghosts S} → Parts S g → Rest
+abbrev pub rest_of : {S L : Type 0} {g : Ghosts S} → Parts S L g → Rest
 rest_of m = record { program = program_of m; input = m.input.now; stack = m.stack; made = m.made; stuck = m.stuck }
 
 -- No collection ended in trap 9, and the stacks have as many words as there is room for in a collection: the next one
 -- ends in trap 9 only where it has to stop.
-pub record IsGoing {S : Type 0} {g : Ghosts S} (m : Parts S g) : Type 0 where
+pub record IsGoing {S L : Type 0} {g : Ghosts S} (m : Parts S L g) : Type 0 where
   pub unstuck : m.stuck ≡ false
   pub depth : m.memory.threads.stack ≡ m.stack
 
@@ -56,7 +57,7 @@ goes_on (Ends outcome) = false
 goes_on _ = true
 
 -- the thread that runs
-abbrev pub Running : {S : Type 0} {g : Ghosts S} → Parts S g → Thread → Type 0
+abbrev pub Running : {S L : Type 0} {g : Ghosts S} → Parts S L g → Thread → Type 0
 Running m t = thread_named m.memory.threads m.running ≡ Some t
 
 -- a sink took these bytes, where it tells what it took

@@ -20,6 +20,7 @@ use m3_heap::Store;
 use m3_image::TypeView;
 use m3_isa::{Instr, Words};
 use m3_run_meaning::Progress;
+use std::sync::ledger::Ledger;
 
 /// The words of a cell of so many dimensions, by the product of its sizes and the words of an
 /// element, as far as a word can say it.
@@ -38,7 +39,7 @@ fn is_too_large(size: u64) -> bool
     size >= 1 << 63
 }
 
-impl<'a, S: Store> Parts<'a, S> {
+impl<'a, S: Store, L: Ledger> Parts<'a, S, L> {
     /// A new cell, where it fits.
     fn allocate(&mut self, kind: u32, words: u64) -> Option<u64>
         requires { 1 ≤ words }

@@ -5,6 +5,7 @@ ghost use Rattle.m3_image_sections.specs.Shapes.{shape_of};
 ghost use Rattle.m3_image_decoded.specs.Ready.{image_of};
 ghost use Rattle.m3_roots.specs.RoomSizes.{IsRoomFor};
 ghost use Rattle.m3_roots.specs.Collected.{Collected, StopsCollection};
+ghost use Rattle.m3_roots.specs.Steps.{StepsAtMost};
 ghost use Rattle.m3_run_meaning.specs.Collecting.{Collects, Spoils};
 ghost use Rattle.m3_run_state.specs.Seen.{state_of, program_of, parts_in, rest_of, IsGoing};
 
@@ -14,21 +15,17 @@ use m3_image_decoded::Decoded;
 use m3_roots::{Room, collect};
 use m3_run_memory::Outside;
 use m3_threads::Threads;
-use std::marker::Brand;
-use std::sync::ledger::{Blank, Ledger};
+use std::sync::ledger::Ledger;
 
-/// A collection over the threads and the memory outside their stacks, whose steps are counted by a
-/// ledger of its own. False comes exactly where it ends in trap 9.
+/// A collection over the threads and the memory outside their stacks, whose steps are counted. False
+/// comes exactly where it ends in trap 9.
 fn collect_by<S: Store, L: Ledger>(
     outside: &mut Outside<S>,
     threads: &mut Threads,
     image: &Decoded<'_>,
     room: &mut Room,
-    blank: Blank,
+    steps: &mut Steps<L>,
 ) -> bool
-    requires name { blank.name ≡ L.name }
-    requires parts { blank.parts ≡ L.parts }
-    requires whole { blank.parts ≡ 1 }
     requires fitting { ∥ S.fits outside.old.heap.store
         (map shape_of (image_of image.now).program.types) ∥₁ }
     requires words { length outside.old.globals.items ≡ (image_of image.now).program.globals.words }
@@ -43,6 +40,11 @@ fn collect_by<S: Store, L: Ledger>(
     ensures stopped { IsRoomFor threads.old.stack room.old
         → OnFalse result (StopsCollection (image_of image.now).program
         (parts_in threads.old outside.old)) }
+    ensures cost { IsRoomFor threads.old.stack room.old → OnTrue result
+        ((collected : Collected (image_of image.now).program
+        (parts_in threads.old outside.old) (parts_in threads.new outside.new))
+        → StepsAtMost (image_of image.now).program collected.walks
+        (S.heap outside.old.heap.store) (S.heap outside.new.heap.store) steps.old steps.new) }
     ensures sizes { SameSizes (S.heap outside.old.heap.store) (S.heap outside.new.heap.store) }
     ensures room { (stack : ℕ) → IsRoomFor stack room.old → IsRoomFor stack room.new }
     ensures words { length outside.new.globals.items ≡ length outside.old.globals.items }
@@ -50,18 +52,17 @@ fn collect_by<S: Store, L: Ledger>(
     ensures forks { threads.new.forks ≡ threads.old.forks }
     ensures waits { threads.new.waits ≡ threads.old.waits }
 {
-    let mut steps = Steps::<L>::new(blank);
     collect(
         threads,
         &mut outside.globals,
         &mut outside.heap.store,
         image,
         room,
-        &mut steps,
+        steps,
     )
 }
 
-impl<'a, S: Store> Parts<'a, S> {
+impl<'a, S: Store, L: Ledger> Parts<'a, S, L> {
     /// Collects the heap. False comes exactly where that has to stop, in trap 9; or where an
     /// earlier collection did.
     pub fn collect(&mut self) -> bool
@@ -76,12 +77,12 @@ impl<'a, S: Store> Parts<'a, S> {
         if self.stuck {
             return false;
         }
-        let done = collect_by::<S, Brand>(
+        let done = collect_by(
             &mut self.memory.outside,
             &mut self.memory.threads,
             &self.image,
             &mut self.room,
-            Blank::new(1),
+            &mut self.steps,
         );
         self.stuck = !done;
         if done {

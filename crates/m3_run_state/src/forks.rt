@@ -17,8 +17,9 @@ use m3_base::Outcome;
 use m3_heap::Store;
 use m3_isa::Instr;
 use m3_run_meaning::Progress;
+use std::sync::ledger::Ledger;
 
-impl<'a, S: Store> Parts<'a, S> {
+impl<'a, S: Store, L: Ledger> Parts<'a, S, L> {
     /// A thread, if it is there, stands at an instruction.
     pub fn stand_at(&mut self, thread: u64, i: Instr)
         requires { IsInstruction i }

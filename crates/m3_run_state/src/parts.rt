@@ -5,15 +5,17 @@ ghost use Rattle.m3_image_sections.specs.Shapes.{shape_of};
 ghost use Rattle.m3_image_decoded.specs.Ready.{image_of};
 ghost use Rattle.m3_roots.specs.RoomSizes.{IsRoomFor};
 
-use m3_heap::Store;
+use m3_heap::{Steps, Store};
 use m3_image_decoded::Decoded;
 use m3_roots::Room;
 use m3_run_memory::Memory;
+use std::sync::ledger::Ledger;
 
 /// What a machine has: the image that it runs, the input, its words, the thread that went last, the
-/// place in the input, and how many points were passed, instructions executed and collections made.
+/// place in the input, how many points were passed, instructions executed and collections made, and
+/// how many steps the collections took.
 #[derive(Drop)]
-pub struct Parts<'a, S: Store> {
+pub struct Parts<'a, S: Store, L: Ledger> {
     pub image: Decoded<'a>,
     pub input: &'a [u8],
     pub memory: Memory<S>,
@@ -25,6 +27,8 @@ pub struct Parts<'a, S: Store> {
     pub points: u64,
     pub instructions: u128,
     pub collections: u64,
+    // how many steps the collections took, by a ledger: nothing is counted when it runs
+    pub steps: Steps<L>,
     // how many forks, waits and ends were carried out at most
     pub made: u64,
     // a collection ended in trap 9, and what it left isn't looked at any more

@@ -16,11 +16,12 @@ use m3_isa::{Regs, Words};
 use m3_run_meaning::Progress;
 use m3_run_meaning::near::{Place, Stack};
 use m3_threads::Status;
+use std::sync::ledger::Ledger;
 
 // No run carries out more forks and waits: each of them passes a point.
 const MOST_MADE: u64 = 1 << 63;
 
-impl<'a, S: Store> Parts<'a, S> {
+impl<'a, S: Store, L: Ledger> Parts<'a, S, L> {
     /// The registers of the running thread.
     pub fn regs(&self) -> Regs
         ensures { (t : Thread) → Running self.now t → result ≡ t.regs }

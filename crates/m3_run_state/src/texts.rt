@@ -1,15 +1,16 @@
 ghost use Rattle.std.specs.Prelude.{◌≡◌, ◌<◌, ◌≤◌, ◌+◌, ◌-◌, ◌*◌, ◌/◌, ◌%◌, ◌^◌, ◌==◌};
-ghost use Rattle.std.specs.Prelude.{if◌then◌else◌, is_some, true, [], ◌∷◌, min, take, drop};
+ghost use Rattle.std.specs.Prelude.{if◌then◌else◌, is_some, true, ℕ, List, [], ◌∷◌, min, take};
+ghost use Rattle.std.specs.Prelude.{drop};
 ghost use Rattle.std.specs.Prelude.{slice_index, Some, Ok, OnOk, OnErr, IfOk};
 ghost use Rattle.std.specs.Int.{div_ceil};
 ghost use Rattle.m3_ports.specs.Counts.{Rose};
 ghost use Rattle.m3_base.specs.Words.{add_words};
 ghost use Rattle.m3_isa.specs.Memory.{Memory};
-ghost use Rattle.m3_isa.specs.Effects.{reg, every};
+ghost use Rattle.m3_isa.specs.Effects.{reg, every, next};
 ghost use Rattle.m3_threads.specs.declared.status.Thread.{Thread};
 ghost use Rattle.m3_run_memory.specs.Addresses.{is_from};
 ghost use Rattle.m3_run_meaning.specs.State.{memory_of, Becomes};
-ghost use Rattle.m3_run_meaning.specs.Act.{bytes_of, or_trap};
+ghost use Rattle.m3_run_meaning.specs.Act.{Puts, bytes_of, or_trap};
 ghost use Rattle.m3_run_meaning.specs.Progress.{Follows, became};
 ghost use Rattle.m3_run_meaning.specs.Texts.{text_words, text_byte, text_bytes, packed, text_rest};
 ghost use Rattle.m3_run_meaning.specs.Making.{HasNew};
@@ -20,6 +21,7 @@ ghost use Rattle.m3_run_meaning.specs.Acts.{has_text, puts_text};
 ghost use Rattle.m3_run_state.specs.Blanks.{WasBlank, IsWithin, both_bytes};
 ghost use Rattle.m3_run_state.specs.Seen.{state_of, program_of, rest_of, IsGoing, goes_on, Running};
 ghost use Rattle.m3_run_state.specs.Seen.{Took};
+ghost use Rattle.m3_run_state.specs.Cuts.{CutsOff};
 
 use crate::parts::Parts;
 use m3_base::Outcome;
@@ -27,6 +29,7 @@ use m3_heap::Store;
 use m3_isa::{Instr, Words};
 use m3_ports::{Sink, SinkFailed};
 use m3_run_meaning::Progress;
+use std::sync::ledger::Ledger;
 
 /// A new text cell that is being filled: its address, and how many words it has.
 #[derive(Clone, Copy)]
@@ -91,7 +94,7 @@ fn bytes_in(count: u64, k: u64) -> usize
     (count - k * 8).min(8) as usize
 }
 
-impl<'a, S: Store> Parts<'a, S> {
+impl<'a, S: Store, L: Ledger> Parts<'a, S, L> {
     /// The word at an address as it was before a new cell was filled.
     fn load_before(&self, blank: Blank, at: u64) -> Option<u64>
         ensures { (before : Memory) → WasBlank blank.start blank.words before
@@ -454,6 +457,9 @@ impl<'a, S: Store> Parts<'a, S> {
         ensures took { OnOk result (Took (O.taken out.old) (O.taken out.new)
             (text_bytes (memory_of (program_of self.now) (state_of self.now)) part.text 0
             part.count)) }
+        ensures cut { OnErr result (CutsOff O.Sink out.old out.new []
+            (text_bytes (memory_of (program_of self.now) (state_of self.now)) part.text 0
+            part.count)) }
     {
         'pieces: for k in 0..part.count.div_ceil(8) {
             let word = self.memory.load(part.text.wrapping_add(2 + k)).unwrap_or(0);
@@ -478,6 +484,9 @@ impl<'a, S: Store> Parts<'a, S> {
             × Follows (program_of self.old) (puts_text i t.regs
             (memory_of (program_of self.old) (state_of self.old))) (state_of self.old)
             (became progress (state_of self.new))) }
+        ensures cut { OnErr result ((t : Thread) → Running self.old t → (bytes : List ℕ)
+            × (puts_text i t.regs (memory_of (program_of self.old) (state_of self.old))
+            ≡ Puts bytes (next t.regs)) × CutsOff O.Sink out.old out.new [] bytes) }
     {
         let text = self.word(i.a);
         let count = match self.memory.load(text.wrapping_add(1)) {

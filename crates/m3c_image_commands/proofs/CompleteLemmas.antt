@@ -1,10 +1,10 @@
 -- `run` and `dump` of files that are held are complete.
-use Rattle.std.proofs.Common.{◌≡◌, ◌∙◌, ◌<◌, ◌≤◌, ◌+◌, ◌⊎◌, ℕ, Bool, zero, suc, List, [], ◌∷◌, ◌++◌, length, map, Option, None, Some, refl, sym, ap, subst, inl, inr, arith, codes, length-append}
-use Rattle.std.specs.Prelude.{Result, Ok, Err, IfSome, IfOk, IfErr, IsOk, IsErr, IsSomeAnd, MatchResult, is_some}
+use Rattle.std.proofs.Common.{◌≡◌, ◌∙◌, ◌<◌, ◌+◌, ◌⊎◌, ℕ, Bool, List, [], ◌∷◌, ◌++◌, length, map, Option, None, Some, refl, sym, ap, subst, inl, inr, arith, codes, length-append}
+use Rattle.std.specs.Prelude.{Result, Ok, Err, IfSome, IsOk, IsSomeAnd, is_some}
 use Rattle.std.specs.FinMap.{get}
 use Rattle.std.proofs.lemmas.List.{length-map}
 use Rattle.m3_ports.specs.Files.{Files, IsNotHeld, IsHeldOver}
-use Rattle.m3_base.specs.Schedules.{IsSchedule, IsFirstBadLine, HasTooMany, entry_in, lines_of, most_entries}
+use Rattle.m3_base.specs.Schedules.{IsSchedule, entry_in, lines_of}
 use Rattle.m3_base.specs.declared.outcomes.Entry.{Entry}
 use Rattle.m3_image.specs.Images.{read_of}
 use Rattle.m3_image_sections.specs.Parts.{Image}
@@ -12,7 +12,7 @@ use Rattle.m3_image_dump.specs.Texts.{IsDump}
 use Rattle.m3_image_sections.specs.declared.refusal.ImageRefusal.{ImageRefusal}
 use Rattle.m3c_image_commands.specs.declared.answers.Answer.{Answer}
 use Rattle.m3c_image_commands.specs.declared.answers.Refusal.{Refusal}
-use Rattle.m3c_image_commands.specs.Statuses.{Shelving, Putting, CountRose, PutsNothing, Took, IsRead, IsGiven, LacksMemory, LacksOutput, Cuts, Unfetched, read_fault, no_memory, absent, too_long, Only, OfOptions, Refuses, image_cap, file_cap}
+use Rattle.m3c_image_commands.specs.Statuses.{Shelving, Putting, CountRose, PutsNothing, Took, IsRead, IsGiven, Unfetched, read_fault, no_memory, absent, too_long, Only, OfOptions, Refuses, image_cap, file_cap}
 use Rattle.m3c_image_commands.specs.Reports.{Setting, Ended}
 use Rattle.m3c_image_commands.specs.ImageCommands.{by_schedule, on_input, ImageAnswer, image_refused, ended, RunAnswer, OfRun, Runs, DumpAnswer, not_dumped, dumped, CutsDump, no_memory as no_more, not_put, Dumps}
 use Rattle.m3c_image_commands.specs.Refusals.{IsScheduleLine, of_bad_line, of_too_many}

@@ -1,5 +1,5 @@
 -- Calls that fetch, one after the other, and what they read.
-use Rattle.std.proofs.Common.{◌≡◌, ℕ, ◌≤◌, ◌<◌, List, Option, refl, sym, ap, ◌∙◌, subst, inl, inr, ◌⊎◌, arith}
+use Rattle.std.proofs.Common.{◌≡◌, ℕ, ◌≤◌, List, Option, sym, ap, ◌∙◌, subst, inl, inr, arith}
 use Rattle.std.specs.Prelude.{Some, IfSome, Result, Ok, Err, IfErr}
 use Rattle.m3_ports.specs.Counts.{Rose}
 use Rattle.m3_ports.specs.Files.{Files, IsNotHeld, IsHeldOver}

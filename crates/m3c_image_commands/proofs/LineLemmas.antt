@@ -1,5 +1,5 @@
 -- The names in a line, and the room that they take.
-use Rattle.std.proofs.Common.{◌≡◌, ℕ, zero, suc, ◌+◌, ◌<◌, ◌≤◌, max, List, [], ◌∷◌, length, Option, None, Some, lit≤, arith}
+use Rattle.std.proofs.Common.{ℕ, zero, suc, ◌≤◌, max, List, [], ◌∷◌, length, lit≤, arith}
 use Rattle.std.specs.Prelude.{slice_get}
 use Rattle.m3_base.specs.declared.outcomes.FaultKind.{FaultKind}
 use Rattle.m3_base.specs.declared.outcomes.FaultKind.TheVariants.{Overflow, DivZero, Range, Index, Nil, Narrow, Shape, Subarray, Size, NoReturn, NoCase, NoTypecase, Raises, NestedProc, NotHeld, JoinTwice}

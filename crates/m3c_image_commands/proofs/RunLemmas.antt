@@ -1,7 +1,10 @@
 -- From the parts of a command over an image to what it answers.
-use Rattle.std.proofs.Common.{◌≡◌, ◌<◌, ◌+◌, ◌^◌, arith, ℕ, Bool, List, [], Option, refl, sym, ◌∙◌, subst, inl, inr, ◌⊎◌}
-use Rattle.std.specs.Prelude.{Result, Ok, Err, IfOk, IfSome, IsOk, IsErr, is_some, None, Some}
-use Rattle.m3_ports.specs.Files.{LeavesAtFault}
+use Rattle.std.proofs.Common.{◌≡◌, ◌<◌, ◌+◌, ◌^◌, arith, ℕ, Bool, List, [], Option, refl, sym, ◌∙◌, subst, inl, inr}
+use Rattle.std.specs.Prelude.{Result, Ok, Err, IfSome, IsOk, IsErr, is_some, None, Some}
+use Rattle.std.specs.Prelude.{◌++◌}
+use Rattle.std.proofs.Common.{ap, append_assoc}
+use Rattle.m3_ports.specs.Files.{IsFront, LeavesAtFault}
+use Rattle.m3_ports.specs.declared.sinks.Sink.{Ghosts as SinkGhosts}
 use Rattle.std.specs.Option.{option_map}
 use Rattle.m3_image.specs.Images.{read_of}
 use Rattle.m3_base.specs.declared.outcomes.Outcome.{Outcome}
@@ -9,9 +12,11 @@ use Rattle.m3_heap.specs.Heap.{Heap}
 use Rattle.m3_heap.specs.Semi.{new_heap}
 use Rattle.m3_image_sections.specs.Parts.{Image, Program}
 use Rattle.m3_run_meaning.specs.State.{State}
-use Rattle.m3_run_meaning.specs.Runs.{Begins, begins}
+use Rattle.m3_run_meaning.specs.Runs.{Begins, begins, Leads, moves, starting}
 use Rattle.m3_run_laws.specs.Stores.{IsLawful}
+use Rattle.m3_run_state.specs.Cuts.{CutsOff}
 use Rattle.m3_machine.specs.RunCalls.{Ran}
+use Rattle.m3_machine.specs.Faults.{RanToFault}
 use Rattle.m3_image_dump.specs.Texts.{IsDump}
 use Rattle.m3c_image_commands.specs.declared.answers.Answer.{Answer}
 use Rattle.m3c_image_commands.specs.declared.answers.Refusal.{Refusal}
@@ -21,10 +26,10 @@ use Rattle.m3_base.specs.ScheduleRefusals.{IsScheduleRefusal}
 use Rattle.m3_base.specs.declared.schedules.ScheduleRefusal.{ScheduleRefusal}
 use Rattle.m3_base.specs.declared.schedules.ScheduleRefusal.TheVariants.{BadLine, TooMany}
 use Rattle.m3_image_sections.specs.declared.refusal.ImageRefusal.{ImageRefusal}
-use Rattle.m3c_image_commands.specs.Reports.{Setting, Ended, end_status, report}
-use Rattle.m3c_image_commands.specs.Statuses.{Shelving, Putting, StoresNothing, PutsNothing, Took, TookFront, RefusesBy, Fetches, IsRead, IsGiven, image_cap, Only}
+use Rattle.m3c_image_commands.specs.Reports.{Setting, Ended, RanAsFar, end_status, report}
+use Rattle.m3c_image_commands.specs.Statuses.{Shelving, Putting, putting, StoresNothing, PutsNothing, Took, TookFront, RefusesBy, Unfetched, read_fault, no_memory as wants_memory, absent, too_long, LacksMemory, IsRead, IsGiven, image_cap}
 use Rattle.m3c_image_commands.specs.Refusals.{image_line, bad_line, too_many, IsScheduleLine, of_bad_line, of_too_many, RefusesImage, RefusesSchedule}
-use Rattle.m3c_image_commands.specs.ImageCommands.{by_schedule, on_input, Ends, ImageAnswer, image_refused, ended, RunsImage, RefusesSwitches, RunsBytes, RunAnswer, OfRun, Runs, DumpAnswer, not_dumped, dumped, DumpsBytes, CutsDump, no_memory, Dumps}
+use Rattle.m3c_image_commands.specs.ImageCommands.{by_schedule, on_input, Ends, ImageAnswer, image_refused, ended, RunsImage, BytesRanAsFar, RunsBytes, RunAnswer, OfRun, Runs, DumpAnswer, not_dumped, dumped, DumpsBytes, CutsDump, no_memory, Dumps}
 
 -- the start of a run has passed no points
 begins-first : (p : Program) (heap : Heap) (threads stack : ℕ) (s : State) → Begins p heap threads stack s → s.points ≡ 0
@@ -70,6 +75,51 @@ ends_run i setting tells out p input heap start to outcome status line program s
   by_line = by-line;
 }
 
+-- ---- a put that failed
+
+regrouped : (had earlier part piece rest : List ℕ) → had ++ (earlier ++ ((part ++ piece) ++ rest)) ≡ ((had ++ (earlier ++ part)) ++ piece) ++ rest
+regrouped had earlier part piece rest = sym
+    (append_assoc (had ++ (earlier ++ part)) piece rest ∙ append_assoc had (earlier ++ part) (piece ++ rest)
+    ∙ ap (λ (xs : List ℕ). had ++ xs) (append_assoc earlier part (piece ++ rest) ∙ ap (λ (xs : List ℕ). earlier ++ xs) (sym (append_assoc part piece rest))))
+
+front-of : (before at after : Option (List ℕ)) (waiting : ℕ) (earlier part piece bytes : List ℕ) → IfSome before (λ had. at ≡ Some (had ++ (earlier ++ part))) → IsFront (part ++ piece) bytes
+    → IfSome at (λ taken. (all : List ℕ) × LeavesAtFault waiting taken piece all × (after ≡ Some all)) → TookFront (before, after) (earlier ++ bytes)
+front-of None at after waiting earlier part piece bytes took next left = tt
+front-of (Some had) at after waiting earlier part piece bytes took next left =
+    let l = subst (λ (o : Option (List ℕ)). IfSome o (λ taken. (all : List ℕ) × LeavesAtFault waiting taken piece all × (after ≡ Some all))) took left in
+    let rest = next.0 in
+    let same : had ++ (earlier ++ bytes) ≡ l.0 ++ (l.1.0.0 ++ rest) = ap (λ (xs : List ℕ). had ++ (earlier ++ xs)) next.1 ∙ regrouped had earlier part piece rest
+    ∙ ap (λ (xs : List ℕ). xs ++ rest) l.1.0.1 ∙ append_assoc l.0 l.1.0.0 rest in
+    (l.0, (l.1.0.0 ++ rest, same), l.2)
+
+module _ {O : Type 0} (g : SinkGhosts O) (before after : O) where
+  cut_front : (earlier bytes : List ℕ) → CutsOff g before after earlier bytes → TookFront (g.taken before, g.taken after) (earlier ++ bytes)
+  cut_front earlier bytes h = front-of (g.taken before) (g.taken h.at) (g.taken after) (g.waiting h.at) earlier h.part h.piece bytes h.took h.next h.left
+
+  pub ran_as_far : (i : Image) (setting : Setting) (p : Program) (input : List ℕ) (heap : Heap) (start : State) → p ≡ i.program → input ≡ setting.input → heap ≡ new_heap setting.heap
+      → Begins i.program heap setting.threads setting.stack start → RanToFault g p input start setting.schedule setting.points before after → RanAsFar i setting (putting g before after)
+  ran_as_far i setting p input heap start program same empty begun h =
+      let allowed = start.points + setting.points in
+      let from = starting start setting.schedule in
+      let output : h.earlier ++ h.bytes ≡ h.next.output = sym (h.with_it ∙ ap (λ (o : List ℕ). o ++ h.bytes) h.so_far) in
+      record {
+        start = start;
+        reached = h.next;
+        begins = subst (λ (x : Heap). Begins i.program x setting.threads setting.stack start) empty begun;
+        leads = subst (λ (q : List ℕ). Leads i.program q allowed from h.next) same (subst (λ (q : Program). Leads q input allowed from h.next) program (moves from h.last h.next h.leads h.puts));
+        put = subst (λ (o : List ℕ). TookFront (g.taken before, g.taken after) o) output (cut_front h.earlier h.bytes h.cut);
+      }
+
+-- other refusals
+pub memory_alone : (r : Refusal) → LacksMemory r → r.status ≡ 4 → ⊥
+memory_alone r h e = let five = h.status in omega (arith, five, e)
+
+pub unfetched_alone : (shelf : Shelving) (Reads : List ℕ → ℕ → Type 0) (status : ℕ) (front name : List ℕ) → Unfetched shelf Reads status front name → status ≡ 4 → ⊥
+unfetched_alone shelf Reads status front name (read_fault n cap of rose) e = omega arith
+unfetched_alone shelf Reads status front name wants_memory e = omega arith
+unfetched_alone shelf Reads status front name (absent n cap of rose free) e = omega arith
+unfetched_alone shelf Reads status front name (too_long n cap of rose over) e = omega arith
+
 not_both : (r : Result Image ImageRefusal) → IsErr r → IsOk r → ⊥
 not_both (Ok i) h k = absurd cc
 not_both (Err e) h k = absurd cc
@@ -78,23 +128,25 @@ module _ (bytes : List ℕ) (setting : Setting) (tells : Bool) (out : Putting) w
   -- the run of the image that the bytes are
   pub ends_image : (result : Result Answer Refusal) (i : Image) → read_of bytes ≡ Ok i → Ends i setting tells out result → RunsImage bytes setting tells out result
   ends_image (Ok a) i e h = ended i a.status a.line.items e h
-  ends_image (Err r) i e h = h
+  ends_image (Err r) i e h = (h.0, λ status. (i, e, h.1 status))
 
   -- the refusal of bytes that are no image
   pub refuses_image : (result : Result Answer Refusal) → RefusesImage bytes result → PutsNothing out → RunsImage bytes setting tells out result
   refuses_image (Ok a) h p =
       subst (λ s. ImageAnswer bytes setting tells out s a.line.items) (sym h.2) (subst (λ l. ImageAnswer bytes setting tells out 8 l) (sym h.3) (image_refused h.0 h.1 p))
-  refuses_image (Err r) h p = inl (h, p)
+  refuses_image (Err r) h p = (inl (h, p), λ status. absurd (memory_alone r h status))
 
   -- by a schedule that the switches say, or of bytes that are no image
   pub image_bytes : (switches : List ℕ) (schedule : List Entry) (result : Result Answer Refusal) → (IsOk (read_of bytes) → IsSchedule switches schedule) → RunsImage bytes (by_schedule setting schedule) tells out result
       → RunsBytes bytes switches setting tells out result
   image_bytes switches schedule (Ok a) is h = inl (schedule, is, h)
-  image_bytes switches schedule (Err r) is h = h
+  image_bytes switches schedule (Err r) is h =
+      (h.0, λ status. let far = h.1 status in (schedule, is (subst (λ (x : Result Image ImageRefusal). IsOk x) (sym far.1) refl), far))
 
   pub refused_bytes : (switches : List ℕ) (result : Result Answer Refusal) → IsErr (read_of bytes) → RunsImage bytes setting tells out result → RunsBytes bytes switches setting tells out result
   refused_bytes switches (Ok a) bad h = inl (setting.schedule, (λ good. absurd (not_both (read_of bytes) bad good)), h)
-  refused_bytes switches (Err r) bad h = h
+  refused_bytes switches (Err r) bad h =
+      (h.0, λ status. let far = h.1 status in absurd (not_both (read_of bytes) bad (subst (λ (x : Result Image ImageRefusal). IsOk x) (sym far.1) refl)))
 
 pub is_some_named : {A B : Type 0} (f : A → B) (o : Option A) → is_some o ≡ is_some (option_map f o)
 is_some_named f None = refl
@@ -120,8 +172,33 @@ module _ (shelf : Shelving) (out : Putting) (name : List ℕ) where
         ),
       );
       refusal = tt;
+      cut = tt;
     }
-    runs_fetched (Err x) bytes given text read taken tells b v w e s r g k h = record { held = s; answer = tt; refusal = inr h }
+    runs_fetched (Err x) bytes given text read taken tells b v w e s r g k h = record {
+      held = s;
+      answer = tt;
+      refusal = inr h.0;
+      cut = λ status. (
+        r,
+        (
+          text,
+          taken,
+          g,
+          k,
+          subst (λ y. BytesRanAsFar image text (on_input limits y) out) w
+              (subst (λ y. BytesRanAsFar image y (on_input limits read) out) v (subst (λ y. BytesRanAsFar y given (on_input limits read) out) b (h.1 status))),
+        ),
+      );
+    }
+
+    pub runs_unfetched : (r : Refusal) → StoresNothing shelf → Unfetched shelf (OfRun shelf.held.0 name switches input) r.status r.front.now r.name.now → PutsNothing out
+        → Runs shelf out name switches input limits image (Err r)
+    runs_unfetched r held unfetched nothing = record {
+      held = held;
+      answer = tt;
+      refusal = inl (unfetched, nothing);
+      cut = λ status. absurd (unfetched_alone shelf (OfRun shelf.held.0 name switches input) r.status r.front.now r.name.now unfetched status);
+    }
 
 pub refuses_dump : (bytes : List ℕ) (out : Putting) (result : Result Answer Refusal) → RefusesImage bytes result → PutsNothing out → DumpsBytes bytes out result
 refuses_dump bytes out (Ok a) h p = subst (λ s. DumpAnswer bytes out s a.line.items) (sym h.2) (subst (λ l. DumpAnswer bytes out 8 l) (sym h.3) (not_dumped h.0 h.1 p))

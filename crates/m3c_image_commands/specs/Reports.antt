@@ -1,6 +1,6 @@
 -- The line that says how a run ended: the ending, the points passed and the instructions executed, and where
 -- switches were given the collections made.
-use Rattle.std.specs.Prelude.{ℕ, ◌≡◌, Bool, true, false, Option, None, Some, List, [], ◌∷◌, ◌++◌, length, max, codes, decimal, slice_get}
+use Rattle.std.specs.Prelude.{ℕ, ◌≡◌, ◌+◌, Bool, true, false, Option, None, Some, List, [], ◌∷◌, ◌++◌, length, max, codes, decimal, slice_get}
 use Rattle.m3_base.specs.declared.outcomes.Outcome.{Outcome}
 use Rattle.m3_base.specs.declared.outcomes.Outcome.TheVariants.{Done, Fault, Uncaught, Deadlock, ThreadsFull, Spent, HeapFull, StackFull, Trap}
 use Rattle.m3_base.specs.declared.outcomes.Entry.{Entry}
@@ -8,10 +8,11 @@ use Rattle.m3_base.specs.Faults.{name_of_fault}
 use Rattle.m3_heap.specs.Semi.{new_heap}
 use Rattle.m3_image_sections.specs.Parts.{Image}
 use Rattle.m3_run_meaning.specs.State.{State}
+use Rattle.m3_run_meaning.specs.Runs.{Config, Begins, Leads, starting}
 use Rattle.m3_machine.specs.RunCalls.{RunOf}
 use Rattle.m3c_words.specs.declared.limits.Limits.{Limits}
 use Rattle.m3c_words.specs.Orders.{Bounds, bounds_of}
-use Rattle.m3c_image_commands.specs.Statuses.{Putting, Took}
+use Rattle.m3c_image_commands.specs.Statuses.{Putting, Took, TookFront}
 
 -- the status of each outcome
 abbrev pub end_status : Outcome → ℕ
@@ -84,6 +85,15 @@ pub record Ended (i : Image) (setting : Setting) (tells : Bool) (out : Putting) 
   pub put : Took out.taken bytes
   pub by_status : status ≡ end_status outcome
   pub by_line : line ≡ report i tells outcome to.points to.instructions to.collections
+
+-- A put of a run of an image failed: out has a front of the output of this run, which is one of its program from the
+-- start, over a heap of two halves, and came as far as the instruction whose output was put last.
+pub record RanAsFar (i : Image) (setting : Setting) (out : Putting) : Type 0 where
+  pub start : State
+  pub reached : Config
+  pub begins : Begins i.program (new_heap setting.heap) setting.threads setting.stack start
+  pub leads : Leads i.program setting.input (start.points + setting.points) (starting start setting.schedule) reached
+  pub put : TookFront out.taken reached.output
 
 -- ---- the room that the line needs
 

@@ -16,6 +16,7 @@ use m3_heap::Store;
 use m3_image::ImageView;
 use m3_image_sections::Names;
 use m3_machine::Machine;
+use std::sync::ledger::Ledger;
 
 /// The most bytes that a line has beside the name in it.
 pub const LINE_ROOM: usize = 256;
@@ -184,7 +185,7 @@ fn add_ending(line: &mut Vec<u8>, image: &ImageView<'_>, outcome: Outcome) -> u8
 }
 
 /// Adds the points and the instructions of a machine.
-fn add_counts<S: Store>(line: &mut Vec<u8>, machine: &Machine<'_, S>)
+fn add_counts<S: Store, L: Ledger>(line: &mut Vec<u8>, machine: &Machine<'_, S, L>)
     requires { vec_len line.old + 100 ≤ vec_capacity line.old }
     ensures items { line.new.items ≡ with_counts line.old.items machine.now.parts.points
         machine.now.parts.instructions }
@@ -198,7 +199,11 @@ fn add_counts<S: Store>(line: &mut Vec<u8>, machine: &Machine<'_, S>)
 }
 
 /// Adds the collections of a machine, if they are to be told.
-fn add_collections<S: Store>(line: &mut Vec<u8>, machine: &Machine<'_, S>, tells: bool)
+fn add_collections<S: Store, L: Ledger>(
+    line: &mut Vec<u8>,
+    machine: &Machine<'_, S, L>,
+    tells: bool,
+)
     requires { vec_len line.old + 40 ≤ vec_capacity line.old }
     ensures items { line.new.items ≡ with_collections tells line.old.items
         machine.now.parts.collections }
@@ -212,10 +217,10 @@ fn add_collections<S: Store>(line: &mut Vec<u8>, machine: &Machine<'_, S>, tells
 }
 
 /// The answer of a machine whose run ended so, in a line that has the room.
-pub fn answer_of<S: Store>(
+pub fn answer_of<S: Store, L: Ledger>(
     mut line: Vec<u8>,
     image: &ImageView<'_>,
-    machine: &Machine<'_, S>,
+    machine: &Machine<'_, S, L>,
     outcome: Outcome,
     tells: bool,
 ) -> Answer

@@ -16,12 +16,14 @@ use crate::fetching::{RunFiles, fetch, fetch_run_files};
 use crate::line::{LINE_ROOM, answer_of, longest_name};
 use crate::refusals::{bad_line, image_line, refuse, too_many};
 use m3_base::{Entry, ScheduleRefusal, read_schedule};
-use m3_heap::SemiSpace;
+use m3_heap::{SemiSpace, Steps};
 use m3_image::ImageView;
-use m3_machine::Machine;
+use m3_machine::{Machine, Stacks};
 use m3_ports::{Shelf, Sink};
 use m3c_words::{Limits, RunOptions};
 use std::alloc::Global;
+use std::marker::Brand;
+use std::sync::ledger::{Blank, Ledger};
 
 // The most bytes of an image.
 const IMAGE_CAP: u64 = 4_294_967_295;
@@ -67,13 +69,18 @@ pub fn schedule_of(
     }
 }
 
-/// Runs an image, and says how that ended. All memory is taken before the first instruction.
-fn run_view<O: Sink>(
+/// Runs an image, and says how that ended. All memory is taken before the first instruction. The
+/// steps of its collections are counted by a ledger of its own.
+fn run_by<O: Sink, L: Ledger>(
     alloc: Global,
     image: ImageView<'_>,
     run: Run<'_>,
     out: &mut O,
+    blank: Blank,
 ) -> Result<Answer, Refusal<'static>>
+    requires name { blank.name ≡ L.name }
+    requires parts { blank.parts ≡ L.parts }
+    requires whole { blank.parts ≡ 1 }
     ensures { Ends (image_view image.entry) (setting_of_run run.entry)
         run.entry.tells_collections (putting O.Sink out.old out.new) result }
 {
@@ -85,7 +92,12 @@ fn run_view<O: Sink>(
         return Err(Refusal::NO_MEMORY);
     };
     let limits = run.limits;
-    let made = Machine::new(alloc, image, run.input, store, limits.stack, limits.threads);
+    let stacks = Stacks {
+        count: limits.threads,
+        words: limits.stack,
+    };
+    let steps = Steps::<L>::new(blank);
+    let made = Machine::new(alloc, image, run.input, store, stacks, steps);
     let Ok(mut machine) = made else {
         return Err(Refusal::NO_MEMORY);
     };
@@ -96,6 +108,19 @@ fn run_view<O: Sink>(
         }
         Err(_) => Err(Refusal::WRITE_FAULT),
     }
+}
+
+/// Runs an image, and says how that ended.
+fn run_view<O: Sink>(
+    alloc: Global,
+    image: ImageView<'_>,
+    run: Run<'_>,
+    out: &mut O,
+) -> Result<Answer, Refusal<'static>>
+    ensures { Ends (image_view image.entry) (setting_of_run run.entry)
+        run.entry.tells_collections (putting O.Sink out.old out.new) result }
+{
+    run_by::<O, Brand>(alloc, image, run, out, Blank::new(1))
 }
 
 /// Runs the image of some bytes, and says how that ended, or why they are no image.

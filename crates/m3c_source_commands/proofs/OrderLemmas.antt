@@ -170,7 +170,7 @@ module _ (files texts : List (List ℕ)) (image switches : List ℕ) (MayRunBy :
 
     runs_answer : (result : Result Answer Refusal) → IsImageOf files texts image → RunsImage image (by_schedule setting schedule) tells out result → ExecsTexts files texts image switches MayRunBy setting tells out result
     runs_answer (Ok a) ok h = answer_ran a.status a.line.items ok h
-    runs_answer (Err r) ok h = h
+    runs_answer (Err r) ok h = h.0
 
     pub execs_ran : (bytes : List ℕ) (told : Bool) (done : Setting) (result : Result Answer Refusal) → bytes ≡ image → told ≡ tells → done ≡ by_schedule setting schedule → IsImageOf files texts image → RunsImage bytes done told out result
         → ExecsTexts files texts image switches MayRunBy setting tells out result

@@ -1,6 +1,7 @@
 use Rattle.std.specs.Prelude.{ℕ, List}
 use Rattle.std.specs.Bool.{OnTrue}
 use Rattle.std.proofs.Common.{subst}
+use Rattle.std.proofs.lemmas.Bool.{OnTrue_at, OnTrue_from}
 use Rattle.std.proofs.Math.Logic.{∥∥₁_elim}
 use Rattle.m3_image_decoded.specs.Ready.{image_of}
 use Rattle.m3_roots.specs.Collected.{Parts, StopsCollection}
@@ -17,3 +18,6 @@ pub returns-clause-whole : goal.returns-clause-whole
 returns-clause-whole g c = λ room.
     let with-globals : List ℕ → Parts = λ globals. record { all = c.args.threads.now; globals = globals; heap = g.S.Store.heap c.args.outside.now.heap.store } in
     subst (λ (globals : List ℕ). OnTrue c.collect.result (StopsCollection (image_of c.args.image.now).program (with-globals globals) → ⊥)) c.deref_mut.ensures.value (c.collect.ensures.whole room)
+
+pub returns-clause-cost : goal.returns-clause-cost
+returns-clause-cost g c = λ room. OnTrue_from c.collect.result _ (λ e collected. OnTrue_at e (c.collect.ensures.cost room) collected.walks collected.framed)

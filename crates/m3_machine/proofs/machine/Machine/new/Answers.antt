@@ -35,14 +35,14 @@ returns-clause-begins g c =
     let p = (image_view c.args.image).program in
     let same = program_is (image_of c.in_ok-image.image) (image_view c.args.image) c.in_ok-constants.constants.items c.in_ok-image.ensures c.in_ok-constants.ensures.loaded in
     let words = c.in_ok-globals.ensures.words ∙ ap (λ (n : ℕ). first_globals n) c.global_words.ensures in
-    let is = first_is p (g.S.Store.heap c.args.store) c.args.threads c.args.stack c.in_ok-threads.threads c.in_ok-globals.globals.items c.in_ok-threads.ensures words in
-    begins_there p _ _ c.stand.new.parts (g.S.Store.heap c.args.store) c.args.threads c.args.stack same is (c.stand.ensures.stands (omega arith)) (main_at_point p c.keeps_its_form.ensures.procs c.keeps_its_form.ensures.sound)
+    let is = first_is p (g.S.Store.heap c.args.store) c.args.stacks.count c.args.stacks.words c.in_ok-threads.threads c.in_ok-globals.globals.items c.args.steps c.in_ok-threads.ensures words c.requires.none in
+    begins_there p _ _ c.stand.new.parts (g.S.Store.heap c.args.store) c.args.stacks.count c.args.stacks.words same is (c.stand.ensures.stands (omega arith)) (main_at_point p c.keeps_its_form.ensures.procs c.keeps_its_form.ensures.sound)
 
 pub returns-clause-ready : goal.returns-clause-ready
 returns-clause-ready g c =
     let p = (image_view c.args.image).program in
     let same = program_is (image_of c.in_ok-image.image) (image_view c.args.image) c.in_ok-constants.constants.items c.in_ok-image.ensures c.in_ok-constants.ensures.loaded in
     let words = c.in_ok-globals.ensures.words ∙ ap (λ (n : ℕ). first_globals n) c.global_words.ensures in
-    let is = first_is p (g.S.Store.heap c.args.store) c.args.threads c.args.stack c.in_ok-threads.threads c.in_ok-globals.globals.items c.in_ok-threads.ensures words in
-    ready_there p _ _ c.stand.new.parts (g.S.Store.heap c.args.store) c.args.threads c.args.stack same (ap (λ (r : Rest). r.program) c.stand.ensures.rest ∙ same) is (ap (λ (r : Rest). r.made) c.stand.ensures.rest) (ap (λ (r : Rest). r.stuck) c.stand.ensures.rest) (ap (λ (r : Rest). r.stack) c.stand.ensures.rest)
+    let is = first_is p (g.S.Store.heap c.args.store) c.args.stacks.count c.args.stacks.words c.in_ok-threads.threads c.in_ok-globals.globals.items c.args.steps c.in_ok-threads.ensures words c.requires.none in
+    ready_there p _ _ c.stand.new.parts (g.S.Store.heap c.args.store) c.args.stacks.count c.args.stacks.words same (ap (λ (r : Rest). r.program) c.stand.ensures.rest ∙ same) is (ap (λ (r : Rest). r.made) c.stand.ensures.rest) (ap (λ (r : Rest). r.stuck) c.stand.ensures.rest) (ap (λ (r : Rest). r.stack) c.stand.ensures.rest)
     (c.stand.ensures.stands (omega arith)) c.requires.some (main_at_point p c.keeps_its_form.ensures.procs c.keeps_its_form.ensures.sound)

@@ -4,10 +4,12 @@ use Rattle.m3_base.specs.declared.outcomes.Outcome.{Outcome}
 use Rattle.m3_base.specs.declared.outcomes.Outcome.TheVariants.{Spent}
 use Rattle.m3_image_sections.specs.Parts.{Program}
 use Rattle.m3_run_meaning.specs.Points.{Says_spent}
+use Rattle.m3_run_meaning.specs.Runs.{starting}
 use Rattle.m3_run_laws.specs.Courses.{IsOther}
 use Rattle.m3_run_state.specs.Seen.{Rest, state_of, program_of}
 use Rattle.m3_machine.specs.RunCalls.{Turned}
 use Rattle.m3_machine.proofs.Taking.{took_nothing, took_more}
+use Rattle.m3_machine.proofs.Cutting.{at_any, stops_later}
 use Rattle.m3_machine.proofs.Turning.{followed, known_so, at_first, at_next, ran_over, ran_out, ready_again}
 use Rattle.m3_machine.proofs.machine.Machine.run.Goals as goal
 
@@ -97,3 +99,15 @@ returns-clause-ready g c = λ spent ready small.
     let so = inv.came ready small in
     let known = known_so m a c.args.schedule.now c.turns.entries.now c.args.points so.0 c.know_image.ensures.begins c.know_image.ensures.short ready small (ap (λ (r : Rest). r.program) inv.rest) (ap (λ (r : Rest). r.input) inv.rest) (ap (λ (r : Rest). r.stack) inv.rest) in
     ready_again m a c.args.schedule.now c.turns.entries.now c.args.points c.turns.left so.0 known so.2
+
+pub returns-in_err-outcome-clause-cut : goal.returns-in_err-outcome-clause-cut
+returns-in_err-outcome-clause-cut g c = at_any _ c.from_residual.result (λ ready small.
+    let m = c.args.self.now.parts in
+    let a = c.turns.self.parts in
+    let s = state_of m in
+    let inv = c.turns.invariant in
+    let so = inv.came ready small in
+    let k = followed m.input.now (s.points + c.args.points) s c.args.schedule.now c.turns.entries.now so.0 in
+    let known = known_so m a c.args.schedule.now c.turns.entries.now c.args.points so.0 c.know_image.ensures.begins c.know_image.ensures.short ready small (ap (λ (r : Rest). r.program) inv.rest) (ap (λ (r : Rest). r.input) inv.rest) (ap (λ (r : Rest). r.stack) inv.rest) in
+    stops_later g.O.Sink (program_of m) m.input.now (s.points + c.args.points) (starting s c.args.schedule.now) [] so.0 c.args.out.now c.turns.out c.next_turn.new.out so.1
+    (c.in_err-outcome.ensures.cut (program_of m) s k known so.2 refl))

@@ -43,7 +43,7 @@ returns-then-done-clause-good g c = λ e going.
     let m = c.args.self.now in
     let room = subst (λ (n : ℕ). IsRoomFor n m.room) (sym going.depth) m.roomy in
     collects (image_of m.image).program (program_of m) (state_of m) _ c.collect_by-done.result c.saturating_add-self.result (image_program m m.loaded) c.if-done.true
-    (c.collect_by-done.ensures.collected room) (c.collect_by-done.ensures.whole room) refl c.saturating_add-self.ensures
+    (c.collect_by-done.ensures.collected room) (c.collect_by-done.ensures.whole room) (c.collect_by-done.ensures.cost room) refl c.saturating_add-self.ensures
 
 pub returns-else-done-clause-bad : goal.returns-else-done-clause-bad
 returns-else-done-clause-bad g c = λ e going.
