@@ -1,5 +1,5 @@
 -- What follows from the words: when status 2 comes, and completeness of `run` and `dump`.
-use Rattle.std.proofs.Common.{◌≡◌, ◌∙◌, ◌==◌, ◌&&◌, ◌⊎◌, ℕ, Bool, cond, true, false, List, [], ◌∷◌, None, Some, refl, sym, ap, subst, inl, inr, arith, codes}
+use Rattle.std.proofs.Common.{◌≡◌, ◌∙◌, ◌==◌, ◌&&◌, ◌⊎◌, ℕ, Bool, cond, true, false, List, [], ◌∷◌, None, Option, Some, refl, sym, ap, subst, inl, inr, arith, codes}
 use Rattle.std.specs.Prelude.{Result, Ok, Err, MatchResult, is_some}
 use Rattle.std.specs.Str.{bytes_eq}
 use Rattle.std.proofs.lemmas.Bool.{false≢true, not-true}
@@ -10,9 +10,11 @@ use Rattle.m3_image_dump.specs.Texts.{IsDump}
 use Rattle.m3c_words.specs.Orders.{Options, Order, build, run, exec, dump}
 use Rattle.m3c_words.specs.Asked.{asked, usual_options}
 use Rattle.m3c_words.proofs.PlainExec.{exec_asked}
+use Rattle.m3c_words_laws.specs.Reads.{AreTexts, Reads}
+use Rattle.m3c_words_laws.proofs.Laws.{asked_reads, reads_asked}
 use Rattle.m3c_image_commands.specs.declared.answers.Answer.{Answer}
 use Rattle.m3c_image_commands.specs.declared.answers.Refusal.{Refusal}
-use Rattle.m3c_image_commands.specs.Statuses.{Shelving, Putting, Took, Tells}
+use Rattle.m3c_image_commands.specs.Statuses.{CountRose, Shelving, Putting, Took, Tells}
 use Rattle.m3c_image_commands.specs.Reports.{Setting, Ended, within}
 use Rattle.m3c_image_commands.specs.ImageCommands.{by_schedule, on_input}
 use Rattle.m3c_image_commands.specs.Complete.{CutsShort}
@@ -48,9 +50,25 @@ exec_words (command ∷ []) name e = absurd cc
 exec_words (command ∷ file ∷ []) name e = two_words command file name (bytes_eq command (codes "exec") && is_name file) refl e
 exec_words (command ∷ file ∷ more ∷ words) name e = absurd cc
 
+-- when status 2 comes, by what the words ask for
+pub record UsageAsked (call : Call) (status : ℕ) : Type 0 where
+  pub only : status ≡ 2 → asked call.words ≡ None
+  pub always : asked call.words ≡ None → (status ≡ 2) ⊎ ((status ≡ 5) ⊎ ((status ≡ 4) × CountRose call.err.faults))
+
+-- and so by the sentences
+pub by_sentences : (call : Call) (status : ℕ) → AreTexts call.words → UsageAsked call status → UsageByWords call status
+by_sentences call status texts u = record {
+  only = λ e order r. some_none order (sym (reads_asked call.words order r) ∙ u.only e);
+  always = λ none. go none (asked call.words) refl;
+}
+  where
+    go : ((order : Order) → Reads call.words order → ⊥) → (o : Option Order) → asked call.words ≡ o → (status ≡ 2) ⊎ ((status ≡ 5) ⊎ ((status ≡ 4) × CountRose call.err.faults))
+    go none None e = u.always e
+    go none (Some order) e = absurd (none order (asked_reads call.words order texts e))
+
 -- such words ask for nothing else
 module _ (call : Call) (status : ℕ) (order : Order) (asks : asked call.words ≡ Some order) where
-  pub usage_never : (status ≡ 2 → ⊥) → UsageByWords call status
+  pub usage_never : (status ≡ 2 → ⊥) → UsageAsked call status
   usage_never other = record { only = λ e. absurd (other e); always = λ none. absurd (some_none order (sym asks ∙ none)) }
 
 pub exec_runs_none : (call : Call) (status : ℕ) (files : List (List ℕ)) (options : Options) → asked call.words ≡ Some (exec files options) → IsRunComplete call status
@@ -68,7 +86,7 @@ exec_builds_none call status files options asks held image name text puts build_
 -- ---- any other command
 
 module _ (call : Call) (status : ℕ) where
-  pub usage_of : Commands call.words call.shelf call.out call.err call.image status → UsageByWords call status
+  pub usage_of : Commands call.words call.shelf call.out call.err call.image status → UsageAsked call status
   usage_of (usage told none s p (inl h)) = record { only = λ e. none; always = λ a. inl h.0 }
   usage_of (usage told none s p (inr h)) = record { only = λ e. none; always = λ a. inr (inr h) }
   usage_of (no_words told s p (inl h)) = record { only = λ e. (let five = h.0 in absurd (omega arith)); always = λ a. inr (inl h.0) }

@@ -22,7 +22,8 @@ use Rattle.m3c_source_commands.proofs.UsageLemmas.{never_usage}
 use Rattle.m3c.specs.Command.{Call, IsSilent, IsRead, Ran, Answers, AnswersOther, IsComplete, NotPlainText, of_words, of_text, IsOther, file_of, Promises, file_cap}
 use Rattle.m3c.proofs.Rows.{row_no_memory, row_write_fault}
 use Rattle.m3c.proofs.Builds.{build_of}
-use Rattle.m3c.proofs.ByWords.{dump_of, exec_builds_none, exec_dumps_none, exec_runs_none, exec_words, run_of, usage_never, usage_of}
+use Rattle.m3c_words_laws.specs.Reads.{AreTexts}
+use Rattle.m3c.proofs.ByWords.{by_sentences, dump_of, exec_builds_none, exec_dumps_none, exec_runs_none, exec_words, run_of, usage_never, usage_of}
 
 or_parts : (a b : Bool) → (a || b) ≡ true → (a ≡ true) ⊎ (b ≡ true)
 or_parts true b e = inl refl
@@ -108,12 +109,12 @@ known_other call status table e =
     let known : IsTrue (list_any (λ s. s == 2) (0 ∷ 3 ∷ 4 ∷ 5 ∷ 6 ∷ 7 ∷ 10 ∷ [])) = subst (λ (n : ℕ). IsTrue (list_any (λ s. s == n) (0 ∷ 3 ∷ 4 ∷ 5 ∷ 6 ∷ 7 ∷ 10 ∷ []))) e table.known in
     false≢true known
 
-pub promised : (call : Call) (status : ℕ) (name : List ℕ) → file_of call.words ≡ Some name → Answers call status → Promises call status
-promised call status name named table =
+pub promised : (call : Call) (status : ℕ) (name : List ℕ) → AreTexts call.words → file_of call.words ≡ Some name → Answers call status → Promises call status
+promised call status name texts named table =
     let asks = exec_words call.words name named in
     record {
       table = inl table;
-      usage = usage_never call status _ asks (known_other call status table);
+      usage = by_sentences call status texts (usage_never call status _ asks (known_other call status table));
       complete = λ files name text puts f h g short p a b c. complete call status table files name text puts f h g short p a b c;
       run_complete = exec_runs_none call status _ _ asks;
       dump_complete = exec_dumps_none call status _ _ asks;
@@ -134,26 +135,26 @@ is_other call status (of_text name s result named text carried told) = inr text
 other_complete : (call : Call) (status : ℕ) → AnswersOther call status → IsComplete call status
 other_complete call status answers files name text puts f h g short p a b c = absurd (not_plain call files name text puts f h g p (is_other call status answers))
 
-pub text_promised_by : (call : Call) (status : ℕ) (name : List ℕ) (result : Result Answer Refusal) → file_of call.words ≡ Some name → call.file ≡ Some name → NotPlainText call.file call.shelf.held.0
+pub text_promised_by : (call : Call) (status : ℕ) (name : List ℕ) (result : Result Answer Refusal) → AreTexts call.words → file_of call.words ≡ Some name → call.file ≡ Some name → NotPlainText call.file call.shelf.held.0
     → Fulfils (exec (name ∷ []) usual_options) call.shelf call.out call.image result → Tells call.err result status → Promises call status
-text_promised_by call status name result words named text carried told =
+text_promised_by call status name result texts words named text carried told =
     let asks = exec_words call.words name words in
     let answers : AnswersOther call status = of_text name status result named text carried told in
     record {
       table = inr answers;
-      usage = usage_never call status _ asks (λ e. never_usage (exec (name ∷ []) usual_options) call.shelf call.out call.err call.image result status carried told e);
+      usage = by_sentences call status texts (usage_never call status _ asks (λ e. never_usage (exec (name ∷ []) usual_options) call.shelf call.out call.err call.image result status carried told e));
       complete = other_complete call status answers;
       run_complete = exec_runs_none call status _ _ asks;
       dump_complete = exec_dumps_none call status _ _ asks;
       build_complete = exec_builds_none call status _ _ asks;
     }
 
-pub words_promised : (call : Call) (status : ℕ) → call.file ≡ None → Commands call.words call.shelf call.out call.err call.image status → Promises call status
-words_promised call status none commands =
+pub words_promised : (call : Call) (status : ℕ) → AreTexts call.words → call.file ≡ None → Commands call.words call.shelf call.out call.err call.image status → Promises call status
+words_promised call status texts none commands =
     let answers : AnswersOther call status = of_words status none commands in
     record {
       table = inr answers;
-      usage = usage_of call status commands;
+      usage = by_sentences call status texts (usage_of call status commands);
       complete = other_complete call status answers;
       run_complete = run_of call status commands;
       dump_complete = dump_of call status commands;
@@ -161,7 +162,7 @@ words_promised call status none commands =
     }
 
 -- memory ran out before anything was done
-pub memory_promised : (call : Call) (status : ℕ) (name : List ℕ) → file_of call.words ≡ Some name → IsSilent call → ((status ≡ 5) × Took call.err.taken (codes "out of memory\n")) ⊎ ((status ≡ 4) × CountRose call.err.faults)
+pub memory_promised : (call : Call) (status : ℕ) (name : List ℕ) → AreTexts call.words → file_of call.words ≡ Some name → IsSilent call → ((status ≡ 5) × Took call.err.taken (codes "out of memory\n")) ⊎ ((status ≡ 4) × CountRose call.err.faults)
     → Promises call status
-memory_promised call status name named silent (inl t) = promised call status name named (subst (λ (s : ℕ). Answers call s) (sym t.0) (row_no_memory call (silent, t.1)))
-memory_promised call status name named silent (inr t) = promised call status name named (subst (λ (s : ℕ). Answers call s) (sym t.0) (row_write_fault call (inr t.1)))
+memory_promised call status name texts named silent (inl t) = promised call status name texts named (subst (λ (s : ℕ). Answers call s) (sym t.0) (row_no_memory call (silent, t.1)))
+memory_promised call status name texts named silent (inr t) = promised call status name texts named (subst (λ (s : ℕ). Answers call s) (sym t.0) (row_write_fault call (inr t.1)))

@@ -1,5 +1,5 @@
 -- `exec FILE` without options: what its file holds decides which rows say what it answers.
-use Rattle.std.proofs.Common.{◌≡◌, ◌∙◌, ◌⊎◌, ℕ, false, List, [], ◌∷◌, Option, None, Some, refl, sym, ap, subst, inl, inr}
+use Rattle.std.proofs.Common.{◌≡◌, ◌∙◌, ◌⊎◌, ℕ, false, List, [], ◌∷◌, Option, None, Some, refl, sym, ap, subst, inl, inr, map}
 use Rattle.std.specs.Prelude.{Result, Ok, Err}
 use Rattle.m3_base.specs.Schedules.{IsSchedule, lines_of}
 use Rattle.m3_base.specs.declared.outcomes.Entry.{Entry}
@@ -8,6 +8,9 @@ use Rattle.m3_image_sections.specs.Parts.{Image}
 use Rattle.m3_image_sections.specs.declared.refusal.ImageRefusal.{ImageRefusal}
 use Rattle.m3_plain_image.specs.Image.{plain_image}
 use Rattle.m3_ports.specs.Files.{Files}
+use Rattle.std.specs.Prelude.{String, string_bytes}
+use Rattle.std.proofs.lemmas.Str.{IsUtf8-string_bytes}
+use Rattle.m3c_words_laws.specs.Reads.{AreTexts}
 use Rattle.m3c_words.specs.Orders.{Order, exec}
 use Rattle.m3c_words.specs.Asked.{usual_options}
 use Rattle.m3c_image_commands.specs.declared.answers.Answer.{Answer}
@@ -93,30 +96,35 @@ refuses_only shelf name out r (inr h) = inr h
 
 -- ---- the command
 
-module _ (call : Call) (name : List ℕ) (words : file_of call.words ≡ Some name) (named : call.file ≡ Some name) (status : ℕ) where
+module _ (call : Call) (name : List ℕ) (words : file_of call.words ≡ Some name) (named : call.file ≡ Some name) (texts : AreTexts call.words) (status : ℕ) where
   exec_promised : (result : Result Answer Refusal) → Fulfils (exec (name ∷ []) usual_options) call.shelf call.out call.image result → Tells call.err result status → Promises call status
   exec_promised (Ok a) h told =
       let g = h.answer in
       elim (answer_row call name named g.0 g.2.0 g.2.1 a.status status a.line.items g.1 g.2.2 g.2.3 g.2.4 told) [
-        | inl table ↦ promised call status name words table
-        | inr text ↦ text_promised_by call status name (Ok a) words named text h told
+        | inl table ↦ promised call status name texts words table
+        | inr text ↦ text_promised_by call status name (Ok a) texts words named text h told
       ]
-  exec_promised (Err r) h told = promised call status name words (row_refused call name r status named (refuses_only call.shelf name call.out r h.refusal) told)
+  exec_promised (Err r) h told = promised call status name texts words (row_refused call name r status named (refuses_only call.shelf name call.out r h.refusal) told)
 
   commanded : Commands call.words call.shelf call.out call.err call.image status → Promises call status
   commanded (usage told none s p says) = absurd (some_none (exec (name ∷ []) usual_options) (sym (exec_words call.words name words) ∙ none))
-  commanded (no_words told s p says) = memory_promised call told name words p says
+  commanded (no_words told s p says) = memory_promised call told name texts words p says
   commanded (carried_out order result told asks h t) =
       let is : order ≡ exec (name ∷ []) usual_options = some_same order (exec (name ∷ []) usual_options) (sym asks ∙ exec_words call.words name words) in
       exec_promised result (subst (λ (o : Order). Fulfils o call.shelf call.out call.image result) is h) t
 
 -- what the words say
-pub command_promised : (call : Call) (status : ℕ) → call.file ≡ file_of call.words → Commands call.words call.shelf call.out call.err call.image status → Promises call status
-command_promised call status is commands = go (file_of call.words) refl
+pub command_promised : (call : Call) (status : ℕ) → AreTexts call.words → call.file ≡ file_of call.words → Commands call.words call.shelf call.out call.err call.image status → Promises call status
+command_promised call status texts is commands = go (file_of call.words) refl
   where
     go : (o : Option (List ℕ)) → file_of call.words ≡ o → Promises call status
-    go None e = words_promised call status (is ∙ e) commands
-    go (Some name) e = commanded call name e (is ∙ e) status commands
+    go None e = words_promised call status texts (is ∙ e) commands
+    go (Some name) e = commanded call name e (is ∙ e) texts status commands
+
+-- the words of a program are texts
+pub are_texts : {Z : Type 0} (words : List (String Z)) → AreTexts (map string_bytes words)
+are_texts [] = tt
+are_texts (word ∷ words) = (IsUtf8-string_bytes word, are_texts words)
 
 -- `exec FILE` stores nothing
 exec_stays : (words : List (List ℕ)) (shelf : Shelving) (out err : Putting) (image name : List ℕ) (status : ℕ) → file_of words ≡ Some name → Commands words shelf out err image status → StoresNothing shelf

@@ -25,8 +25,9 @@ pub use Rattle.m3c_image_commands.specs.Statuses.{CountRose, Took}
 use Rattle.m3c_image_commands.specs.Reports.{Setting, Ended, within, end_status, report}
 use Rattle.m3c_image_commands.specs.ImageCommands.{by_schedule, on_input}
 use Rattle.m3c_image_commands.specs.Complete.{IsHeld, HoldsAll}
-use Rattle.m3c_words.specs.Orders.{Options, build, run, exec, dump}
+use Rattle.m3c_words.specs.Orders.{Options, Order, build, run, exec, dump}
 use Rattle.m3c_words.specs.Asked.{asked, usual_options}
+use Rattle.m3c_words_laws.specs.Reads.{Reads}
 use Rattle.m3c_source_commands.specs.Orders.{Fulfils, Commands, usual_setting}
 
 -- ---- the words
@@ -150,11 +151,11 @@ pub data AnswersOther (call : Call) : ℕ → Type 0 where
 
 -- ---- every command
 
--- status 2 comes exactly by the words: only where they ask for nothing, and there always, unless memory runs out or err
--- fails
+-- status 2 comes exactly by the words: only where the sentences of docs/COMMANDS.md read no command from them, and
+-- there always, unless memory runs out or err fails
 pub record UsageByWords (call : Call) (status : ℕ) : Type 0 where
-  pub only : status ≡ 2 → asked call.words ≡ None
-  pub always : asked call.words ≡ None → (status ≡ 2) ⊎ ((status ≡ 5) ⊎ ((status ≡ 4) × CountRose call.err.faults))
+  pub only : status ≡ 2 → (order : Order) → Reads call.words order → ⊥
+  pub always : ((order : Order) → Reads call.words order → ⊥) → (status ≡ 2) ⊎ ((status ≡ 5) ⊎ ((status ≡ 4) × CountRose call.err.faults))
 
 -- no count of faults rises
 pub record IsCalm (call : Call) : Type 0 where
