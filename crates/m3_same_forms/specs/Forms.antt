@@ -28,6 +28,7 @@ pub record Setting : Type 0 where
 pub record Pair : Type 0 where
   pub left : ℕ
   pub right : ℕ
+  pub left_settings : List Setting
   pub settings : List Setting
   pub knowns : List Known
 

@@ -46,7 +46,7 @@ impl Model for Form {
 }
 
 /// Whether two symbols are one.
-pub(crate) fn same_symbol(left: Symbol, right: Symbol) -> bool
+pub fn same_symbol(left: Symbol, right: Symbol) -> bool
     ensures { result ≡ same_symbols left right }
 {
     match (left, right) {
@@ -247,11 +247,13 @@ impl Model for Setting {
 }
 
 /// A part of a proof. Where the two procedures come to these blocks, each temporary of the right one
-/// that the left one has too is the left one's, but for the settings; and this is known.
+/// that the two have in common is the left one's, but for the settings; what some temporaries of the
+/// left one hold stands beside them; and this is known.
 #[derive(Drop)]
 pub struct Pair {
     pub left: u32,
     pub right: u32,
+    pub left_settings: Vec<Setting>,
     pub settings: Vec<Setting>,
     pub knowns: Vec<Known>,
 }
@@ -262,6 +264,7 @@ impl Model for Pair {
     ghost view = { λ x. record {
       left = x.left;
       right = x.right;
+      left_settings = x.left_settings.items;
       settings = x.settings.items;
       knowns = x.knowns.items;
     } };
