@@ -1,0 +1,17 @@
+//! Computations and checks that are carried out once: an address, a load or a check that was
+//! carried out before on every way is not carried out again.
+#![tactic(auto)]
+
+mod alive;
+mod facts;
+mod flow;
+mod naming;
+mod pairs;
+mod places;
+mod renaming;
+mod rewriting;
+mod sharing;
+mod temps;
+mod walk;
+
+pub use sharing::{Shared, share, try_share};
