@@ -3,15 +3,10 @@
 #![tactic(auto)]
 
 mod alive;
-mod facts;
-mod flow;
-mod naming;
 mod pairs;
-mod places;
 mod renaming;
 mod rewriting;
 mod sharing;
 mod temps;
-mod walk;
 
 pub use sharing::{Shared, share, try_share};

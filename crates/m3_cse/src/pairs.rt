@@ -1,7 +1,6 @@
 //! The proof that the procedure that was written has the same run.
-use crate::facts::{Facts, MANY_ANSWERS, MANY_FACTS};
-use crate::flow::Flow;
 use crate::rewriting::{Rewriting, fact_number};
+use m3_available::{Facts, Flow, MANY_ANSWERS, MANY_FACTS};
 use m3_base::{NoMemory, gap, place_number};
 use m3_flow::Groups;
 use m3_mid::Proc;

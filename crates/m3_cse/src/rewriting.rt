@@ -1,10 +1,8 @@
 //! The blocks written again without what was done before.
-use crate::facts::{Facts, MANY_ANSWERS, MANY_FACTS};
-use crate::flow::{Flow, exit_facts};
 use crate::renaming::Names;
 use crate::temps::Temps;
-use crate::walk::{Step, Walk};
 use bumpalo::Bump;
+use m3_available::{Facts, Flow, MANY_ANSWERS, MANY_FACTS, Step, Walk, exit_facts};
 use m3_base::{NoMemory, place_number};
 use m3_flow::{LiveSets, Pair as Link, end_of, exits_of, ops_of};
 use m3_mid::{Block, End, Kind, MidOp, Proc};

@@ -2,11 +2,11 @@ ghost use Rattle.std.specs.Prelude.{◌≡◌, IfOk, true};
 ghost use Rattle.m3_mid_meaning.specs.Runs.{FollowsRun};
 
 use crate::alive::Alive;
-use crate::flow::Flow;
 use crate::pairs::Needed;
 use crate::rewriting::Rewriting;
 use bumpalo::Bump;
 use bumpalo::collections::into_bump_slice;
+use m3_available::Flow;
 use m3_base::{NoMemory, place_number};
 use m3_flow::{block_order, live_with};
 use m3_mid::{Block, Proc};

@@ -12,14 +12,14 @@ const ROUNDS: u32 = 40;
 
 /// What is known where each block begins, by its number; nothing yet where no way led to it.
 #[derive(Drop)]
-pub(crate) struct Flow {
+pub struct Flow {
     alloc: Global,
     entries: Vec<Option<Facts>>,
     is_open: Vec<bool>,
 }
 
 /// The facts at both exits of a block, where it has them.
-pub(crate) fn exit_facts(
+pub fn exit_facts(
     walk: &mut Walk<'_>,
     live: &LiveSets,
     end: End,
@@ -155,7 +155,7 @@ impl Flow {
     }
 
     /// What is known where a block begins, where some way leads to it.
-    pub(crate) fn entry(&self, block: u32) -> Option<&Facts> {
+    pub fn entry(&self, block: u32) -> Option<&Facts> {
         match self.entries.get(block as usize) {
             Some(Some(facts)) => Some(facts),
             _ => None,
@@ -172,7 +172,7 @@ impl Flow {
     }
 
     /// What is known where the blocks of a procedure begin.
-    pub(crate) fn of(
+    pub fn of(
         alloc: Global,
         p: &Proc<'_>,
         live: &LiveSets,

@@ -14,20 +14,20 @@ const WINDOW: usize = 100;
 /// Where a walk through a block stands: what the temporaries of the two procedures hold, and which
 /// answers are known, newest last.
 #[derive(Drop)]
-pub(crate) struct Walk<'a> {
-    pub alloc: Global,
-    pub slots: &'a [Slot],
-    pub left: Places,
+pub struct Walk<'a> {
+    pub(crate) alloc: Global,
+    slots: &'a [Slot],
+    pub(crate) left: Places,
     pub right: Places,
-    pub answers: Vec<Answer>,
-    pub fresh: u32,
+    pub(crate) answers: Vec<Answer>,
+    fresh: u32,
     /// The facts at the block's entry that were used.
     pub used: Vec<u32>,
 }
 
 /// What an operation did to the left procedure's temporaries.
 #[derive(Drop)]
-pub(crate) enum Step {
+pub enum Step {
     /// It set one to a sum.
     Sum { to: u32, value: Form },
     /// It set one to an answer that is new.
@@ -41,11 +41,8 @@ pub(crate) enum Step {
 }
 
 impl<'a> Walk<'a> {
-    pub(crate) fn new(
-        alloc: Global,
-        slots: &'a [Slot],
-        temps: usize,
-    ) -> Result<Walk<'a>, NoMemory> {
+    /// A walk over the blocks of a procedure with these slots and so many temporaries.
+    pub fn new(alloc: Global, slots: &'a [Slot], temps: usize) -> Result<Walk<'a>, NoMemory> {
         Ok(Walk {
             alloc,
             slots,
@@ -58,7 +55,7 @@ impl<'a> Walk<'a> {
     }
 
     /// Begins a block at which this is known.
-    pub(crate) fn enter(&mut self, facts: &Facts) -> Result<(), NoMemory> {
+    pub fn enter(&mut self, facts: &Facts) -> Result<(), NoMemory> {
         self.left.clear();
         self.right.clear();
         self.answers.clear();
@@ -87,7 +84,7 @@ impl<'a> Walk<'a> {
     }
 
     /// Notes that a fact at the block's entry was used.
-    pub(crate) fn note(&mut self, from: Option<u32>) -> Result<(), NoMemory> {
+    pub fn note(&mut self, from: Option<u32>) -> Result<(), NoMemory> {
         if let Some(fact) = from {
             self.used.push(fact)?;
         }
@@ -245,7 +242,7 @@ impl<'a> Walk<'a> {
     }
 
     /// The left procedure carries out an operation; where it passes a point the right one does too.
-    pub(crate) fn step(&mut self, op: MidOp<'_>) -> Result<Step, NoMemory> {
+    pub fn step(&mut self, op: MidOp<'_>) -> Result<Step, NoMemory> {
         match self.see(op)? {
             Seen::Sets { to, value } => {
                 self.left.set(to, value.copy(self.alloc)?, None, true)?;
@@ -290,7 +287,7 @@ impl<'a> Walk<'a> {
     }
 
     /// The right procedure carries out the same operation.
-    pub(crate) fn follow(&mut self, step: Step) -> Result<(), NoMemory> {
+    pub fn follow(&mut self, step: Step) -> Result<(), NoMemory> {
         match step {
             Step::Sum { to, value } | Step::New { to, value } => {
                 self.right.set(to, value, None, true)

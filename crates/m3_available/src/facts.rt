@@ -5,15 +5,16 @@ use std::alloc::Global;
 
 /// How many answers, and how many temporaries that hold sums, are known at most where a block
 /// begins.
-pub(crate) const MANY_ANSWERS: u32 = 24;
+pub const MANY_ANSWERS: u32 = 24;
 
 pub(crate) const MANY_HELD: u32 = 8;
 /// A number for each of them.
-pub(crate) const MANY_FACTS: u32 = 32;
+pub const MANY_FACTS: u32 = 32;
 
-/// A question with its answer.
+/// A question with its answer, by what the temporaries of the left procedure held where the block
+/// began (m3_same_run).
 #[derive(Drop)]
-pub(crate) struct Answer {
+pub struct Answer {
     pub query: Query,
     pub value: Form,
     /// The fact at the block's entry that it was.
@@ -22,9 +23,9 @@ pub(crate) struct Answer {
     pub is_near: bool,
 }
 
-/// What a temporary holds.
+/// A sum that a temporary holds.
 #[derive(Drop)]
-pub(crate) struct Held {
+pub struct Held {
     pub temp: u32,
     pub value: Form,
     pub from: Option<u32>,
@@ -33,7 +34,7 @@ pub(crate) struct Held {
 
 /// What is known where a block begins.
 #[derive(Drop)]
-pub(crate) struct Facts {
+pub struct Facts {
     pub answers: Vec<Answer>,
     pub held: Vec<Held>,
 }
@@ -94,7 +95,8 @@ impl Answer {
 }
 
 impl Facts {
-    pub(crate) fn none(alloc: Global) -> Facts {
+    /// Nothing is known.
+    pub fn none(alloc: Global) -> Facts {
         Facts {
             answers: Vec::new(alloc),
             held: Vec::new(alloc),
@@ -102,7 +104,7 @@ impl Facts {
     }
 
     /// The answer to the same question, where it is the same.
-    pub(crate) fn same_answer(&self, answer: &Answer) -> Option<&Answer> {
+    pub fn same_answer(&self, answer: &Answer) -> Option<&Answer> {
         for other in &self.answers {
             if same_question(&other.query, &answer.query) {
                 if same_terms(&other.value, &answer.value) {
@@ -115,7 +117,7 @@ impl Facts {
     }
 
     /// What the same temporary holds, where it is the same.
-    pub(crate) fn same_held(&self, held: &Held) -> Option<&Held> {
+    pub fn same_held(&self, held: &Held) -> Option<&Held> {
         for other in &self.held {
             if other.temp == held.temp && same_terms(&other.value, &held.value) {
                 return Some(other);

@@ -7,9 +7,10 @@ use std::alloc::Global;
 /// How far is looked back for a temporary that holds something.
 const WINDOW: usize = 200;
 
-/// What was set since the block began, and by temporary the place of the newest, and 1 more.
+/// What the temporaries of one procedure hold: what was set since the block began, and by temporary
+/// the place of the newest of that, and 1 more.
 #[derive(Drop)]
-pub(crate) struct Places {
+pub struct Places {
     at: Vec<u32>,
     pub(crate) held: Vec<Held>,
 }
@@ -73,7 +74,7 @@ impl Places {
     }
 
     /// What holds a form that was set since the block began.
-    pub(crate) fn holder(&self, value: &Form) -> Option<&Held> {
+    pub fn holder(&self, value: &Form) -> Option<&Held> {
         for back in 1..WINDOW {
             let place = self.held.len().checked_sub(back)?;
             let held = self.held.get(place)?;
@@ -85,7 +86,7 @@ impl Places {
     }
 
     /// The temporary that a form is since the block began.
-    pub(crate) fn unset(&self, value: &Form) -> Option<u32> {
+    pub fn unset(&self, value: &Form) -> Option<u32> {
         match only_symbol(value) {
             Some(Symbol::Left(temp)) if !self.is_set(temp) => Some(temp),
             _ => None,
