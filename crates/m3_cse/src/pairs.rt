@@ -1,7 +1,7 @@
 //! The proof that the procedure that was written has the same run.
 use crate::rewriting::{Rewriting, fact_number};
 use m3_available::{Facts, Flow, MANY_ANSWERS, MANY_FACTS};
-use m3_base::{NoMemory, gap, place_number};
+use m3_base::{NoMemory, place_number};
 use m3_flow::Groups;
 use m3_mid::Proc;
 use m3_same_forms::{Known, Pair, Setting, copied};
@@ -44,17 +44,15 @@ impl Needed {
         for fact in &rewriting.used {
             needed.need(*fact)?;
         }
-        for _step in 0..u64::MAX {
-            match needed.open.pop() {
-                None => return Ok(needed),
-                Some(fact) => {
-                    for before in from.row(fact) {
-                        needed.need(*before)?;
-                    }
+        // Each fact is open once.
+        for _step in 0..count {
+            if let Some(fact) = needed.open.pop() {
+                for before in from.row(fact) {
+                    needed.need(*before)?;
                 }
             }
         }
-        Err(gap())
+        Ok(needed)
     }
 
     /// What temporaries hold at the entry of a block, as far as the proof needs it.
