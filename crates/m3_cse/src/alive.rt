@@ -14,7 +14,7 @@ pub(crate) struct Alive {
 }
 
 /// The temporary that an operation sets that does nothing else.
-fn only_set(op: MidOp<'_>) -> Option<u32> {
+pub(crate) fn only_set(op: MidOp<'_>) -> Option<u32> {
     match op {
         MidOp::Number { to, .. }
         | MidOp::Move { to, .. }

@@ -3,6 +3,7 @@
 #![tactic(auto)]
 
 mod alive;
+mod marks;
 mod pairs;
 mod renaming;
 mod rewriting;

@@ -2,6 +2,7 @@ ghost use Rattle.std.specs.Prelude.{◌≡◌, IfOk, true};
 ghost use Rattle.m3_mid_meaning.specs.Runs.{FollowsRun};
 
 use crate::alive::Alive;
+use crate::marks::loops_of;
 use crate::pairs::Needed;
 use crate::rewriting::Rewriting;
 use bumpalo::Bump;
@@ -113,7 +114,13 @@ fn written<'a>(alloc: Global, arena: &'a Bump, p: &Proc<'a>) -> Result<Shared<'a
     let common = common_of(alloc, p, &rewriting, &alive)?;
     let needed = Needed::of(alloc, p.blocks.len(), &rewriting)?;
     let pairs = needed.pairs(alloc, p, &flow, &common)?;
-    judged(alloc, p, Proc { blocks, ..*p }, &common, &pairs)
+    let loops = loops_of(alloc, arena, p, &rewriting, blocks)?;
+    let shared = Proc {
+        blocks,
+        loops,
+        ..*p
+    };
+    judged(alloc, p, shared, &common, &pairs)
 }
 
 /// The same procedure with computations and checks shared, which follows it: each defined run of
@@ -123,7 +130,7 @@ pub fn try_share<'a>(alloc: Global, arena: &'a Bump, p: &Proc<'a>) -> Result<Sha
     ensures follows { IfOk result (λ s. FollowsRun p.now s.proc) }
     ensures given_back { IfOk result (λ s. s.is_refused ≡ true → s.proc ≡ p.now) }
 {
-    if has_long_block(p) || !p.loops.is_empty() {
+    if has_long_block(p) {
         Ok(unchanged(p))
     } else {
         written(alloc, arena, p)
