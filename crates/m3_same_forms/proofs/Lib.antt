@@ -2,5 +2,6 @@ pub mod Codes
 pub mod Sums
 pub mod Seeing
 pub mod Knowing
+pub mod Marks
 pub mod Events
 pub mod Differ

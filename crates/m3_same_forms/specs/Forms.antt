@@ -1,5 +1,6 @@
 -- Forms, and how they are added.
 use Rattle.std.specs.Prelude.{ℕ, ◌+◌, ◌*◌, ◌-◌, ◌%◌, ◌^◌, ◌==◌, Bool, true, false, List, [], ◌∷◌, if◌then◌else◌}
+use Rattle.m3_base.specs.Words.{add_words, mul_words}
 use Rattle.m3_same_forms.specs.declared.forms.Symbol.{Symbol}
 use Rattle.m3_same_forms.specs.declared.forms.Symbol.TheVariants as symbols
 use Rattle.m3_same_forms.specs.declared.forms.Term.{Term}
@@ -28,6 +29,7 @@ pub record Setting : Type 0 where
 pub record Pair : Type 0 where
   pub left : ℕ
   pub right : ℕ
+  pub left_settings : List Setting
   pub settings : List Setting
   pub knowns : List Known
 
@@ -70,6 +72,25 @@ is_none (x ∷ xs) = false
 -- whether the difference falls away
 abbrev pub same_form : Form → Form → Bool
 same_form a b = is_none (merge (opposite b) a)
+
+-- ---- a number by which most forms that differ are told apart
+
+abbrev pub weight : Symbol → ℕ
+weight symbols.One = 1
+weight symbols.Frame = 1000003
+weight symbols.Globals = 2000029
+weight (symbols.Text n) = n * 2654435761 + 3
+weight (symbols.Constant n) = n * 2246822519 + 5
+weight (symbols.Left t) = t * 3266489917 + 7
+weight (symbols.Right t) = t * 668265263 + 11
+weight (symbols.New n) = n * 374761393 + 13
+
+abbrev pub mark_onto : ℕ → Form → ℕ
+mark_onto out [] = out
+mark_onto out (x ∷ xs) = mark_onto (add_words out (mul_words x.times (weight x.symbol))) xs
+
+abbrev pub mark : Form → ℕ
+mark xs = mark_onto 0 xs
 
 abbrev pub of_symbol : Symbol → Form
 of_symbol s = record { symbol = s; times = 1 } ∷ []

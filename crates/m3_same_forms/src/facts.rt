@@ -37,10 +37,13 @@ pub fn copied(alloc: Global, query: &Query) -> Result<Query, AllocError>
 fn same_query(alloc: Global, left: &Query, right: &Query) -> Result<bool, AllocError>
     ensures { IfOk result (λ b. b ≡ facts.same_query left.now right.now) }
 {
-    let is_first = left.first.is_same(alloc, &right.first)?;
-    let is_second = left.second.is_same(alloc, &right.second)?;
-    let is_third = left.third.is_same(alloc, &right.third)?;
-    Ok(same_tag(left.tag, right.tag) && is_first && is_second && is_third)
+    if !same_tag(left.tag, right.tag) || !left.first.is_same(alloc, &right.first)? {
+        return Ok(false);
+    }
+    if !left.second.is_same(alloc, &right.second)? {
+        return Ok(false);
+    }
+    left.third.is_same(alloc, &right.third)
 }
 
 /// The answer to a question, where it is known.
@@ -81,7 +84,8 @@ pub fn holds(
     is_form(alloc, &one, &found)
 }
 
-fn is_lasting(tag: Tag) -> bool
+/// Whether an answer to such a question lasts when memory changes.
+pub fn is_lasting(tag: Tag) -> bool
     ensures { result ≡ lasts tag }
 {
     match tag {
@@ -99,7 +103,8 @@ fn is_lasting(tag: Tag) -> bool
     }
 }
 
-fn is_other(slot: u32, tag: Tag) -> bool
+/// Whether an answer to such a question lasts when a slot of the activation's own gets a word.
+pub fn is_other(slot: u32, tag: Tag) -> bool
     ensures { result ≡ is_other_slot slot tag }
 {
     match tag {

@@ -4,8 +4,8 @@ ghost use Rattle.m3_same_forms.specs.Forms.{Known as KnownValue, Setting as Sett
 ghost use Rattle.m3_same_forms.specs.Forms.{Query as QueryValue, Pair as PairValue};
 ghost use Rattle.m3_same_forms.specs.declared.forms.Term.{Term as TermValue};
 ghost use Rattle.m3_same_forms.specs.Forms.{same_symbol as same_symbols, insert, merge, scaled};
-ghost use Rattle.m3_same_forms.specs.Forms.{same_form, of_symbol, of_number, behind};
-ghost use Rattle.std.specs.Prelude.{List, [], ◌≡◌, IfOk};
+ghost use Rattle.m3_same_forms.specs.Forms.{same_form, weight, mark, of_symbol, of_number, behind};
+ghost use Rattle.std.specs.Prelude.{List, [], ◌≡◌, ◌==◌, IfOk};
 
 use m3_mid::{CheckedOperator, Relation, WordOperator};
 use std::alloc::{AllocError, Global};
@@ -46,7 +46,7 @@ impl Model for Form {
 }
 
 /// Whether two symbols are one.
-pub(crate) fn same_symbol(left: Symbol, right: Symbol) -> bool
+pub fn same_symbol(left: Symbol, right: Symbol) -> bool
     ensures { result ≡ same_symbols left right }
 {
     match (left, right) {
@@ -62,7 +62,41 @@ pub(crate) fn same_symbol(left: Symbol, right: Symbol) -> bool
     }
 }
 
+// The weight of a symbol in the mark of a form.
+fn weight_of(symbol: Symbol) -> u64
+    ensures { result ≡ weight symbol }
+{
+    match symbol {
+        Symbol::One => 1,
+        Symbol::Frame => 1_000_003,
+        Symbol::Globals => 2_000_029,
+        Symbol::Text(n) => u64::from(n) * 2_654_435_761 + 3,
+        Symbol::Constant(n) => u64::from(n) * 2_246_822_519 + 5,
+        Symbol::Left(t) => u64::from(t) * 3_266_489_917 + 7,
+        Symbol::Right(t) => u64::from(t) * 668_265_263 + 11,
+        Symbol::New(n) => u64::from(n) * 374_761_393 + 13,
+    }
+}
+
 impl Form {
+    // A number by which most forms that differ are told apart.
+    fn mark(&self) -> u64
+        ensures { result ≡ mark self.now }
+    {
+        let mut out = 0u64;
+        for term in &self.terms {
+            out = out.wrapping_add(term.times.wrapping_mul(weight_of(term.symbol)));
+        }
+        out
+    }
+
+    // Whether the marks of two forms are one.
+    fn has_same_mark(&self, other: &Form) -> bool
+        ensures { result ≡ (mark self.now == mark other.now) }
+    {
+        self.mark() == other.mark()
+    }
+
     /// The number 0.
     pub fn none(alloc: Global) -> Form
         ensures { result ≡ [] }
@@ -172,6 +206,9 @@ impl Form {
     pub fn is_same(&self, alloc: Global, other: &Form) -> Result<bool, AllocError>
         ensures { IfOk result (λ b. b ≡ same_form self.now other.now) }
     {
+        if !self.has_same_mark(other) {
+            return Ok(false);
+        }
         let opposite = other.scaled(alloc, u64::MAX)?;
         let difference = opposite.merge(alloc, self.copy(alloc)?)?;
         Ok(difference.terms.is_empty())
@@ -247,11 +284,13 @@ impl Model for Setting {
 }
 
 /// A part of a proof. Where the two procedures come to these blocks, each temporary of the right one
-/// that the left one has too is the left one's, but for the settings; and this is known.
+/// that the two have in common is the left one's, but for the settings; what some temporaries of the
+/// left one hold stands beside them; and this is known.
 #[derive(Drop)]
 pub struct Pair {
     pub left: u32,
     pub right: u32,
+    pub left_settings: Vec<Setting>,
     pub settings: Vec<Setting>,
     pub knowns: Vec<Known>,
 }
@@ -262,6 +301,7 @@ impl Model for Pair {
     ghost view = { λ x. record {
       left = x.left;
       right = x.right;
+      left_settings = x.left_settings.items;
       settings = x.settings.items;
       knowns = x.knowns.items;
     } };

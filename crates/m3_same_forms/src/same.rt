@@ -159,7 +159,7 @@ pub fn same_deed(left: Deed, right: Deed) -> bool
 }
 
 /// Whether two tags are one.
-pub(crate) fn same_tag(left: Tag, right: Tag) -> bool
+pub fn same_tag(left: Tag, right: Tag) -> bool
     ensures { result ≡ same.same_tag left right }
 {
     tag_place(left) == tag_place(right) && tag_detail(left) == tag_detail(right)

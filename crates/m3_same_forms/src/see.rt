@@ -1,5 +1,6 @@
 //! What each operation does, by forms.
 
+ghost use Rattle.std.specs.Option.{option_copied};
 ghost use Rattle.std.specs.Prelude.{◌≡◌, IfOk};
 ghost use Rattle.m3_same_forms.specs.Sides.{form_at};
 ghost use Rattle.m3_same_forms.specs.Seen as seen;
@@ -13,7 +14,7 @@ use std::alloc::AllocError;
 impl<'s> Side<'s> {
     fn see_three(self, to: u32, left: u32, right: u32, words: Operand) -> Result<Seen, AllocError>
         ensures { IfOk result (λ s. s
-            ≡ seen.computes_three (form_at self.entry.limit self.entry.settings.now) to left right words) }
+            ≡ seen.computes_three (form_at (option_copied self.entry.common) self.entry.settings.now) to left right words) }
     {
         Ok(Seen::Computes {
             to,
@@ -28,7 +29,7 @@ impl<'s> Side<'s> {
 
     fn see_copy(self, to: u32, from: u32, words: Operand) -> Result<Seen, AllocError>
         ensures { IfOk result (λ s. s
-            ≡ seen.copies (form_at self.entry.limit self.entry.settings.now) to from words) }
+            ≡ seen.copies (form_at (option_copied self.entry.common) self.entry.settings.now) to from words) }
     {
         Ok(Seen::Changes {
             deed: Deed::Copy,
@@ -40,7 +41,7 @@ impl<'s> Side<'s> {
 
     fn see_fill(self, at: u32, words: Operand, distance: Operand) -> Result<Seen, AllocError>
         ensures { IfOk result (λ s. s
-            ≡ seen.fills (form_at self.entry.limit self.entry.settings.now) at words distance) }
+            ≡ seen.fills (form_at (option_copied self.entry.common) self.entry.settings.now) at words distance) }
     {
         Ok(Seen::Changes {
             deed: Deed::Fill,
@@ -59,7 +60,7 @@ impl<'s> Side<'s> {
     /// What an operation does in a frame with these slots.
     pub fn see(self, slots: &[Slot], op: &MidOp<'_>) -> Result<Seen, AllocError>
         ensures { IfOk result (λ s. s
-            ≡ seen.seen slots.now (form_at self.entry.limit self.entry.settings.now) op.now) }
+            ≡ seen.seen slots.now (form_at (option_copied self.entry.common) self.entry.settings.now) op.now) }
     {
         let alloc = self.alloc;
         match op {

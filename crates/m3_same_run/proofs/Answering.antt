@@ -1,5 +1,5 @@
 -- What an answer sets in both procedures fits.
-use Rattle.std.proofs.Common.{◌≡◌, ℕ, suc, sym, ◌∙◌, subst}
+use Rattle.std.proofs.Common.{◌≡◌, ℕ, suc, Bool, List, sym, ◌∙◌, subst}
 use Rattle.std.specs.Prelude.{◌==◌, not, Option, Some, None}
 use Rattle.m3_isa.specs.Arithmetic.{flag}
 use Rattle.m3_mid.specs.declared.calls.Raised.{Raised}
@@ -20,7 +20,7 @@ use Rattle.m3_same_run.proofs.Fitting.{fits_left, fits_right, fits_new, fits_mem
 abbrev pub alerted : Answer → Word
 alerted answer = number (flag (not (answer.exception == 0)))
 
-module _ (around : Around) (limit : ℕ) where
+module _ (around : Around) (common : List Bool) where
   -- ---- words that an answer has
 
   abbrev pub v1 : (Symbol → Word) → ℕ → Answer → Symbol → Word
@@ -42,18 +42,18 @@ module _ (around : Around) (limit : ℕ) where
   abbrev pub behind_point : Standing → Standing
   behind_point st = new_word (new_word (new_word (new_word (new_word (forget lasts st)))))
 
-  pub fits_answer : (v : Symbol → Word) (st : Standing) (s s' : State) (m : Memory) (answer : Answer) → Fits around limit v st s s' → Fits around limit (v5 v st.fresh answer) (behind_point st) (with_memory s m) (with_memory s' m)
+  pub fits_answer : (v : Symbol → Word) (st : Standing) (s s' : State) (m : Memory) (answer : Answer) → Fits around common v st s s' → Fits around common (v5 v st.fresh answer) (behind_point st) (with_memory s m) (with_memory s' m)
   fits_answer v st s s' m answer fits =
       let n = st.fresh in
       let t = with_memory s m in
       let t' = with_memory s' m in
       let st0 = forget lasts st in
-      let f0 = fits_memory around limit v st s s' fits m in
-      let f1 = fits_new around limit v st0 t t' f0 (normal answer.result) (times_normal 1 answer.result) in
-      let f2 = fits_new around limit (v1 v n answer) (new_word st0) t t' f1 (number answer.exception) (number_normal answer.exception) in
-      let f3 = fits_new around limit (v2 v n answer) (new_word (new_word st0)) t t' f2 (normal answer.number) (times_normal 1 answer.number) in
-      let f4 = fits_new around limit (v3 v n answer) (new_word (new_word (new_word st0))) t t' f3 (normal answer.tidy) (times_normal 1 answer.tidy) in
-      fits_new around limit (v4 v n answer) (new_word (new_word (new_word (new_word st0)))) t t' f4 (alerted answer) (number_normal (flag (not (answer.exception == 0))))
+      let f0 = fits_memory around common v st s s' fits m in
+      let f1 = fits_new around common v st0 t t' f0 (normal answer.result) (times_normal 1 answer.result) in
+      let f2 = fits_new around common (v1 v n answer) (new_word st0) t t' f1 (number answer.exception) (number_normal answer.exception) in
+      let f3 = fits_new around common (v2 v n answer) (new_word (new_word st0)) t t' f2 (normal answer.number) (times_normal 1 answer.number) in
+      let f4 = fits_new around common (v3 v n answer) (new_word (new_word (new_word st0))) t t' f3 (normal answer.tidy) (times_normal 1 answer.tidy) in
+      fits_new around common (v4 v n answer) (new_word (new_word (new_word (new_word st0)))) t t' f4 (alerted answer) (number_normal (flag (not (answer.exception == 0))))
 
   module _ (v : Symbol → Word) (n : ℕ) (answer : Answer) where
     abbrev pub five : ℕ
@@ -106,16 +106,16 @@ module _ (around : Around) (limit : ℕ) where
   -- ---- temporaries that are set, where any is
 
   module _ (v : Symbol → Word) where
-    pub told_left : (st : Standing) (s s' : State) → Fits around limit v st s s' → (to : Option ℕ) (k : ℕ) (w : Word) → Means v st.fresh (newest k) (normal w) → Fits around limit v (record st { left = told to k st.left }) (state_with_any s to w) s'
+    pub told_left : (st : Standing) (s s' : State) → Fits around common v st s s' → (to : Option ℕ) (k : ℕ) (w : Word) → Means v st.fresh (newest k) (normal w) → Fits around common v (record st { left = told to k st.left }) (state_with_any s to w) s'
     told_left st s s' fits None k w m = fits
-    told_left st s s' fits (Some to) k w m = fits_left around limit v st s s' fits to (newest k) w m
+    told_left st s s' fits (Some to) k w m = fits_left around common v st s s' fits to (newest k) w m
 
-    pub told_right : (st : Standing) (s s' : State) → Fits around limit v st s s' → (to : Option ℕ) (k : ℕ) (w : Word) → Means v st.fresh (newest k) (normal w) → Fits around limit v (record st { right = told to k st.right }) s (state_with_any s' to w)
+    pub told_right : (st : Standing) (s s' : State) → Fits around common v st s s' → (to : Option ℕ) (k : ℕ) (w : Word) → Means v st.fresh (newest k) (normal w) → Fits around common v (record st { right = told to k st.right }) s (state_with_any s' to w)
     told_right st s s' fits None k w m = fits
-    told_right st s s' fits (Some to) k w m = fits_right around limit v st s s' fits to (newest k) w m
+    told_right st s s' fits (Some to) k w m = fits_right around common v st s s' fits to (newest k) w m
 
     module _ (n : ℕ) (answer : Answer) (fresh : ℕ) (e : Means v fresh (newest (suc n)) (normal (number answer.exception))) (m : Means v fresh (newest (suc (suc n))) (normal answer.number)) (t : Means v fresh (newest (suc (suc (suc n)))) (normal answer.tidy)) where
-      pub raised_left : (st : Standing) (s s' : State) → st.fresh ≡ fresh → Fits around limit v st s s' → (raised : Option Raised) → Fits around limit v (record st { left = told_raised raised (suc n) (suc (suc n)) (suc (suc (suc n))) st.left }) (state_with_raised s raised answer) s'
+      pub raised_left : (st : Standing) (s s' : State) → st.fresh ≡ fresh → Fits around common v st s s' → (raised : Option Raised) → Fits around common v (record st { left = told_raised raised (suc n) (suc (suc n)) (suc (suc (suc n))) st.left }) (state_with_raised s raised answer) s'
       raised_left st s s' same fits None = fits
       raised_left st s s' same fits (Some raised) =
           let back : (a : Form) (w : Word) → Means v fresh a w → Means v st.fresh a w = λ a w x. subst (λ z. Means v z a w) (sym same) x in
@@ -123,11 +123,11 @@ module _ (around : Around) (limit : ℕ) where
           let s2 = state_with s1 raised.number answer.number in
           let st1 = set_left st raised.exception (newest (suc n)) in
           let st2 = set_left st1 raised.number (newest (suc (suc n))) in
-          let f1 = fits_left around limit v st s s' fits raised.exception (newest (suc n)) (number answer.exception) (back (newest (suc n)) (normal (number answer.exception)) e) in
-          let f2 = fits_left around limit v st1 s1 s' f1 raised.number (newest (suc (suc n))) answer.number (back (newest (suc (suc n))) (normal answer.number) m) in
-          fits_left around limit v st2 s2 s' f2 raised.tidy (newest (suc (suc (suc n)))) answer.tidy (back (newest (suc (suc (suc n)))) (normal answer.tidy) t)
+          let f1 = fits_left around common v st s s' fits raised.exception (newest (suc n)) (number answer.exception) (back (newest (suc n)) (normal (number answer.exception)) e) in
+          let f2 = fits_left around common v st1 s1 s' f1 raised.number (newest (suc (suc n))) answer.number (back (newest (suc (suc n))) (normal answer.number) m) in
+          fits_left around common v st2 s2 s' f2 raised.tidy (newest (suc (suc (suc n)))) answer.tidy (back (newest (suc (suc (suc n)))) (normal answer.tidy) t)
 
-      pub raised_right : (st : Standing) (s s' : State) → st.fresh ≡ fresh → Fits around limit v st s s' → (raised : Option Raised) → Fits around limit v (record st { right = told_raised raised (suc n) (suc (suc n)) (suc (suc (suc n))) st.right }) s (state_with_raised s' raised answer)
+      pub raised_right : (st : Standing) (s s' : State) → st.fresh ≡ fresh → Fits around common v st s s' → (raised : Option Raised) → Fits around common v (record st { right = told_raised raised (suc n) (suc (suc n)) (suc (suc (suc n))) st.right }) s (state_with_raised s' raised answer)
       raised_right st s s' same fits None = fits
       raised_right st s s' same fits (Some raised) =
           let back : (a : Form) (w : Word) → Means v fresh a w → Means v st.fresh a w = λ a w x. subst (λ z. Means v z a w) (sym same) x in
@@ -135,6 +135,6 @@ module _ (around : Around) (limit : ℕ) where
           let s2 = state_with s1 raised.number answer.number in
           let st1 = set_right st raised.exception (newest (suc n)) in
           let st2 = set_right st1 raised.number (newest (suc (suc n))) in
-          let f1 = fits_right around limit v st s s' fits raised.exception (newest (suc n)) (number answer.exception) (back (newest (suc n)) (normal (number answer.exception)) e) in
-          let f2 = fits_right around limit v st1 s s1 f1 raised.number (newest (suc (suc n))) answer.number (back (newest (suc (suc n))) (normal answer.number) m) in
-          fits_right around limit v st2 s s2 f2 raised.tidy (newest (suc (suc (suc n)))) answer.tidy (back (newest (suc (suc (suc n)))) (normal answer.tidy) t)
+          let f1 = fits_right around common v st s s' fits raised.exception (newest (suc n)) (number answer.exception) (back (newest (suc n)) (normal (number answer.exception)) e) in
+          let f2 = fits_right around common v st1 s s1 f1 raised.number (newest (suc (suc n))) answer.number (back (newest (suc (suc n))) (normal answer.number) m) in
+          fits_right around common v st2 s s2 f2 raised.tidy (newest (suc (suc (suc n)))) answer.tidy (back (newest (suc (suc (suc n)))) (normal answer.tidy) t)

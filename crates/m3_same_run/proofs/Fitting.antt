@@ -28,8 +28,8 @@ means_if v n a b w x true h i = h
 means_if v n a b w x false h i = i
 
 -- a temporary is set, and its form too
-pub set_mean : (v : Symbol → Word) (n : ℕ) (limit : Option ℕ) (xs : List Setting) (s : State) (to : ℕ) (a : Form) (w : Word) → AllMean v n (form_at limit xs) s.temps → Means v n a (normal w) → AllMean v n (form_at limit (setting to a xs)) (state_with s to w).temps
-set_mean v n limit xs s to a w h m t = means_if v n a (form_at limit xs t) (normal w) (s.temps t) (t == to) m (h t)
+pub set_mean : (v : Symbol → Word) (n : ℕ) (common : Option (List Bool)) (xs : List Setting) (s : State) (to : ℕ) (a : Form) (w : Word) → AllMean v n (form_at common xs) s.temps → Means v n a (normal w) → AllMean v n (form_at common (setting to a xs)) (state_with s to w).temps
+set_mean v n common xs s to a w h m t = means_if v n a (form_at common xs t) (normal w) (s.temps t) (t == to) m (h t)
 
 itself : (n : ℕ) → (n == n) ≡ true
 itself n = grind (arith, nat_tests)
@@ -52,8 +52,8 @@ module _ (around : Around) where
     constant = ws.constant;
   }
 
-  module _ (limit : ℕ) (v : Symbol → Word) (st : Standing) (s s' : State) (fits : Fits around limit v st s s') where
-    pub fits_left : (to : ℕ) (a : Form) (w : Word) → Means v st.fresh a (normal w) → Fits around limit v (set_left st to a) (state_with s to w) s'
+  module _ (common : List Bool) (v : Symbol → Word) (st : Standing) (s s' : State) (fits : Fits around common v st s s') where
+    pub fits_left : (to : ℕ) (a : Form) (w : Word) → Means v st.fresh a (normal w) → Fits around common v (set_left st to a) (state_with s to w) s'
     fits_left to a w h = record {
       words = fits.words;
       left = set_mean v st.fresh None st.left s to a w fits.left h;
@@ -62,35 +62,35 @@ module _ (around : Around) where
       knowns = fits.knowns;
     }
 
-    pub fits_right : (to : ℕ) (a : Form) (w : Word) → Means v st.fresh a (normal w) → Fits around limit v (set_right st to a) s (state_with s' to w)
+    pub fits_right : (to : ℕ) (a : Form) (w : Word) → Means v st.fresh a (normal w) → Fits around common v (set_right st to a) s (state_with s' to w)
     fits_right to a w h = record {
       words = fits.words;
       left = fits.left;
-      right = set_mean v st.fresh (Some limit) st.right s' to a w fits.right h;
+      right = set_mean v st.fresh (Some common) st.right s' to a w fits.right h;
       rest = ap (λ z. with_temps z (state_with s' to w).temps) fits.rest;
       knowns = fits.knowns;
     }
 
-    pub fits_at : (rest : List MidOp) → Fits around limit v (at_ops st rest) s s'
+    pub fits_at : (rest : List MidOp) → Fits around common v (at_ops st rest) s s'
     fits_at rest = record { words = fits.words; left = fits.left; right = fits.right; rest = fits.rest; knowns = fits.knowns }
 
-    pub fits_in : (rest : List MidOp) (end : End) → Fits around limit v (record st { ops = rest; end = end }) s s'
+    pub fits_in : (rest : List MidOp) (end : End) → Fits around common v (record st { ops = rest; end = end }) s s'
     fits_in rest end = record { words = fits.words; left = fits.left; right = fits.right; rest = fits.rest; knowns = fits.knowns }
 
-    pub fits_learn : (x : Query) (a : Form) → OldQuery st.fresh x → Old st.fresh a → Says around v s.own s.environment s.memory x a → Fits around limit v (learn st x a) s s'
+    pub fits_learn : (x : Query) (a : Form) → OldQuery st.fresh x → Old st.fresh a → Says around v s.own s.environment s.memory x a → Fits around common v (learn st x a) s s'
     fits_learn x a o p h = record { words = fits.words; left = fits.left; right = fits.right; rest = fits.rest; knowns = (o, p, h, fits.knowns) }
 
-    pub fits_new : (w : Word) → IsNormal w → Fits around limit (with_new v st.fresh w) (new_word st) s s'
+    pub fits_new : (w : Word) → IsNormal w → Fits around common (with_new v st.fresh w) (new_word st) s s'
     fits_new w h = record {
       words = words_new v st.fresh w h fits.words;
       left = λ t. means_still v st.fresh w (left_form st t) (s.temps t) (fits.left t);
-      right = λ t. means_still v st.fresh w (right_form limit st t) (s'.temps t) (fits.right t);
+      right = λ t. means_still v st.fresh w (right_form common st t) (s'.temps t) (fits.right t);
       rest = fits.rest;
       knowns = true_still around v st.fresh w s.own s.environment s.memory st.knowns fits.knowns;
     }
 
     -- both have another memory
-    pub fits_memory : (m : Memory) → Fits around limit v (forget lasts st) (with_memory s m) (with_memory s' m)
+    pub fits_memory : (m : Memory) → Fits around common v (forget lasts st) (with_memory s m) (with_memory s' m)
     fits_memory m = record {
       words = fits.words;
       left = fits.left;
@@ -104,7 +104,7 @@ module _ (around : Around) where
     own_says n a false e = absurd (let bad : false ≡ true = e in cc)
 
     -- both have another word in an own slot
-    pub fits_own : (n : ℕ) (a : Form) → Old st.fresh a → Fits around limit v (learn (forget (is_other_slot n) st) (asks (tags.OwnSlot n) [] [] []) a) (with_own s n (eval v a)) (with_own s' n (eval v a))
+    pub fits_own : (n : ℕ) (a : Form) → Old st.fresh a → Fits around common v (learn (forget (is_other_slot n) st) (asks (tags.OwnSlot n) [] [] []) a) (with_own s n (eval v a)) (with_own s' n (eval v a))
     fits_own n a old = record {
       words = fits.words;
       left = fits.left;

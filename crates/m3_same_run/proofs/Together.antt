@@ -56,9 +56,9 @@ go_fresh (Keeps n a) stop st next h = refl
 go_fresh (Changes deed a b c) stop st next h = refl
 go_fresh Points stop st next h = refl
 
-advance_fresh : (slots : List Slot) (limit : ℕ) (rest : List MidOp) (st : Standing) → (advance slots limit rest st).fresh ≡ st.fresh
-advance_fresh slots limit [] st = refl
-advance_fresh slots limit (op ∷ rest) st = go_fresh (seen slots (right_form limit st) op) (op ∷ rest) st (advance slots limit rest) (advance_fresh slots limit rest)
+advance_fresh : (slots : List Slot) (common : List Bool) (rest : List MidOp) (st : Standing) → (advance slots common rest st).fresh ≡ st.fresh
+advance_fresh slots common [] st = refl
+advance_fresh slots common (op ∷ rest) st = go_fresh (seen slots (right_form common st) op) (op ∷ rest) st (advance slots common rest) (advance_fresh slots common rest)
 
 in_block_fresh : (block : Option Block) (st : Standing) (next : Standing → Standing) → ((st1 : Standing) → (next st1).fresh ≡ st1.fresh) → (in_block block st next).fresh ≡ st.fresh
 in_block_fresh None st next h = refl
@@ -72,29 +72,29 @@ follow_fresh q [] (ends.FaultAt fault place) st next h = refl
 follow_fresh q [] (ends.Raise x y z) st next h = refl
 follow_fresh q (op ∷ rest) end st next h = refl
 
-resolve_fresh : (slots : List Slot) (limit : ℕ) (q : Proc) (n : ℕ) (st : Standing) → (resolve slots limit q n st).fresh ≡ st.fresh
-resolve_fresh slots limit q zero st = advance_fresh slots limit st.ops st
-resolve_fresh slots limit q (suc n) st =
-    let there = advance slots limit st.ops st in
-    follow_fresh q there.ops there.end there (resolve slots limit q n) (resolve_fresh slots limit q n) ∙ advance_fresh slots limit st.ops st
+resolve_fresh : (slots : List Slot) (common : List Bool) (q : Proc) (n : ℕ) (st : Standing) → (resolve slots common q n st).fresh ≡ st.fresh
+resolve_fresh slots common q zero st = advance_fresh slots common st.ops st
+resolve_fresh slots common q (suc n) st =
+    let there = advance slots common st.ops st in
+    follow_fresh q there.ops there.end there (resolve slots common q n) (resolve_fresh slots common q n) ∙ advance_fresh slots common st.ops st
 
 none : {P : Type 0} (st2 : Standing) → None ≡ Some st2 → P
 none st2 e = absurd (let bad : None ≡ Some st2 = e in cc)
 
-module _ (slots : List Slot) (around : Around) (limit : ℕ) (q : Proc) (frame : q.slots.now ≡ slots) where
+module _ (slots : List Slot) (around : Around) (common : List Bool) (q : Proc) (frame : q.slots.now ≡ slots) where
   abbrev Goes_on : Standing → Following → Type 0
-  Goes_on st go = Later slots around limit q frame st go
+  Goes_on st go = Later slots around common q frame st go
 
-  module _ (op op' : MidOp) (v : Symbol → Word) (st : Standing) (s s' : State) (fits : Fits around limit v st s s') (answers : List Answer) (go : Following) (o : Outcome) (d : Defined slots around limit q frame o) where
-    matched_so : (x y : Seen) (st2 : Standing) → matched op op' (left_form st) (right_form limit st) x y st ≡ Some st2 → OldSeen st.fresh x → carry_out (does slots around v s op x) answers go ≡ Some o → Goes_on st2 go →
-        Does slots around limit q frame (does slots around v s' op' y) st answers o
-    matched_so (Tries to co a b place) (Tries to' co' a' b' place') st2 e old run later = tries_so slots around limit q frame v st s s' fits answers go o d to to' co co' a b a' b' place place' st2 e old run later
-    matched_so (Checks r a b fault place) (Checks r' a' b' fault' place') st2 e old run later = checks_so slots around limit q frame v st s s' fits answers go o d r r' a b a' b' fault fault' place place' st2 e old run later
-    matched_so (Keeps n a) (Keeps n' a') st2 e old run later = keeps_so slots around limit q frame v st s s' fits answers go o d n n' a a' st2 e old run later
-    matched_so (Changes deed a b c) (Changes deed' a' b' c') st2 e old run later = changes_so slots around limit q frame v st s s' fits answers go o d deed deed' a b c a' b' c' st2 e run later
+  module _ (op op' : MidOp) (v : Symbol → Word) (st : Standing) (s s' : State) (fits : Fits around common v st s s') (answers : List Answer) (go : Following) (o : Outcome) (d : Defined slots around common q frame o) where
+    matched_so : (x y : Seen) (st2 : Standing) → matched op op' (left_form st) (right_form common st) x y st ≡ Some st2 → OldSeen st.fresh x → carry_out (does slots around v s op x) answers go ≡ Some o → Goes_on st2 go →
+        Does slots around common q frame (does slots around v s' op' y) st answers o
+    matched_so (Tries to co a b place) (Tries to' co' a' b' place') st2 e old run later = tries_so slots around common q frame v st s s' fits answers go o d to to' co co' a b a' b' place place' st2 e old run later
+    matched_so (Checks r a b fault place) (Checks r' a' b' fault' place') st2 e old run later = checks_so slots around common q frame v st s s' fits answers go o d r r' a b a' b' fault fault' place place' st2 e old run later
+    matched_so (Keeps n a) (Keeps n' a') st2 e old run later = keeps_so slots around common q frame v st s s' fits answers go o d n n' a a' st2 e old run later
+    matched_so (Changes deed a b c) (Changes deed' a' b' c') st2 e old run later = changes_so slots around common q frame v st s s' fits answers go o d deed deed' a b c a' b' c' st2 e run later
     matched_so Points Points st2 e old run later =
-        let w = when_so slots around limit q frame (same_point (left_form st) (right_form limit st) op op') (passed op op' st) st2 e in
-        points_so slots around limit q frame st s s' v fits answers go o d op op' w.0 run (subst (λ z. Goes_on z go) (sym w.1) later)
+        let w = when_so slots around common q frame (same_point (left_form st) (right_form common st) op op') (passed op op' st) st2 e in
+        points_so slots around common q frame st s s' v fits answers go o d op op' w.0 run (subst (λ z. Goes_on z go) (sym w.1) later)
     matched_so (Sets x0 x1) y st2 e old run later = none st2 e
     matched_so (Computes x0 x1) y st2 e old run later = none st2 e
     matched_so (Tries x0 x1 x2 x3 x4) (Sets y0 y1) st2 e old run later = none st2 e
@@ -128,53 +128,53 @@ module _ (slots : List Slot) (around : Around) (limit : ℕ) (q : Proc) (frame :
     matched_so Points (Keeps y0 y1) st2 e old run later = none st2 e
     matched_so Points (Changes y0 y1 y2 y3) st2 e old run later = none st2 e
 
-  module _ (op : MidOp) (v : Symbol → Word) (s : State) (answers : List Answer) (go : Following) (o : Outcome) (d : Defined slots around limit q frame o) where
-    with_right_so : (st : Standing) (s' : State) → Fits around limit v st s s' → (x : Seen) (rest : List MidOp) (st2 : Standing) → with_right slots limit op x rest st ≡ Some st2 → OldSeen st.fresh x → carry_out (does slots around v s op x) answers go ≡ Some o → Goes_on st2 go →
-        Ends slots around limit q frame rest st.end s' answers o
+  module _ (op : MidOp) (v : Symbol → Word) (s : State) (answers : List Answer) (go : Following) (o : Outcome) (d : Defined slots around common q frame o) where
+    with_right_so : (st : Standing) (s' : State) → Fits around common v st s s' → (x : Seen) (rest : List MidOp) (st2 : Standing) → with_right slots common op x rest st ≡ Some st2 → OldSeen st.fresh x → carry_out (does slots around v s op x) answers go ≡ Some o → Goes_on st2 go →
+        Ends slots around common q frame rest st.end s' answers o
     with_right_so st s' fits x [] st2 e old run later = none st2 e
     with_right_so st s' fits x (op' ∷ rest) st2 e old run later =
-        let f' = right_form limit st in
+        let f' = right_form common st in
         let see = seen_so slots around v st.fresh fits.words f' s' fits.right op' in
-        let h = matched_so op op' v (at_ops st rest) s s' (fits_ops_at around limit v st s s' fits rest) answers go o d x (seen slots f' op') st2 e old run later in
-        (h.0, ap (λ z. carry_out z answers (Rest slots around limit q frame (at_ops st rest) h.0)) (effect_here slots around limit q frame s' op' ∙ see.0) ∙ h.1)
+        let h = matched_so op op' v (at_ops st rest) s s' (fits_ops_at around common v st s s' fits rest) answers go o d x (seen slots f' op') st2 e old run later in
+        (h.0, ap (λ z. carry_out z answers (Rest slots around common q frame (at_ops st rest) h.0)) (effect_here slots around common q frame s' op' ∙ see.0) ∙ h.1)
 
-    module _ (jumps : ℕ) (st : Standing) (s' : State) (fits : Fits around limit v st s s') where
+    module _ (jumps : ℕ) (st : Standing) (s' : State) (fits : Fits around common v st s s') where
       abbrev there : Standing
-      there = resolve slots limit q jumps st
+      there = resolve slots common q jumps st
 
-      meets_so : (x : Seen) (st2 : Standing) → with_right slots limit op x there.ops there ≡ Some st2 → OldSeen st.fresh x → carry_out (does slots around v s op x) answers go ≡ Some o → Goes_on st2 go → Ends slots around limit q frame st.ops st.end s' answers o
+      meets_so : (x : Seen) (st2 : Standing) → with_right slots common op x there.ops there ≡ Some st2 → OldSeen st.fresh x → carry_out (does slots around v s op x) answers go ≡ Some o → Goes_on st2 go → Ends slots around common q frame st.ops st.end s' answers o
       meets_so x st2 e old run later =
-          let r = resolve_so slots around limit q frame v s jumps st s' fits in
-          let old' : OldSeen there.fresh x = subst (λ n. OldSeen n x) (sym (resolve_fresh slots limit q jumps st)) old in
+          let r = resolve_so slots around common q frame v s jumps st s' fits in
+          let old' : OldSeen there.fresh x = subst (λ n. OldSeen n x) (sym (resolve_fresh slots common q jumps st)) old in
           r.2 answers o (with_right_so there r.0 r.1 x there.ops st2 e old' run later)
 
       compute_so : (to : ℕ) (x : Query) (a : Option Form) (st2 : Standing) → known x st.knowns ≡ a → Some (compute_left a to x st) ≡ Some st2 → OldSeen st.fresh (Computes to x) → go_on (sets s to (answer_to around v s.own s.environment s.memory x)) answers go ≡ Some o → Goes_on st2 go →
-          Ends slots around limit q frame st.ops st.end s' answers o
+          Ends slots around common q frame st.ops st.end s' answers o
       compute_so to x None st2 e e' old run later =
           let same : compute_left None to x st ≡ st2 = cc in
-          compute_new slots around limit q frame v st s s' fits answers go o d to x (answer_to around v s.own s.environment s.memory x) old refl run (subst (λ z. Goes_on z go) (sym same) later)
+          compute_new slots around common q frame v st s s' fits answers go o d to x (answer_to around v s.own s.environment s.memory x) old refl run (subst (λ z. Goes_on z go) (sym same) later)
       compute_so to x (Some a) st2 e e' old run later =
           let same : compute_left (Some a) to x st ≡ st2 = cc in
-          compute_known slots around limit q frame v st s s' fits answers go o d to x a (answer_to around v s.own s.environment s.memory x) e refl run (subst (λ z. Goes_on z go) (sym same) later)
+          compute_known slots around common q frame v st s s' fits answers go o d to x a (answer_to around v s.own s.environment s.memory x) e refl run (subst (λ z. Goes_on z go) (sym same) later)
 
-      try_so : (x : Seen) (to : ℕ) (co : CheckedOperator) (a b : Form) (place : Pos) (c : Option Form) (st2 : Standing) → known (asks (tags.Checked co) a b []) st.knowns ≡ c → step_known c to st (with_right slots limit op (Tries to co a b place) there.ops there) ≡ Some st2 →
-          OldSeen st.fresh (Tries to co a b place) → go_on (sets_or_faults s to place (of_numbers (checked_value co) (eval v a) (eval v b))) answers go ≡ Some o → Goes_on st2 go → Ends slots around limit q frame st.ops st.end s' answers o
+      try_so : (x : Seen) (to : ℕ) (co : CheckedOperator) (a b : Form) (place : Pos) (c : Option Form) (st2 : Standing) → known (asks (tags.Checked co) a b []) st.knowns ≡ c → step_known c to st (with_right slots common op (Tries to co a b place) there.ops there) ≡ Some st2 →
+          OldSeen st.fresh (Tries to co a b place) → go_on (sets_or_faults s to place (of_numbers (checked_value co) (eval v a) (eval v b))) answers go ≡ Some o → Goes_on st2 go → Ends slots around common q frame st.ops st.end s' answers o
       try_so x to co a b place None st2 e e' old run later = meets_so (Tries to co a b place) st2 e' old run later
       try_so x to co a b place (Some c) st2 e e' old run later =
           let same : set_left st to c ≡ st2 = let all : Some (set_left st to c) ≡ Some st2 = e' in cc in
-          try_known slots around limit q frame v st s s' fits answers go o d to co a b c place e run (subst (λ z. Goes_on z go) (sym same) later)
+          try_known slots around common q frame v st s s' fits answers go o d to co a b c place e run (subst (λ z. Goes_on z go) (sym same) later)
 
-      check_so : (r : Relation) (a b : Form) (fault : FaultKind) (place : Pos) (st2 : Standing) (t : Bool) → holds r a b st.knowns ≡ t → (if t then Some st else with_right slots limit op (Checks r a b fault place) there.ops there) ≡ Some st2 →
-          OldSeen st.fresh (Checks r a b fault place) → carry_out (does slots around v s op (Checks r a b fault place)) answers go ≡ Some o → Goes_on st2 go → Ends slots around limit q frame st.ops st.end s' answers o
+      check_so : (r : Relation) (a b : Form) (fault : FaultKind) (place : Pos) (st2 : Standing) (t : Bool) → holds r a b st.knowns ≡ t → (if t then Some st else with_right slots common op (Checks r a b fault place) there.ops there) ≡ Some st2 →
+          OldSeen st.fresh (Checks r a b fault place) → carry_out (does slots around v s op (Checks r a b fault place)) answers go ≡ Some o → Goes_on st2 go → Ends slots around common q frame st.ops st.end s' answers o
       check_so r a b fault place st2 true e e' old run later =
           let same : st ≡ st2 = cc in
-          check_known slots around limit q frame v st s s' fits answers go o d r a b fault place e run (subst (λ z. Goes_on z go) (sym same) later)
+          check_known slots around common q frame v st s s' fits answers go o d r a b fault place e run (subst (λ z. Goes_on z go) (sym same) later)
       check_so r a b fault place st2 false e e' old run later = meets_so (Checks r a b fault place) st2 e' old run later
 
-      seen_step : (x : Seen) (st2 : Standing) → step_seen x st (with_right slots limit op x there.ops there) ≡ Some st2 → OldSeen st.fresh x → carry_out (does slots around v s op x) answers go ≡ Some o → Goes_on st2 go → Ends slots around limit q frame st.ops st.end s' answers o
+      seen_step : (x : Seen) (st2 : Standing) → step_seen x st (with_right slots common op x there.ops there) ≡ Some st2 → OldSeen st.fresh x → carry_out (does slots around v s op x) answers go ≡ Some o → Goes_on st2 go → Ends slots around common q frame st.ops st.end s' answers o
       seen_step (Sets to a) st2 e old run later =
           let same : set_left st to a ≡ st2 = cc in
-          subst (λ z. Goes_on z go) (sym same) later v (state_with s to (eval v a)) s' answers o (fits_left around limit v st s s' fits to a (eval v a) (old, normal_is (eval v a) (eval_normal v a))) run d
+          subst (λ z. Goes_on z go) (sym same) later v (state_with s to (eval v a)) s' answers o (fits_left around common v st s s' fits to a (eval v a) (old, normal_is (eval v a) (eval_normal v a))) run d
       seen_step (Computes to x) st2 e old run later = compute_so to x (known x st.knowns) st2 refl e old run later
       seen_step (Tries to co a b place) st2 e old run later = try_so (Tries to co a b place) to co a b place (known (asks (tags.Checked co) a b []) st.knowns) st2 refl e old run later
       seen_step (Checks r a b fault place) st2 e old run later = check_so r a b fault place st2 (holds r a b st.knowns) refl e old run later
@@ -182,7 +182,7 @@ module _ (slots : List Slot) (around : Around) (limit : ℕ) (q : Proc) (frame :
       seen_step (Changes deed a b c) st2 e old run later = meets_so (Changes deed a b c) st2 e old run later
       seen_step Points st2 e old run later = meets_so Points st2 e old run later
 
-      pub step_so : (st2 : Standing) → step slots limit q jumps op st ≡ Some st2 → carry_out (effect_of slots around s op) answers go ≡ Some o → Goes_on st2 go → Ends slots around limit q frame st.ops st.end s' answers o
+      pub step_so : (st2 : Standing) → step slots common q jumps op st ≡ Some st2 → carry_out (effect_of slots around s op) answers go ≡ Some o → Goes_on st2 go → Ends slots around common q frame st.ops st.end s' answers o
       step_so st2 e run later =
           let see = seen_so slots around v st.fresh fits.words (left_form st) s fits.left op in
           seen_step (seen slots (left_form st) op) st2 e see.1 (ap (λ z. carry_out z answers go) (sym see.0) ∙ run) later
@@ -193,13 +193,13 @@ module _ (slots : List Slot) (around : Around) (limit : ℕ) (q : Proc) (frame :
 
   -- what a row of operations of the left one comes to
   module _ (p : Proc) (here : p.slots.now ≡ slots) (jumps : ℕ) (go : ℕ → Following) (end : End) where
-    pub steps_so : (rest : List MidOp) (v : Symbol → Word) (st : Standing) (s s' : State) → Fits around limit v st s s' → (answers : List Answer) (o : Outcome) → Defined slots around limit q frame o →
-        (st2 : Standing) → steps slots limit q jumps rest st ≡ Some st2 → run_ops p around rest end s answers go ≡ Some o → Goes_on st2 (λ s2 more. run_ops p around [] end s2 more go) → Ends slots around limit q frame st.ops st.end s' answers o
+    pub steps_so : (rest : List MidOp) (v : Symbol → Word) (st : Standing) (s s' : State) → Fits around common v st s s' → (answers : List Answer) (o : Outcome) → Defined slots around common q frame o →
+        (st2 : Standing) → steps slots common q jumps rest st ≡ Some st2 → run_ops p around rest end s answers go ≡ Some o → Goes_on st2 (λ s2 more. run_ops p around [] end s2 more go) → Ends slots around common q frame st.ops st.end s' answers o
     steps_so [] v st s s' fits answers o d st2 e run later =
         let same : st ≡ st2 = let all : Some st ≡ Some st2 = e in cc in
         subst (λ z. Goes_on z (λ s2 more. run_ops p around [] end s2 more go)) (sym same) later v s s' answers o fits run d
     steps_so (op ∷ rest) v st s s' fits answers o d st2 e run later =
-        let h = then_so (step slots limit q jumps op st) (steps slots limit q jumps rest) st2 e in
+        let h = then_so (step slots common q jumps op st) (steps slots common q jumps rest) st2 e in
         let after : Following = λ s2 more. run_ops p around rest end s2 more go in
         let run' : carry_out (effect_of slots around s op) answers after ≡ Some o = ap (λ z. carry_out (effect_of z around s op) answers after) (sym here) ∙ run in
         step_so op v s answers after o d jumps st s' fits h.0 h.1 run'

@@ -1,5 +1,5 @@
 -- When two states stand where a check says.
-use Rattle.std.specs.Prelude.{◌≡◌, ℕ, Some, None}
+use Rattle.std.specs.Prelude.{◌≡◌, Bool, List, Some, None}
 use Rattle.m3_mid_meaning.specs.Words.{Word}
 use Rattle.m3_mid_meaning.specs.Memory.{Around}
 use Rattle.m3_mid_meaning.specs.States.{State}
@@ -10,9 +10,9 @@ use Rattle.m3_same_run.specs.Check.{Standing}
 
 -- The two states hold what the check says: temporaries what their forms stand for, all else the same,
 -- and what is known is true.
-pub record Fits (around : Around) (limit : ℕ) (v : Symbol → Word) (st : Standing) (s s' : State) : Type 0 where
+pub record Fits (around : Around) (common : List Bool) (v : Symbol → Word) (st : Standing) (s s' : State) : Type 0 where
   pub words : IsWords around v
   pub left : AllMean v st.fresh (form_at None st.left) s.temps
-  pub right : AllMean v st.fresh (form_at (Some limit) st.right) s'.temps
+  pub right : AllMean v st.fresh (form_at (Some common) st.right) s'.temps
   pub rest : s' ≡ record s { temps = s'.temps }
   pub knowns : AllTrue around v st.fresh s.own s.environment s.memory st.knowns

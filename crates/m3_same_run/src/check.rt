@@ -15,19 +15,19 @@ use std::alloc::{AllocError, Global};
 
 impl<'a> Standing<'a> {
     fn symbol_form(&self, judge: Judge<'_>, symbol: Symbol) -> Result<Form, AllocError>
-        ensures { IfOk result (λ f. f ≡ check.symbol_form judge.entry.limit self.now symbol) }
+        ensures { IfOk result (λ f. f ≡ check.symbol_form judge.entry.common.now self.now symbol) }
     {
         let alloc = judge.alloc;
         match symbol {
             Symbol::Left(temp) => Side {
                 alloc,
-                limit: None,
+                common: None,
                 settings: &self.left,
             }
             .temp(temp),
             Symbol::Right(temp) => Side {
                 alloc,
-                limit: Some(judge.limit),
+                common: Some(judge.common),
                 settings: &self.right,
             }
             .temp(temp),
@@ -39,7 +39,7 @@ impl<'a> Standing<'a> {
 
     // A form of a pair's entry, as it is now.
     fn form_now(&self, judge: Judge<'_>, form: &Form) -> Result<Form, AllocError>
-        ensures { IfOk result (λ f. f ≡ check.form_now judge.entry.limit self.now form.now) }
+        ensures { IfOk result (λ f. f ≡ check.form_now judge.entry.common.now self.now form.now) }
     {
         let mut out = Form::none(judge.alloc);
         for term in &form.terms {
@@ -51,7 +51,7 @@ impl<'a> Standing<'a> {
     }
 
     fn query_now(&self, judge: Judge<'_>, query: &Query) -> Result<Query, AllocError>
-        ensures { IfOk result (λ x. x ≡ check.query_now judge.entry.limit self.now query.now) }
+        ensures { IfOk result (λ x. x ≡ check.query_now judge.entry.common.now self.now query.now) }
     {
         Ok(Query {
             tag: query.tag,
@@ -63,11 +63,11 @@ impl<'a> Standing<'a> {
 
     fn fits_at(&self, judge: Judge<'_>, settings: &[Setting], temp: u32) -> Result<bool, AllocError>
         ensures { IfOk result (λ b. b
-            ≡ check.fits_at judge.entry.limit self.now settings.now temp) }
+            ≡ check.fits_at judge.entry.common.now self.now settings.now temp) }
     {
         let wanted = Side {
             alloc: judge.alloc,
-            limit: Some(judge.limit),
+            common: Some(judge.common),
             settings,
         }
         .temp(temp)?;
@@ -83,7 +83,7 @@ impl<'a> Standing<'a> {
         list: &[Setting],
     ) -> Result<bool, AllocError>
         ensures { IfOk result (λ b. b
-            ≡ check.all_fit judge.entry.limit self.now settings.now list.now) }
+            ≡ check.all_fit judge.entry.common.now self.now settings.now list.now) }
     {
         for setting in list {
             if !self.fits_at(judge, settings, setting.temp)? {
@@ -94,7 +94,7 @@ impl<'a> Standing<'a> {
     }
 
     fn all_known(&self, judge: Judge<'_>, knowns: &[Known]) -> Result<bool, AllocError>
-        ensures { IfOk result (λ b. b ≡ check.all_known judge.entry.limit self.now knowns.now) }
+        ensures { IfOk result (λ b. b ≡ check.all_known judge.entry.common.now self.now knowns.now) }
     {
         for wanted in knowns {
             let value = self.form_now(judge, &wanted.value)?;
@@ -107,14 +107,30 @@ impl<'a> Standing<'a> {
         Ok(true)
     }
 
-    fn enters(&self, judge: Judge<'_>, pair: &Pair) -> Result<bool, AllocError>
-        ensures { IfOk result (λ b. b ≡ check.enters judge.entry.limit self.now pair.now) }
+    fn all_left(&self, judge: Judge<'_>, list: &[Setting]) -> Result<bool, AllocError>
+        ensures { IfOk result (λ b. b
+            ≡ check.all_left judge.entry.common.now self.now list.now) }
     {
+        for setting in list {
+            let now = self.form_now(judge, &setting.value)?;
+            let there = self.symbol_form(judge, Symbol::Left(setting.temp))?;
+            if !now.is_same(judge.alloc, &there)? {
+                return Ok(false);
+            }
+        }
+        Ok(true)
+    }
+
+    fn enters(&self, judge: Judge<'_>, pair: &Pair) -> Result<bool, AllocError>
+        ensures { IfOk result (λ b. b ≡ check.enters judge.entry.common.now self.now pair.now) }
+    {
+        let is_left = self.all_left(judge, &pair.left_settings)?;
         let own = self.all_fit(judge, &pair.settings, &pair.settings)?;
         let left = self.all_fit(judge, &pair.settings, &self.left)?;
         let right = self.all_fit(judge, &pair.settings, &self.right)?;
         let is_known = self.all_known(judge, &pair.knowns)?;
-        Ok(own && left && right && is_known)
+        let is_right = own && left && right && is_known;
+        Ok(is_left && is_right)
     }
 
     fn goes_to(
@@ -125,7 +141,7 @@ impl<'a> Standing<'a> {
         right: u32,
     ) -> Result<bool, AllocError>
         ensures { IfOk result (λ b. b
-            ≡ check.goes_to judge.entry.limit proof.now left right self.now) }
+            ≡ check.goes_to judge.entry.common.now proof.now left right self.now) }
     {
         for pair in proof {
             if pair.left == left && pair.right == right {
@@ -135,6 +151,29 @@ impl<'a> Standing<'a> {
         Ok(false)
     }
 
+    // The pair at the place of the left block is looked at first.
+    fn jumps_to(
+        &self,
+        judge: Judge<'_>,
+        proof: &[Pair],
+        left: u32,
+        right: u32,
+    ) -> Result<bool, AllocError>
+        ensures { IfOk result (λ b. b
+            ≡ check.jumps_to judge.entry.common.now proof.now left right self.now) }
+    {
+        match proof.get(left as usize) {
+            Some(pair) => {
+                if pair.left == left && pair.right == right {
+                    self.enters(judge, pair)
+                } else {
+                    self.goes_to(judge, proof, left, right)
+                }
+            }
+            None => self.goes_to(judge, proof, left, right),
+        }
+    }
+
     fn same_words(
         &self,
         judge: Judge<'_>,
@@ -142,17 +181,17 @@ impl<'a> Standing<'a> {
         other: Operand,
     ) -> Result<bool, AllocError>
         ensures { IfOk result (λ b. b
-            ≡ check.same_words judge.entry.limit self.now operand other) }
+            ≡ check.same_words judge.entry.common.now self.now operand other) }
     {
         Sides {
             left: Side {
                 alloc: judge.alloc,
-                limit: None,
+                common: None,
                 settings: &self.left,
             },
             right: Side {
                 alloc: judge.alloc,
-                limit: Some(judge.limit),
+                common: Some(judge.common),
                 settings: &self.right,
             },
         }
@@ -166,7 +205,7 @@ impl<'a> Standing<'a> {
         other: Option<Operand>,
     ) -> Result<bool, AllocError>
         ensures { IfOk result (λ b. b
-            ≡ check.same_value judge.entry.limit self.now value other) }
+            ≡ check.same_value judge.entry.common.now self.now value other) }
     {
         match (value, other) {
             (None, None) => Ok(true),
@@ -229,7 +268,7 @@ impl<'a> Standing<'a> {
     {
         let side = Side {
             alloc,
-            limit: None,
+            common: None,
             settings: &self.left,
         };
         let first = side.operand(left)?;
@@ -246,10 +285,10 @@ impl<'a> Standing<'a> {
         other: End,
     ) -> Result<bool, AllocError>
         ensures { IfOk result (λ b. b
-            ≡ check.end_with judge.entry.limit proof.now end other self.now) }
+            ≡ check.end_with judge.entry.common.now proof.now end other self.now) }
     {
         match (end, other) {
-            (End::Goto(left), End::Goto(right)) => self.goes_to(judge, proof, left, right),
+            (End::Goto(left), End::Goto(right)) => self.jumps_to(judge, proof, left, right),
             (
                 End::If {
                     relation,
@@ -271,11 +310,11 @@ impl<'a> Standing<'a> {
                 let mut there = self.copy(judge.alloc)?;
                 let one = Form::of_symbol(judge.alloc, Symbol::One)?;
                 there.learn_test(judge.alloc, relation, left, right, one)?;
-                let yes_fits = there.goes_to(judge, proof, yes, other_yes)?;
+                let yes_fits = there.jumps_to(judge, proof, yes, other_yes)?;
                 let mut here = self.copy(judge.alloc)?;
                 let zero = Form::none(judge.alloc);
                 here.learn_test(judge.alloc, relation, left, right, zero)?;
-                let no_fits = here.goes_to(judge, proof, no, other_no)?;
+                let no_fits = here.jumps_to(judge, proof, no, other_no)?;
                 let is_same = same_relation(relation, other_relation);
                 Ok(is_same && is_left && is_right && yes_fits && no_fits)
             }
@@ -312,8 +351,8 @@ impl<'a> Standing<'a> {
 
     fn ends(self, judge: Judge<'_>, proof: &[Pair], end: End) -> Result<bool, AllocError>
         ensures { IfOk result (λ b. b
-            ≡ check.ended judge.entry.limit proof.now end
-            (check.advance judge.entry.slots.now judge.entry.limit self.entry.ops self.entry)) }
+            ≡ check.ended judge.entry.common.now proof.now end
+            (check.advance judge.entry.slots.now judge.entry.common.now self.entry.ops self.entry)) }
     {
         let there = self.advance(judge)?;
         if there.ops.is_empty() {
@@ -325,7 +364,7 @@ impl<'a> Standing<'a> {
 
     fn steps(self, judge: Judge<'a>, ops: &[MidOp<'_>]) -> Result<Option<Standing<'a>>, AllocError>
         ensures { IfOk result (λ o. o
-            ≡ check.steps judge.entry.slots.now judge.entry.limit judge.entry.right 1
+            ≡ check.steps judge.entry.slots.now judge.entry.common.now judge.entry.right 1
             ops.now self.entry) }
     {
         let mut there = self;
@@ -388,7 +427,7 @@ fn standing_at<'a>(
     ensures { IfOk result (λ st. st ≡ check.standing_at pair.now block.now) }
 {
     Ok(Standing {
-        left: Vec::new(alloc),
+        left: copied_settings(alloc, &pair.left_settings)?,
         right: copied_settings(alloc, &pair.settings)?,
         knowns: copied_knowns(alloc, &pair.knowns)?,
         fresh: 0,
@@ -400,10 +439,11 @@ fn standing_at<'a>(
 impl<'a> Judge<'a> {
     fn is_pair(self, p: &Proc<'_>, proof: &[Pair], pair: &Pair) -> Result<bool, AllocError>
         ensures { IfOk result (λ b. b
-            ≡ whole.pair_with self.entry.slots.now self.entry.limit p.now self.entry.right 1
+            ≡ whole.pair_with self.entry.slots.now self.entry.common.now p.now self.entry.right 1
             proof.now pair.now) }
     {
-        let are_all_old = are_old(&pair.settings) && are_old_knowns(&pair.knowns);
+        let are_both_old = are_old(&pair.left_settings) && are_old(&pair.settings);
+        let are_all_old = are_both_old && are_old_knowns(&pair.knowns);
         if !are_all_old {
             return Ok(false);
         }
@@ -422,7 +462,7 @@ impl<'a> Judge<'a> {
 
     fn are_pairs(self, p: &Proc<'_>, proof: &[Pair]) -> Result<bool, AllocError>
         ensures { IfOk result (λ b. b
-            ≡ whole.pairs_with self.entry.slots.now self.entry.limit p.now self.entry.right 1
+            ≡ whole.pairs_with self.entry.slots.now self.entry.common.now p.now self.entry.right 1
             proof.now proof.now) }
     {
         for pair in proof {
@@ -434,12 +474,19 @@ impl<'a> Judge<'a> {
     }
 }
 
+fn is_empty(pair: &Pair) -> bool
+    ensures { result ≡ check.no_facts pair.now }
+{
+    let has_settings = !pair.left_settings.is_empty() || !pair.settings.is_empty();
+    !has_settings && pair.knowns.is_empty()
+}
+
 fn starts(proof: &[Pair], left: u32, right: u32) -> bool
     ensures { result ≡ check.starts proof.now left right }
 {
     for pair in proof {
         if pair.left == left && pair.right == right {
-            return pair.settings.is_empty() && pair.knowns.is_empty();
+            return is_empty(pair);
         }
     }
     false
@@ -455,15 +502,16 @@ fn is_run(
     alloc: Global,
     p: &Proc<'_>,
     q: &Proc<'_>,
+    common: &[bool],
     proof: &[Pair],
-    limit: u32,
 ) -> Result<bool, AllocError>
-    ensures { IfOk result (λ b. b ≡ whole.run_with p.now.slots.now limit p.now q.now 1 proof.now) }
+    ensures { IfOk result (λ b. b
+        ≡ whole.run_with p.now.slots.now common.now p.now q.now 1 proof.now) }
 {
     let judge = Judge {
         alloc,
         slots: p.slots,
-        limit,
+        common,
         right: *q,
     };
     let is_frame = same_frame(p, q);
@@ -474,19 +522,19 @@ fn is_run(
 
 /// Whether a proof shows that each defined run of one procedure is a run of another, for every list
 /// of answers: the same events, with the actuals, the shown variables and memory, and the same end.
-/// `false` says nothing. The time is that of the two procedures and the proof, times the longest
-/// list of settings and of what is known at once.
+/// `false` says nothing. `common` tells which temporaries of the right procedure are the left one's
+/// of the same number wherever no setting says otherwise; of the others nothing is said but what
+/// settings say. Where the pair of each block stands at its number, the time is that of the two
+/// procedures and the proof, times the longest list of settings and of what is known at once.
 pub fn have_same_run(
     alloc: Global,
     p: &Proc<'_>,
     q: &Proc<'_>,
+    common: &[bool],
     proof: &[Pair],
 ) -> Result<bool, AllocError>
     ensures { IfOk result (λ b. b ≡ true → FollowsRun p.now q.now) }
 {
-    let Ok(limit) = u32::try_from(p.temps.len()) else {
-        return Ok(false);
-    };
-    let is_same = is_run(alloc, p, q, proof, limit)?;
+    let is_same = is_run(alloc, p, q, common, proof)?;
     Ok(is_same)
 }

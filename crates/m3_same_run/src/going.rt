@@ -37,14 +37,14 @@ impl<'a> Standing<'a> {
         ensures { IfOk result (λ b.
             (stop : List MidOpValue) (next : StandingValue → StandingValue) →
             check.go_right
-            (seen judge.entry.slots.now (right_form judge.entry.limit self.old) op.now)
+            (seen judge.entry.slots.now (right_form judge.entry.common.now self.old) op.now)
             stop self.old next
             ≡ (if b then next self.new else check.at_ops self.new stop)) }
     {
         let alloc = judge.alloc;
         let side = Side {
             alloc,
-            limit: Some(judge.limit),
+            common: Some(judge.common),
             settings: &self.right,
         };
         match side.see(judge.slots, op)? {
@@ -84,7 +84,7 @@ impl<'a> Standing<'a> {
     /// The right procedure goes on by itself.
     pub(crate) fn advance(self, judge: Judge<'_>) -> Result<Standing<'a>, AllocError>
         ensures { IfOk result (λ st. st
-            ≡ check.advance judge.entry.slots.now judge.entry.limit self.entry.ops self.entry) }
+            ≡ check.advance judge.entry.slots.now judge.entry.common.now self.entry.ops self.entry) }
     {
         let ops = self.ops;
         let mut st = self;
@@ -101,7 +101,7 @@ impl<'a> Standing<'a> {
     // The same, through one jump too.
     fn resolve(self, judge: Judge<'a>) -> Result<Standing<'a>, AllocError>
         ensures { IfOk result (λ st. st
-            ≡ check.resolve judge.entry.slots.now judge.entry.limit judge.entry.right 1
+            ≡ check.resolve judge.entry.slots.now judge.entry.common.now judge.entry.right 1
             self.entry) }
     {
         let st = self.advance(judge)?;
@@ -137,18 +137,18 @@ impl<'a> Standing<'a> {
         op: &MidOp<'_>,
         other: &MidOp<'_>,
     ) -> Result<bool, AllocError>
-        ensures { IfOk result (λ b. check.points_matched op.now other.now judge.entry.limit self.old
+        ensures { IfOk result (λ b. check.points_matched op.now other.now judge.entry.common.now self.old
             ≡ (if b then Some self.new else None)) }
     {
         let sides = Sides {
             left: Side {
                 alloc: judge.alloc,
-                limit: None,
+                common: None,
                 settings: &self.left,
             },
             right: Side {
                 alloc: judge.alloc,
-                limit: Some(judge.limit),
+                common: Some(judge.common),
                 settings: &self.right,
             },
         };
@@ -171,7 +171,7 @@ impl<'a> Standing<'a> {
     ) -> Result<bool, AllocError>
         ensures { IfOk result (λ b.
             check.matched op.now other.now (left_form self.old)
-            (right_form judge.entry.limit self.old) x.now y.now self.old
+            (right_form judge.entry.common.now self.old) x.now y.now self.old
             ≡ (if b then Some self.new else None)) }
     {
         let alloc = judge.alloc;
@@ -285,13 +285,13 @@ impl<'a> Standing<'a> {
     ) -> Result<bool, AllocError>
         ensures { IfOk result (λ b.
             check.matched op.now other.now (left_form self.old)
-            (right_form judge.entry.limit self.old) x.now
-            (seen judge.entry.slots.now (right_form judge.entry.limit self.old) other.now) self.old
+            (right_form judge.entry.common.now self.old) x.now
+            (seen judge.entry.slots.now (right_form judge.entry.common.now self.old) other.now) self.old
             ≡ (if b then Some self.new else None)) }
     {
         let side = Side {
             alloc: judge.alloc,
-            limit: Some(judge.limit),
+            common: Some(judge.common),
             settings: &self.right,
         };
         let y = side.see(judge.slots, other)?;
@@ -306,7 +306,7 @@ impl<'a> Standing<'a> {
         x: &Seen,
     ) -> Result<Option<Standing<'a>>, AllocError>
         ensures { IfOk result (λ o. o
-            ≡ check.with_right judge.entry.slots.now judge.entry.limit op.now x.now
+            ≡ check.with_right judge.entry.slots.now judge.entry.common.now op.now x.now
             self.entry.ops self.entry) }
     {
         let ops = self.ops;
@@ -331,7 +331,7 @@ impl<'a> Standing<'a> {
         x: &Seen,
     ) -> Result<Option<Standing<'a>>, AllocError>
         ensures { IfOk result (λ o. o
-            ≡ check.meeting judge.entry.slots.now judge.entry.limit judge.entry.right 1
+            ≡ check.meeting judge.entry.slots.now judge.entry.common.now judge.entry.right 1
             op.now x.now self.entry) }
     {
         self.resolve(judge)?.meets(judge, op, x)
@@ -345,7 +345,7 @@ impl<'a> Standing<'a> {
     ) -> Result<Option<Standing<'a>>, AllocError>
         ensures { IfOk result (λ o. o
             ≡ check.step_seen x.now self.entry
-            (check.meeting judge.entry.slots.now judge.entry.limit judge.entry.right 1
+            (check.meeting judge.entry.slots.now judge.entry.common.now judge.entry.right 1
             op.now x.now self.entry)) }
     {
         let alloc = judge.alloc;
@@ -400,12 +400,12 @@ impl<'a> Standing<'a> {
         op: &MidOp<'_>,
     ) -> Result<Option<Standing<'a>>, AllocError>
         ensures { IfOk result (λ o. o
-            ≡ check.step judge.entry.slots.now judge.entry.limit judge.entry.right 1
+            ≡ check.step judge.entry.slots.now judge.entry.common.now judge.entry.right 1
             op.now self.entry) }
     {
         let side = Side {
             alloc: judge.alloc,
-            limit: None,
+            common: None,
             settings: &self.left,
         };
         let x = side.see(judge.slots, op)?;

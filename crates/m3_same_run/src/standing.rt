@@ -16,13 +16,13 @@ use m3_same_forms::{Form, Known, Query, Setting, Symbol, Tag, asks, known, remai
 use std::alloc::{AllocError, Global};
 use std::marker::Model;
 
-/// What stays the same during a check: the slots of both frames, the number of the left procedure's
-/// temporaries, and the right procedure.
+/// What stays the same during a check: the slots of both frames, which temporaries the two have in
+/// common, and the right procedure.
 #[derive(Clone, Copy)]
 pub(crate) struct Judge<'a> {
     pub alloc: Global,
     pub slots: &'a [Slot],
-    pub limit: u32,
+    pub common: &'a [bool],
     pub right: Proc<'a>,
 }
 

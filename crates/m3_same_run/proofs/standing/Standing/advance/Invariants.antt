@@ -6,8 +6,8 @@ abbrev pub invariant-loop-i : goal.invariant-loop-i
 invariant-loop-i l = record {
   within : l.i ≤ length l.ops;
   is :
-      advance l.judge.slots.now l.judge.limit (drop l.i l.ops) l.st
-      ≡ advance l.judge.slots.now l.judge.limit l.fn.self.ops l.fn.self;
+      advance l.judge.slots.now l.judge.common.now (drop l.i l.ops) l.st
+      ≡ advance l.judge.slots.now l.judge.common.now l.fn.self.ops l.fn.self;
 }
 
 abbrev pub decreases-loop-i : goal.decreases-loop-i

@@ -11,10 +11,10 @@ pub returns-in-Computes : goal.returns-in-Computes
 returns-in-Computes c =
     let st = c.args.self.now in
     let slots = c.args.judge.slots.now in
-    let limit = c.args.judge.limit in
+    let common = c.args.judge.common.now in
     let op = c.args.op.now in
     let there = c.set_known.new.self in
     let items : c.deref.result.now ≡ st.right = c.deref.ensures.value ∙ ap (λ z. z.right) c.self.view_is in
-    let sees : seen slots (right_form limit st) op ≡ Computes c.in-Computes.to c.in-Computes.query =
-    sym (c.in_ok-to.ensures ∙ ap (λ ls. seen slots (form_at (Some limit) ls) op) items) ∙ c.in-Computes.is in
+    let sees : seen slots (right_form common st) op ≡ Computes c.in-Computes.to c.in-Computes.query =
+    sym (c.in_ok-to.ensures ∙ ap (λ ls. seen slots (form_at (Some common) ls) op) items) ∙ c.in-Computes.is in
     subst (λ z. IfOk c.set_known.result (λ b. (stop : List MidOp) (next : Standing → Standing) → go_right z stop st next ≡ (if b then next there else at_ops there stop))) (sym sees) c.set_known.ensures

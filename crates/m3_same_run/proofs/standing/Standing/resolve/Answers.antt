@@ -9,7 +9,7 @@ returns-in-Some c =
     let st = c.in_ok-st.st in
     let eo : st.ops ≡ [] = sym (ap (λ z. z.ops) c.st.view_is) ∙ empty_so c.st.inside.ops.now c.if-not-is_empty.ensures in
     let ee : st.end ≡ Goto c.in-Goto.b = sym (ap (λ z. z.end) c.st.view_is) ∙ c.in-Goto.is in
-    let next : Standing → Standing = λ x. advance c.args.judge.slots.now c.args.judge.limit x.ops x in
+    let next : Standing → Standing = λ x. advance c.args.judge.slots.now c.args.judge.common.now x.ops x in
     let whole = ap next c.in_block.ensures ∙ followed c.args.judge.right c.in-Goto.b c.in-Some.block st next eo ee c.in-Some.ensures ∙ ap (λ z. follow c.args.judge.right z.ops z.end z next) c.in_ok-st.ensures in
     subst (λ z. IfOk c.advance-in-Some.result (λ x. x ≡ z)) whole c.advance-in-Some.ensures
 
@@ -18,5 +18,5 @@ returns-in-None c =
     let st = c.in_ok-st.st in
     let eo : st.ops ≡ [] = sym (ap (λ z. z.ops) c.st.view_is) ∙ empty_so c.st.inside.ops.now c.if-not-is_empty.ensures in
     let ee : st.end ≡ Goto c.in-Goto.b = sym (ap (λ z. z.end) c.st.view_is) ∙ c.in-Goto.is in
-    let next : Standing → Standing = λ x. advance c.args.judge.slots.now c.args.judge.limit x.ops x in
+    let next : Standing → Standing = λ x. advance c.args.judge.slots.now c.args.judge.common.now x.ops x in
     stayed c.args.judge.right c.in-Goto.b st next eo ee c.in-None.ensures ∙ ap (λ z. follow c.args.judge.right z.ops z.end z next) c.in_ok-st.ensures

@@ -10,4 +10,4 @@ returns c =
     let slots = c.args.judge.slots.now in
     let items : c.deref.result.now ≡ st.left = c.deref.ensures.value ∙ ap (λ z. z.left) c.self.view_is in
     let same : c.in_ok-x.x ≡ seen slots (left_form st) c.args.op.now = c.in_ok-x.ensures ∙ ap (λ ls. seen slots (form_at None ls) c.args.op.now) items in
-    subst (λ z. IfOk c.step_seen.result (λ o. o ≡ step_seen z st (meeting slots c.args.judge.limit c.args.judge.right 1 c.args.op.now z st))) same c.step_seen.ensures
+    subst (λ z. IfOk c.step_seen.result (λ o. o ≡ step_seen z st (meeting slots c.args.judge.common.now c.args.judge.right 1 c.args.op.now z st))) same c.step_seen.ensures
