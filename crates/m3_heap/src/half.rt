@@ -75,6 +75,13 @@ impl Half {
         self.base
     }
 
+    /// How many words it has.
+    pub fn size(&self) -> u64
+        ensures { result ≡ self.now.size }
+    {
+        self.words.len() as u64
+    }
+
     /// The words of all cells.
     pub fn total(&self) -> u64
         ensures total { result ≡ total_words self.now.cells }

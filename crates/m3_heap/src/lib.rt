@@ -12,7 +12,9 @@ mod steps;
 mod store;
 
 pub use closed::Closed;
+pub use half::Half;
 pub use maps::Maps;
+pub use marks::Marks;
 pub use semi_space::SemiSpace;
 pub use steps::Steps;
 pub use store::Store;

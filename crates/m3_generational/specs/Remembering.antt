@@ -1,0 +1,55 @@
+-- A heap with a nursery, as contracts see it.
+use Rattle.std.specs.Prelude.{◌≡◌, ℕ, ◌+◌, ◌-◌, ◌/◌, ◌≤◌, Bool, true, false, ◌&&◌, ◌||◌, nat_lt, if◌then◌else◌, List, [], ◌∷◌, slice_get, slice_index_or, Some}
+use Rattle.m3_heap.specs.Cells.{Cell, heap_base, is_start, words_from}
+use Rattle.m3_heap.specs.Shapes.{Shape, is_pointer_word}
+use Rattle.m3_heap.specs.Moves.{Move}
+use Rattle.m3_heap.specs.Heap.{Heap, first_base, nursery_base, settled, is_minor}
+
+-- what the rest of the machine sees of it, and which words of the half in use were set since the last
+-- collection, or in it, one mark for each
+pub record Remembering : Type 0 where
+  pub heap : Heap
+  pub remembered : List Bool
+
+-- how many marks are set
+abbrev pub marked_count : List Bool → ℕ
+marked_count [] = 0
+marked_count (mark ∷ marks) = (if mark then 1 else 0) + marked_count marks
+
+-- the heap whose next collection, if it is one of the young cells alone, looks at so many words of old ones
+abbrev pub watching : ℕ → Heap → Heap
+watching words heap = record heap { watched = if is_minor heap then words else 0 }
+
+-- a heap that was just made
+abbrev pub new_generations : ℕ → Heap
+new_generations words = watching 0 (settled (record {
+  cells = [];
+  is_open = false;
+  moves = [];
+  tenured = [];
+  watched = 0;
+  asked = 0;
+  size = words;
+  base = first_base;
+  nursery = words / 4;
+  young = 0;
+  free = words;
+  minors = 0;
+  fulls = 0;
+}))
+
+-- it has a nursery
+abbrev pub HasNursery : Heap → Type 0
+HasNursery heap = 1 ≤ heap.nursery
+
+-- a word that is no reference, or one to an old cell
+abbrev pub is_old_word : List Cell → ℕ → Bool
+is_old_word cells word = nat_lt word heap_base || (nat_lt word nursery_base && is_start cells word)
+
+-- a list of shapes agrees with such cells: a pointer of an old cell that isn't remembered leads to an old cell
+abbrev pub FitsIn : List Shape → List Cell → List Bool → ℕ → Type 0
+FitsIn shapes cells remembered base = (start place word : ℕ) → nat_lt start nursery_base ≡ true → is_start cells start ≡ true → is_pointer_word shapes (words_from cells start) place ≡ true
+    → slice_get (words_from cells start) place ≡ Some word → slice_index_or remembered (start + place - base) false ≡ false → is_old_word cells word ≡ true
+
+abbrev pub Fits : List Shape → Remembering → Type 0
+Fits shapes held = FitsIn shapes held.heap.cells held.remembered held.heap.base

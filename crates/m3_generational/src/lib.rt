@@ -1,0 +1,8 @@
+//! A heap of generations: new cells are young, and a collection of the young cells alone leaves the
+//! old ones where they are.
+#![tactic(auto)]
+
+mod generations;
+mod spaces;
+
+pub use generations::Generations;
