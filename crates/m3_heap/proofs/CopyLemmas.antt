@@ -5,9 +5,9 @@ use Rattle.std.specs.Prelude.{◌||◌}
 use Rattle.std.proofs.lemmas.Bool.{cases_eq, cases_Bool, lt-ltb, le-ltb, le-leb, eq-eqb, ne_eqb, cond-true, cond-false, false≢true, or_left, or_right, or_from}
 use Rattle.m3_heap.specs.Cells.{Cell, heap_base, header, cell_from, is_start, words_from, covers, with_word, total_words, words_in}
 use Rattle.m3_heap.specs.Moves.{Move, new_start, is_kept, forwarded}
-use Rattle.m3_heap.specs.CollectorSpace.{Space, AreLaid}
+use Rattle.m3_heap.specs.CollectorSpace.{Space, AreRising}
 use Rattle.m3_heap.specs.CollectorTracing.{moves_from, placed, marked_words, marked, words_kept, IsCopy, AreDistinct, Traces, old_cells, copies, moves, IsTracing, Keeps}
-use Rattle.m3_heap.proofs.SpaceLemmas.{AreLater, with_word-later, start-fits}
+use Rattle.m3_heap.proofs.SpaceLemmas.{AreLater, with_word-later, rising-fits}
 use Rattle.m3_heap.proofs.TracingLemmas.{all_map, all_append, none_or_some, new_start-lacks, new_start-one, new_start-same, moves_from-append, placed-append, total-append, total-placed, copy-at, header-unmarked, header-marked, cells-told, copies-told, tracing-told}
 
 -- ---- marks keep starts and lengths
@@ -54,9 +54,9 @@ words_from-marked ms (c ∷ cs) at =
     ∙ ap (λ ws. marked_words (new_start ms at) ws) (sym (cond-false (eqb c.start at) c.words (words_from cs at) (ne_eqb c.start at differs))))
     (cases_eq c.start at)
 
-later-cells : (a at : ℕ) (cs : List Cell) → AreLaid a cs → at < a → AreLater at cs
+later-cells : (a at : ℕ) (cs : List Cell) → AreRising a cs → at < a → AreLater at cs
 later-cells a at [] h lt = tt
-later-cells a at (c ∷ cs) h lt = (omega (arith, h.0), later-cells (a + length c.words) at cs h.2 (omega arith))
+later-cells a at (c ∷ cs) h lt = (omega (arith, h.0), later-cells (c.start + length c.words) at cs h.2 (omega (arith, h.0)))
 
 later-marked : (ms : List Move) (at : ℕ) (cs : List Cell) → AreLater at cs → AreLater at (marked ms cs)
 later-marked ms at [] h = tt
@@ -76,7 +76,7 @@ mark-first c w b same some = ap (λ k. set c.words k b) (let none : w - c.start 
     first-set [] b h = refl
     first-set (w ∷ ws) b h = refl
 
-pub marked-push : (a : ℕ) (cs : List Cell) (ms : List Move) (w b : ℕ) → AreLaid a cs → is_start cs w ≡ true → new_start ms w ≡ None → marked (ms ++ record { from = w; to = b } ∷ []) cs ≡ with_word (marked ms cs) w b
+pub marked-push : (a : ℕ) (cs : List Cell) (ms : List Move) (w b : ℕ) → AreRising a cs → is_start cs w ≡ true → new_start ms w ≡ None → marked (ms ++ record { from = w; to = b } ∷ []) cs ≡ with_word (marked ms cs) w b
 marked-push a [] ms w b laid starts none = refl
 marked-push a (c ∷ cs) ms w b laid starts none =
     let more = ms ++ record { from = w; to = b } ∷ [] in
@@ -90,18 +90,18 @@ marked-push a (c ∷ cs) ms w b laid starts none =
     let put : Cell = record { start = c.start; words = set was.words (w - was.start) b } in
     let hit = cond-true (covers was w) put was (rw (le-leb c.start w (omega arith), lt-ltb w (c.start + length was.words) (omega (arith, laid.1)))) in
     let set-is : set was.words (w - was.start) b ≡ marked_words (Some b) c.words = ap (λ (ws : List ℕ). set ws (w - c.start) b) plain ∙ mark-first c w b same laid.1 in
-    let later = later-cells (a + length c.words) w cs laid.2 (omega (arith, laid.0, laid.1)) in
+    let later = later-cells (c.start + length c.words) w cs laid.2 (omega (arith, laid.1)) in
     let rest = marked-same ms w b cs (all_map (λ (d : Cell). w < d.start) (λ (d : Cell). w ≢ d.start) (λ d lt. λ (e : w ≡ d.start). omega arith) cs later) in
     let rest' = with_word-later (marked ms cs) w b (later-marked ms w cs later) in
     let first : marked_words (new_start more c.start) c.words ≡ set was.words (w - was.start) b = ap (λ o. marked_words o c.words) found ∙ sym set-is in
     cc)
     (λ (differs : c.start ≡ w → ⊥).
     let rest-starts = sym (ap is_some (cond-false (eqb c.start w) (Some c) (cell_from cs w) (ne_eqb c.start w differs))) ∙ starts in
-    let fits = start-fits (a + length c.words) w cs laid.2 rest-starts in
+    let fits = rising-fits (c.start + length c.words) w cs laid.2 rest-starts in
     let put : Cell = record { start = c.start; words = set was.words (w - was.start) b } in
     let miss = cond-false (covers was w) put was (rw (le-leb c.start w (omega (arith, laid.0, fits.0)), le-ltb w (c.start + length was.words) (omega (arith, laid.0, fits.0)))) in
     let first = new_start-same ms w b c.start (λ (e : w ≡ c.start). differs (sym e)) in
-    let rest = marked-push (a + length c.words) cs ms w b laid.2 rest-starts none in
+    let rest = marked-push (c.start + length c.words) cs ms w b laid.2 rest-starts none in
     cc)
     (cases_eq c.start w)
 
@@ -114,7 +114,7 @@ kept-same ms w b (c ∷ cs) h =
     let rest = kept-same ms w b cs h.1 in
     cc
 
-pub kept-push : (a : ℕ) (cs : List Cell) (ms : List Move) (w b : ℕ) → AreLaid a cs → is_start cs w ≡ true → new_start ms w ≡ None → words_kept (ms ++ record { from = w; to = b } ∷ []) cs ≡ words_kept ms cs + length (words_from cs w)
+pub kept-push : (a : ℕ) (cs : List Cell) (ms : List Move) (w b : ℕ) → AreRising a cs → is_start cs w ≡ true → new_start ms w ≡ None → words_kept (ms ++ record { from = w; to = b } ∷ []) cs ≡ words_kept ms cs + length (words_from cs w)
 kept-push a [] ms w b laid starts none = absurd (false≢true starts)
 kept-push a (c ∷ cs) ms w b laid starts none =
     let more = ms ++ record { from = w; to = b } ∷ [] in
@@ -124,14 +124,14 @@ kept-push a (c ∷ cs) ms w b laid starts none =
     let clean : is_kept ms c.start ≡ false = ap (λ n. is_kept ms n) same ∙ ap is_some none in
     let now = cond-true (is_kept more c.start) (length c.words) 0 found in
     let was = cond-false (is_kept ms c.start) (length c.words) 0 clean in
-    let later = later-cells (a + length c.words) w cs laid.2 (omega (arith, laid.0, laid.1)) in
+    let later = later-cells (c.start + length c.words) w cs laid.2 (omega (arith, laid.1)) in
     let rest = kept-same ms w b cs (all_map (λ (d : Cell). w < d.start) (λ (d : Cell). w ≢ d.start) (λ d lt. λ (e : w ≡ d.start). omega arith) cs later) in
     let words = ap (λ (ws : List ℕ). length ws) (cond-true (eqb c.start w) c.words (words_from cs w) (eq-eqb c.start w same)) in
     omega arith)
     (λ (differs : c.start ≡ w → ⊥).
     let rest-starts = sym (ap is_some (cond-false (eqb c.start w) (Some c) (cell_from cs w) (ne_eqb c.start w differs))) ∙ starts in
     let first = ap (λ b'. cond b' (length c.words) 0) (ap is_some (new_start-same ms w b c.start (λ (e : w ≡ c.start). differs (sym e)))) in
-    let rest = kept-push (a + length c.words) cs ms w b laid.2 rest-starts none in
+    let rest = kept-push (c.start + length c.words) cs ms w b laid.2 rest-starts none in
     let words = ap (λ (ws : List ℕ). length ws) (cond-false (eqb c.start w) c.words (words_from cs w) (ne_eqb c.start w differs)) in
     omega arith)
     (cases_eq c.start w)
@@ -179,7 +179,7 @@ pub fresh-header : (left kept : Space) (cs ks : List Cell) (w : ℕ) → Traces 
 fresh-header left kept cs ks w h starts low =
     let ms = moves_from kept.base ks in
     let words = ap (λ fs. words_from fs w) h.is_marked ∙ words_from-marked ms cs w in
-    let some = start-fits left.base w cs h.laid starts in
+    let some = rising-fits left.base w cs h.rising starts in
     let none : new_start ms w ≡ None = ⊎_elim
     (λ (none : new_start ms w ≡ None). none)
     (λ (found : (d : ℕ) × (new_start ms w ≡ Some d)).
@@ -197,7 +197,7 @@ pub kept-header : (left kept : Space) (cs ks : List Cell) (w : ℕ) → Traces l
 kept-header left kept cs ks w h starts high =
     let ms = moves_from kept.base ks in
     let words = ap (λ fs. words_from fs w) h.is_marked ∙ words_from-marked ms cs w in
-    let some = start-fits left.base w cs h.laid starts in
+    let some = rising-fits left.base w cs h.rising starts in
     ⊎_elim
     (λ (none : new_start ms w ≡ None).
     let head = ap header words ∙ header-unmarked (new_start ms w) (words_from cs w) none in
@@ -215,7 +215,7 @@ is_start-left left kept cs ks w h = ap (λ fs. is_start fs w) h.is_marked ∙ is
 pub copy-room : (left kept : Space) (cs ks : List Cell) (w : ℕ) → Traces left kept cs ks → is_start cs w ≡ true → new_start (moves_from kept.base ks) w ≡ None → total_words kept.cells + length (words_from cs w) ≤ kept.size
 copy-room left kept cs ks w h starts none =
     let ms = moves_from kept.base ks in
-    let more = kept-push left.base cs ms w 0 h.laid starts none in
+    let more = kept-push left.base cs ms w 0 h.rising starts none in
     let all = kept-le (ms ++ record { from = w; to = 0 } ∷ []) cs in
     let now = ap total_words h.is_placed ∙ total-placed kept.base ks ∙ h.counted in
     omega (arith, h.fits)
@@ -228,21 +228,21 @@ copied left kept left' kept' cs ks w h starts none lb kb size lc kc =
     let to = kept.base + total_words kept.cells in
     let list : moves_from kept.base (ks ++ k ∷ []) ≡ ms ++ record { from = w; to = to } ∷ [] =
     moves_from-append kept.base ks (k ∷ []) ∙ ap (λ n. ms ++ record { from = w; to = kept.base + n } ∷ []) (sym end) in
-    let some = start-fits left.base w cs h.laid starts in
-    let P : ℕ → Type 0 = λ n. AreLaid n cs in
+    let some = rising-fits left.base w cs h.rising starts in
+    let P : ℕ → Type 0 = λ n. AreRising n cs in
     let Q : ℕ → Type 0 = λ n. total_words cs ≤ n in
     let R : ℕ → Type 0 = λ n. heap_base ≤ n in
     record {
       headed = h.headed;
       short = h.short;
-      laid = subst P (sym lb) h.laid;
+      rising = subst P (sym lb) h.rising;
       fits = subst Q (sym size) h.fits;
       left_base = subst R (sym lb) h.left_base;
       kept_base = subst R (sym kb) h.kept_base;
       kept_ends = omega (arith, h.kept_ends, kb, size);
       is_marked =
           lc ∙ ap (λ fs. with_word fs w to) h.is_marked
-          ∙ sym (ap (λ b. marked (moves_from b (ks ++ k ∷ [])) cs) kb ∙ ap (λ l. marked l cs) list ∙ marked-push left.base cs ms w to h.laid starts none);
+          ∙ sym (ap (λ b. marked (moves_from b (ks ++ k ∷ [])) cs) kb ∙ ap (λ l. marked l cs) list ∙ marked-push left.base cs ms w to h.rising starts none);
       is_placed =
           kc ∙ ap (λ ts. ts ++ record { start = to; words = words_from cs w } ∷ []) h.is_placed
           ∙ ap (λ n. placed kept.base ks ++ record { start = kept.base + n; words = words_from cs w } ∷ []) end
@@ -252,7 +252,7 @@ copied left kept left' kept' cs ks w h starts none lb kb size lc kc =
       counted =
           total-append ks (k ∷ [])
           ∙ (let sum : total_words ks + (length (words_from cs w) + 0) ≡ words_kept ms cs + length (words_from cs w) = omega (arith, h.counted) in sum)
-          ∙ sym (ap (λ b. words_kept (moves_from b (ks ++ k ∷ [])) cs) kb ∙ ap (λ l. words_kept l cs) list ∙ kept-push left.base cs ms w to h.laid starts none);
+          ∙ sym (ap (λ b. words_kept (moves_from b (ks ++ k ∷ [])) cs) kb ∙ ap (λ l. words_kept l cs) list ∙ kept-push left.base cs ms w to h.rising starts none);
     }
 
 -- ---- what keeping a word's cell leaves

@@ -10,7 +10,7 @@ use Rattle.m3_heap.specs.Reach.{HasPointer, IsWordAfter, IsReachable, HasBadPoin
 use Rattle.m3_heap.specs.CollectorSpace.{Space, AreLaid}
 use Rattle.m3_heap.specs.CollectorTracing.{moves_from, placed, IsCopy, AreDistinct, Traces, old_cells, copies, moves, IsTracing}
 use Rattle.m3_heap.specs.CollectorScanning.{PointsToKept, AreSettled, AreScanned, pointers_met, met}
-use Rattle.m3_heap.proofs.SpaceLemmas.{start-fits, covers-later}
+use Rattle.m3_heap.proofs.SpaceLemmas.{rising-fits, covers-later}
 use Rattle.m3_heap.proofs.TracingLemmas.{all_map, none_or_some, new_start-found}
 use Rattle.m3_heap.proofs.CopyLemmas.{all-at}
 use Rattle.m3_heap.proofs.ScanLemmas.{all-scanned, all-met}
@@ -109,7 +109,7 @@ done-settled shapes roots left kept cs ks d from w there pointer =
     (ap (λ ws. is_pointer_word shapes ws pointer.place) words ∙ pointer.pointer) (ap (λ ws. slice_get ws pointer.place) words ∙ pointer.holds)
 
 start-high : (left kept : Space) (cs ks : List Cell) (w : ℕ) → Traces left kept cs ks → is_start cs w ≡ true → heap_base ≤ w
-start-high left kept cs ks w h starts = let fits = start-fits left.base w cs h.laid starts in omega (arith, fits.0, h.left_base)
+start-high left kept cs ks w h starts = let fits = rising-fits left.base w cs h.rising starts in omega (arith, fits.0, h.left_base)
 
 kept-starts-there : (left kept : Space) (cs ks : List Cell) (w : ℕ) → Traces left kept cs ks → is_kept (moves_from kept.base ks) w ≡ true → is_start cs w ≡ true
 kept-starts-there left kept cs ks w h there =

@@ -124,11 +124,11 @@ finished-rest shapes left kept left' kept' fin =
     }
 
 -- the halves change places
-pub swapped : (semi : Inside) (left' kept' : Space) (copied asked fulls : ℕ) → IsSemi semi → Grows semi.here semi.there left' kept' → AreAtRest kept' → copied ≤ total_words kept'.cells → IsSemi (record { here = kept'; there = left'; is_open = false; copied = copied; asked = asked; fulls = fulls })
+pub swapped : (semi : Inside) (left' kept' : Space) (copied asked fulls : ℕ) → IsSemi semi → Grows semi.pair.here semi.pair.there left' kept' → AreAtRest kept' → copied ≤ total_words kept'.cells → IsSemi (record { pair = record { here = kept'; there = left' }; is_open = false; copied = copied; asked = asked; fulls = fulls })
 swapped semi left' kept' copied asked fulls h g rest few = record {
   bases = ⊎_elim
-      (λ (p : (semi.here.base ≡ first_base) × (semi.there.base ≡ second_base)). inr (g.kept_base ∙ p.1, g.left_base ∙ p.0))
-      (λ (p : (semi.here.base ≡ second_base) × (semi.there.base ≡ first_base)). inl (g.kept_base ∙ p.1, g.left_base ∙ p.0))
+      (λ (p : (semi.pair.here.base ≡ first_base) × (semi.pair.there.base ≡ second_base)). inr (g.kept_base ∙ p.1, g.left_base ∙ p.0))
+      (λ (p : (semi.pair.here.base ≡ second_base) × (semi.pair.there.base ≡ first_base)). inl (g.kept_base ∙ p.1, g.left_base ∙ p.0))
       h.bases;
   same_size = g.left_size ∙ sym (g.kept_size ∙ h.same_size);
   small = omega (arith, g.kept_size, h.same_size, h.small);
@@ -136,28 +136,28 @@ swapped semi left' kept' copied asked fulls h g rest few = record {
 }
 
 -- the other half is in use
-pub changes : (semi : Inside) (left' kept' : Space) (c a f c' a' f' : ℕ) → IsSemi semi → Grows semi.here semi.there left' kept' → ChangesHalves (semi_heap true semi.here semi.there c a f) (semi_heap false kept' left' c' a' f')
+pub changes : (semi : Inside) (left' kept' : Space) (c a f c' a' f' : ℕ) → IsSemi semi → Grows semi.pair.here semi.pair.there left' kept' → ChangesHalves (semi_heap true semi.pair.here semi.pair.there c a f) (semi_heap false kept' left' c' a' f')
 changes semi left' kept' c a f c' a' f' h g = record {
   base = ⊎_elim
-      (λ (p : (semi.here.base ≡ first_base) × (semi.there.base ≡ second_base)). g.kept_base ∙ p.1 ∙ sym (ap (λ n. other_base n) p.0))
-      (λ (p : (semi.here.base ≡ second_base) × (semi.there.base ≡ first_base)). g.kept_base ∙ p.1 ∙ sym (ap (λ n. other_base n) p.0))
+      (λ (p : (semi.pair.here.base ≡ first_base) × (semi.pair.there.base ≡ second_base)). g.kept_base ∙ p.1 ∙ sym (ap (λ n. other_base n) p.0))
+      (λ (p : (semi.pair.here.base ≡ second_base) × (semi.pair.there.base ≡ first_base)). g.kept_base ∙ p.1 ∙ sym (ap (λ n. other_base n) p.0))
       h.bases;
   young = refl;
 }
 
 -- what holds of the heaps that the fields show
-pub told : (semi : Inside) (v : Heap) (x y left' kept' : Space) (copied fulls : ℕ) → semi_of semi ≡ v → semi.is_open ≡ true → x ≡ kept' → y ≡ left' → (R : Heap → Heap → Type 0) → R (semi_heap true semi.here semi.there semi.copied semi.asked semi.fulls) (semi_heap false kept' left' copied 0 fulls) → R v (semi_heap false x y copied 0 fulls)
+pub told : (semi : Inside) (v : Heap) (x y left' kept' : Space) (copied fulls : ℕ) → semi_of semi ≡ v → semi.is_open ≡ true → x ≡ kept' → y ≡ left' → (R : Heap → Heap → Type 0) → R (semi_heap true semi.pair.here semi.pair.there semi.copied semi.asked semi.fulls) (semi_heap false kept' left' copied 0 fulls) → R v (semi_heap false x y copied 0 fulls)
 told semi v x y left' kept' copied fulls is opens ex ey R h =
-    let old : semi_heap true semi.here semi.there semi.copied semi.asked semi.fulls ≡ v =
-    ap (λ b. semi_heap b semi.here semi.there semi.copied semi.asked semi.fulls) (sym opens) ∙ is in
+    let old : semi_heap true semi.pair.here semi.pair.there semi.copied semi.asked semi.fulls ≡ v =
+    ap (λ b. semi_heap b semi.pair.here semi.pair.there semi.copied semi.asked semi.fulls) (sym opens) ∙ is in
     let new : semi_heap false kept' left' copied 0 fulls ≡ semi_heap false x y copied 0 fulls =
     ap (λ s. semi_heap false s left' copied 0 fulls) (sym ex) ∙ ap (λ s. semi_heap false x s copied 0 fulls) (sym ey) in
     let P : Heap → Type 0 = λ o. R o (semi_heap false kept' left' copied 0 fulls) in
     let Q : Heap → Type 0 = λ n. R v n in
     subst Q new (subst P old h)
 
-pub swapped-semi : (semi : Inside) (x y left' kept' : Space) (copied fulls : ℕ) → IsSemi semi → Grows semi.here semi.there left' kept' → AreAtRest kept' → copied ≤ total_words kept'.cells → x ≡ kept' → y ≡ left' → IsSemi (record { here = x; there = y; is_open = false; copied = copied; asked = 0; fulls = fulls })
+pub swapped-semi : (semi : Inside) (x y left' kept' : Space) (copied fulls : ℕ) → IsSemi semi → Grows semi.pair.here semi.pair.there left' kept' → AreAtRest kept' → copied ≤ total_words kept'.cells → x ≡ kept' → y ≡ left' → IsSemi (record { pair = record { here = x; there = y }; is_open = false; copied = copied; asked = 0; fulls = fulls })
 swapped-semi semi x y left' kept' copied fulls h g rest few ex ey =
-    let P : Space → Type 0 = λ s. IsSemi (record { here = s; there = left'; is_open = false; copied = copied; asked = 0; fulls = fulls }) in
-    let Q : Space → Type 0 = λ s. IsSemi (record { here = x; there = s; is_open = false; copied = copied; asked = 0; fulls = fulls }) in
+    let P : Space → Type 0 = λ s. IsSemi (record { pair = record { here = s; there = left' }; is_open = false; copied = copied; asked = 0; fulls = fulls }) in
+    let Q : Space → Type 0 = λ s. IsSemi (record { pair = record { here = x; there = s }; is_open = false; copied = copied; asked = 0; fulls = fulls }) in
     subst Q (sym ey) (subst P (sym ex) (swapped semi left' kept' copied 0 fulls h g rest few))

@@ -14,21 +14,22 @@ use Rattle.m3_heap.specs.CollectorScanning.{ArePlain}
 use Rattle.m3_heap.specs.CollectorHalves.{semi_of, IsSemi, cells_seen, semi_heap, copied_moves, AreAtRest, AreMoving, IsAsOpen}
 use Rattle.m3_heap.specs.declared.halves.Halves.TheInside.{Inside}
 use Rattle.m3_heap.proofs.TracingLemmas.{all_append, none_or_some, new_start-lacks, new_start-one, total-placed, total-append, moves_from-append, cells-told, copies-told, tracing-told}
+use Rattle.m3_heap.proofs.SpaceLemmas.{laid-rising}
 use Rattle.m3_heap.proofs.CopyLemmas.{forwarded-kept}
 use Rattle.m3_heap.proofs.FinalLemmas.{sound-cells, laid-apart, words-moved}
 
-pub bases-high : (semi : Inside) → IsSemi semi → (heap_base ≤ semi.here.base) × (heap_base ≤ semi.there.base) × (semi.here.base + semi.here.size ≤ 9223372036854775808) × (semi.there.base + semi.there.size ≤ 9223372036854775808)
+pub bases-high : (semi : Inside) → IsSemi semi → (heap_base ≤ semi.pair.here.base) × (heap_base ≤ semi.pair.there.base) × (semi.pair.here.base + semi.pair.here.size ≤ 9223372036854775808) × (semi.pair.there.base + semi.pair.there.size ≤ 9223372036854775808)
 bases-high semi h = ⊎_elim
-    (λ (p : (semi.here.base ≡ first_base) × (semi.there.base ≡ second_base)). (omega (arith, p.0), omega (arith, p.1), omega (arith, p.0, h.small), omega (arith, p.1, h.small, h.same_size)))
-    (λ (p : (semi.here.base ≡ second_base) × (semi.there.base ≡ first_base)). (omega (arith, p.0), omega (arith, p.1), omega (arith, p.0, h.small), omega (arith, p.1, h.small, h.same_size)))
+    (λ (p : (semi.pair.here.base ≡ first_base) × (semi.pair.there.base ≡ second_base)). (omega (arith, p.0), omega (arith, p.1), omega (arith, p.0, h.small), omega (arith, p.1, h.small, h.same_size)))
+    (λ (p : (semi.pair.here.base ≡ second_base) × (semi.pair.there.base ≡ first_base)). (omega (arith, p.0), omega (arith, p.1), omega (arith, p.0, h.small), omega (arith, p.1, h.small, h.same_size)))
     h.bases
 
 -- ---- the laws
 
-pub half-in-use : (semi : Inside) → IsSemi semi → (eqb semi.here.base first_base || eqb semi.here.base second_base) ≡ true
+pub half-in-use : (semi : Inside) → IsSemi semi → (eqb semi.pair.here.base first_base || eqb semi.pair.here.base second_base) ≡ true
 half-in-use semi h = ⊎_elim
-    (λ (p : (semi.here.base ≡ first_base) × (semi.there.base ≡ second_base)). ap (λ n. eqb n first_base || eqb n second_base) p.0)
-    (λ (p : (semi.here.base ≡ second_base) × (semi.there.base ≡ first_base)). ap (λ n. eqb n first_base || eqb n second_base) p.0)
+    (λ (p : (semi.pair.here.base ≡ first_base) × (semi.pair.there.base ≡ second_base)). ap (λ n. eqb n first_base || eqb n second_base) p.0)
+    (λ (p : (semi.pair.here.base ≡ second_base) × (semi.pair.there.base ≡ first_base)). ap (λ n. eqb n first_base || eqb n second_base) p.0)
     h.bases
 
 or-left : (x y : Bool) → x ≡ true → (x || y) ≡ true
@@ -70,14 +71,14 @@ sound-of here there b copied asked fulls headed laid room low high small half = 
 }
 
 sound-as-open : (here there : Space) (b : Bool) (copied asked fulls : ℕ) → IsAsOpen b here there copied → heap_base ≤ here.base → here.base + here.size ≤ 9223372036854775808 → here.size ≤ 67108864 → (eqb here.base first_base || eqb here.base second_base) ≡ true → IsSoundHeap (semi_heap b here there copied asked fulls)
-sound-as-open here there true copied asked fulls h low high small half = sound-of here there true copied asked fulls h.tracing.headed h.tracing.laid h.room low high small half
+sound-as-open here there true copied asked fulls h low high small half = sound-of here there true copied asked fulls h.0.tracing.headed h.1 h.0.room low high small half
 sound-as-open here there false copied asked fulls h low high small half = sound-of here there false copied asked fulls h.0.headed h.0.laid h.0.room low high small half
 
 -- whether a collection is open or not
 pub semi-sound : (semi : Inside) → IsSemi semi → IsSoundHeap (semi_of semi)
 semi-sound semi h =
     let bases = bases-high semi h in
-    sound-as-open semi.here semi.there semi.is_open semi.copied semi.asked semi.fulls h.as_open bases.0 bases.2 h.small (half-in-use semi h)
+    sound-as-open semi.pair.here semi.pair.there semi.is_open semi.copied semi.asked semi.fulls h.as_open bases.0 bases.2 h.small (half-in-use semi h)
 
 -- it has no nursery
 pub semi-halves : (semi : Inside) → (semi_of semi).nursery ≡ 0
@@ -89,17 +90,20 @@ is-closed semi v is closed = ap (λ (h : Heap). h.is_open) is ∙ closed
 pub is-opened : (semi : Inside) (v : Heap) → semi_of semi ≡ v → v.is_open ≡ true → semi.is_open ≡ true
 is-opened semi v is opened = ap (λ (h : Heap). h.is_open) is ∙ opened
 
-resting : (semi : Inside) → IsSemi semi → semi.is_open ≡ false → AreAtRest semi.here × (semi.copied ≤ total_words semi.here.cells)
-resting semi h closed = let Q : Bool → Type 0 = λ b. IsAsOpen b semi.here semi.there semi.copied in subst Q closed h.as_open
+resting : (semi : Inside) → IsSemi semi → semi.is_open ≡ false → AreAtRest semi.pair.here × (semi.copied ≤ total_words semi.pair.here.cells)
+resting semi h closed = let Q : Bool → Type 0 = λ b. IsAsOpen b semi.pair.here semi.pair.there semi.copied in subst Q closed h.as_open
 
-pub at-rest : (semi : Inside) → IsSemi semi → semi.is_open ≡ false → AreAtRest semi.here
+pub at-rest : (semi : Inside) → IsSemi semi → semi.is_open ≡ false → AreAtRest semi.pair.here
 at-rest semi h closed = (resting semi h closed).0
 
-pub few-copied : (semi : Inside) → IsSemi semi → semi.is_open ≡ false → semi.copied ≤ total_words semi.here.cells
+pub few-copied : (semi : Inside) → IsSemi semi → semi.is_open ≡ false → semi.copied ≤ total_words semi.pair.here.cells
 few-copied semi h closed = (resting semi h closed).1
 
-pub in-motion : (semi : Inside) → IsSemi semi → semi.is_open ≡ true → AreMoving semi.here semi.there
-in-motion semi h opened = let Q : Bool → Type 0 = λ b. IsAsOpen b semi.here semi.there semi.copied in subst Q opened h.as_open
+moving : (semi : Inside) → IsSemi semi → semi.is_open ≡ true → AreMoving semi.pair.here semi.pair.there × AreLaid semi.pair.here.base (old_cells semi.pair.here semi.pair.there)
+moving semi h opened = let Q : Bool → Type 0 = λ b. IsAsOpen b semi.pair.here semi.pair.there semi.copied in subst Q opened h.as_open
+
+pub in-motion : (semi : Inside) → IsSemi semi → semi.is_open ≡ true → AreMoving semi.pair.here semi.pair.there
+in-motion semi h opened = (moving semi h opened).0
 
 -- ---- a new cell
 
@@ -301,7 +305,7 @@ pub begun : (here there : Space) → AreAtRest here → there.cells ≡ [] → t
 begun here there h none size small low low' high = record {
   headed = h.headed;
   short = short-cells here.cells here.size h.headed h.room small;
-  laid = h.laid;
+  rising = laid-rising here.base here.cells h.laid;
   fits = omega (arith, h.room);
   left_base = low;
   kept_base = low';
@@ -407,19 +411,25 @@ after-visit left kept left' kept' w (Some to) h keeps l k = record {
   kept_size = keeps.kept_size;
 }
 
-pub visited-semi : (semi : Inside) (left' kept' : Space) → IsSemi semi → semi.is_open ≡ true → IsVisited semi.here semi.there left' kept' → IsSemi (record { here = left'; there = kept'; is_open = semi.is_open; copied = semi.copied; asked = semi.asked; fulls = semi.fulls })
+pub visited-semi : (semi : Inside) (left' kept' : Space) → IsSemi semi → semi.is_open ≡ true → IsVisited semi.pair.here semi.pair.there left' kept' → IsSemi (record { pair = record { here = left'; there = kept' }; is_open = semi.is_open; copied = semi.copied; asked = semi.asked; fulls = semi.fulls })
 visited-semi semi left' kept' h opened after =
     let P : Bool → Type 0 = λ b. IsAsOpen b left' kept' semi.copied in
+    let Q : List Cell → Type 0 = λ l. AreLaid semi.pair.here.base l in
+    let R : ℕ → Type 0 = λ n. AreLaid n (old_cells left' kept') in
     record {
       bases = ⊎_elim
-          (λ (p : (semi.here.base ≡ first_base) × (semi.there.base ≡ second_base)). inl (after.left_base ∙ p.0, after.kept_base ∙ p.1))
-          (λ (p : (semi.here.base ≡ second_base) × (semi.there.base ≡ first_base)). inr (after.left_base ∙ p.0, after.kept_base ∙ p.1))
+          (λ (p : (semi.pair.here.base ≡ first_base) × (semi.pair.there.base ≡ second_base)). inl (after.left_base ∙ p.0, after.kept_base ∙ p.1))
+          (λ (p : (semi.pair.here.base ≡ second_base) × (semi.pair.there.base ≡ first_base)). inr (after.left_base ∙ p.0, after.kept_base ∙ p.1))
           h.bases;
       same_size = after.kept_size ∙ h.same_size ∙ sym after.left_size;
       small = omega (arith, after.left_size, h.small);
-      as_open = subst P (sym opened) after.moving;
+      as_open = subst P (sym opened) (after.moving, subst R (sym after.left_base) (subst Q (sym after.same_cells) (moving semi h opened).1));
     }
 
 pub if-both : (K : Type 0) (V G : ℕ → Type 0) (o : Option ℕ) → IfSome o (λ _. K) → IfSome o V → ((to : ℕ) → K → V to → G to) → IfSome o G
 if-both K V G None k v f = tt
 if-both K V G (Some to) k v f = f to k v
+
+-- and the cells that stood when it began are laid out
+pub begun-laid : (here there : Space) → AreAtRest here → Traces here there here.cells [] → AreLaid here.base (old_cells here there)
+begun-laid here there h t = let P : List Cell → Type 0 = λ l. AreLaid here.base l in subst P (sym (cells-told here there here.cells [] t)) h.laid

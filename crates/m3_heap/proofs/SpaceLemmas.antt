@@ -5,7 +5,7 @@ use Rattle.std.specs.Prelude.{slice_get}
 use Rattle.std.proofs.lemmas.Bool.{cases_eq, cases_lt, lt-leb, le-leb, lt-ltb, le-ltb, eq-eqb, ne_eqb, cond-true, cond-false, false_from_ne_true, false≢true}
 use Rattle.std.proofs.lemmas.List.{set_past, length-take-le, get_or-take, drop-take, take-take}
 use Rattle.m3_heap.specs.Cells.{Cell, header, cell_from, is_start, words_from, covers, cell_word_at, with_word, total_words}
-use Rattle.m3_heap.specs.CollectorSpace.{Space, unmarked, cells_in, AreLaid}
+use Rattle.m3_heap.specs.CollectorSpace.{Space, unmarked, cells_in, AreLaid, AreRising}
 use Rattle.m3_heap.specs.declared.half.Half.TheInside.{Inside}
 use Rattle.m3_heap.specs.CollectorHalf.{IsHalf, space_of}
 
@@ -300,6 +300,25 @@ start-fits a at (c ∷ cs) h e = ⊎_elim
     let ih = start-fits (a + length c.words) at cs h.2 (sym starts ∙ e) in
     (omega (arith, ih.0), omega (arith, ih.1), omega (arith, ih.2)))
     (cases_eq c.start at)
+
+pub rising-fits : (a at : ℕ) (cells : List Cell) → AreRising a cells → is_start cells at ≡ true → (a ≤ at) × (1 ≤ length (words_from cells at))
+rising-fits a at [] h e = absurd (false≢true e)
+rising-fits a at (c ∷ cs) h e = ⊎_elim
+    (λ (same : c.start ≡ at).
+    let words = ap (λ (ws : List ℕ). length ws) (cond-true (eqb c.start at) c.words (words_from cs at) (eq-eqb c.start at same)) in
+    (omega (arith, h.0), omega (arith, h.1)))
+    (λ (differs : c.start ≡ at → ⊥).
+    let words = ap (λ (ws : List ℕ). length ws) (cond-false (eqb c.start at) c.words (words_from cs at) (ne_eqb c.start at differs)) in
+    let starts = ap is_some (cond-false (eqb c.start at) (Some c) (cell_from cs at) (ne_eqb c.start at differs)) in
+    let ih = rising-fits (c.start + length c.words) at cs h.2 (sym starts ∙ e) in
+    (omega (arith, h.0, ih.0), omega (arith, ih.1)))
+    (cases_eq c.start at)
+
+pub laid-rising : (a : ℕ) (cells : List Cell) → AreLaid a cells → AreRising a cells
+laid-rising a [] h = tt
+laid-rising a (c ∷ cs) h =
+    let P : ℕ → Type 0 = λ n. AreRising (n + length c.words) cs in
+    (omega (arith, h.0), h.1, subst P (sym h.0) (laid-rising (a + length c.words) cs h.2))
 
 pub is_start-outside : (a at : ℕ) (cells : List Cell) → AreLaid a cells → (at < a) ⊎ (a + total_words cells ≤ at) → is_start cells at ≡ false
 is_start-outside a at cells h out = false_from_ne_true (is_start cells at) (λ e.

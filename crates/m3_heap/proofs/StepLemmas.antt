@@ -310,7 +310,7 @@ traces-put left kept kept' cs ks start i v h after starts lt base size cells =
     record {
       headed = h.headed;
       short = h.short;
-      laid = h.laid;
+      rising = h.rising;
       fits = subst Q (sym size) h.fits;
       left_base = h.left_base;
       kept_base = subst R (sym base) h.kept_base;

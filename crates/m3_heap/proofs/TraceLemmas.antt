@@ -1,6 +1,7 @@
 -- The scan of a copy, and of all copies.
-use Rattle.std.proofs.Common.{◌≡◌, ℕ, ◌+◌, ◌-◌, ◌/◌, ◌<◌, ◌≤◌, suc, true, eqb, List, [], ◌∷◌, ◌++◌, length, Some, is_some, refl, sym, ap, subst, ◌∙◌, arith, ⊎_elim, inl, inr, ◌⊎◌, append_assoc}
+use Rattle.std.proofs.Common.{◌≡◌, ℕ, ◌+◌, ◌-◌, ◌/◌, ◌<◌, ◌≤◌, suc, Bool, true, false, eqb, List, [], ◌∷◌, ◌++◌, length, Some, is_some, refl, sym, ap, subst, ◌∙◌, arith, ⊎_elim, inl, inr, ◌⊎◌, append_assoc}
 use Rattle.std.specs.List.{AllByRecursion, Contains}
+use Rattle.std.specs.Bool.{OnTrue, MatchBool}
 use Rattle.std.proofs.lemmas.Bool.{cases_eq, eq-eqb, ne_eqb, cond-true, cond-false, false≢true}
 use Rattle.std.proofs.lemmas.List.{append-nil}
 use Rattle.m3_heap.specs.Cells.{Cell, header, cell_from, is_start, words_from, cell_word_at, total_words, words_in}
@@ -154,3 +155,13 @@ visited-reached shapes left kept h =
     all_map (λ (k : Cell). IsCopy cs k × Contains (kept_starts (moves left kept)) k.start) (λ (k : Cell). IsReachable shapes cs (kept_starts (moves left kept)) k.start)
     (λ k p. record { starts = p.0.starts; steps = 0; leads = p.1 })
     ks (all_zip (IsCopy cs) (λ (k : Cell). Contains (kept_starts (moves left kept)) k.start) ks h.are_copies (all-roots kept.base ks))
+
+-- ---- what an answer tells
+
+pub when-true : (b : Bool) (A B : Type 0) → MatchBool b A B → OnTrue b A
+when-true true A B m = m
+when-true false A B m = tt
+
+pub when-false : (b : Bool) (A B : Type 0) → MatchBool b A B → b ≡ false → B
+when-false true A B m e = absurd (cc)
+when-false false A B m e = m

@@ -5,7 +5,7 @@ use Rattle.std.specs.Prelude.{slice_get}
 use Rattle.std.proofs.lemmas.Bool.{cases_eq, lt-ltb, le-ltb, le-leb, eq-eqb, ne_eqb, cond-true, cond-false, false≢true}
 use Rattle.m3_heap.specs.Cells.{Cell, heap_base, header, cell_from, is_start, words_from, covers, cell_word_at, total_words}
 use Rattle.m3_heap.specs.Moves.{Move, new_start}
-use Rattle.m3_heap.specs.CollectorSpace.{Space, AreLaid}
+use Rattle.m3_heap.specs.CollectorSpace.{Space, AreRising}
 use Rattle.m3_heap.specs.CollectorTracing.{restored, standing, origin, copies_of, moves_from, placed, marked_words, marked, IsCopy, AreDistinct, IsShort, Traces, old_cells, copies, IsTracing}
 
 -- ---- facts of each item of a list
@@ -154,13 +154,13 @@ new_start-apart cs b (k ∷ ks) a a' c h e e' =
 -- ---- the half that is left
 
 -- what holds where cells are laid: each has the words that are found by its start
-pub own-words : (a : ℕ) (cs : List Cell) → AreLaid a cs → AllByRecursion (λ (c : Cell). (words_from cs c.start ≡ c.words) × (a ≤ c.start)) cs
+pub own-words : (a : ℕ) (cs : List Cell) → AreRising a cs → AllByRecursion (λ (c : Cell). (words_from cs c.start ≡ c.words) × (a ≤ c.start)) cs
 own-words a [] h = tt
 own-words a (c ∷ cs) h = (
   (cond-true (eqb c.start c.start) c.words (words_from cs c.start) (eq-eqb c.start c.start refl), omega (arith, h.0)),
-  all_map (λ (d : Cell). (words_from cs d.start ≡ d.words) × (a + length c.words ≤ d.start)) (λ (d : Cell). (words_from (c ∷ cs) d.start ≡ d.words) × (a ≤ d.start))
-      (λ d p. (cond-false (eqb c.start d.start) c.words (words_from cs d.start) (ne_eqb c.start d.start (λ (e : c.start ≡ d.start). omega (arith, p.1, h.0, h.1))) ∙ p.0, omega (arith, p.1)))
-      cs (own-words (a + length c.words) cs h.2),
+  all_map (λ (d : Cell). (words_from cs d.start ≡ d.words) × (c.start + length c.words ≤ d.start)) (λ (d : Cell). (words_from (c ∷ cs) d.start ≡ d.words) × (a ≤ d.start))
+      (λ d p. (cond-false (eqb c.start d.start) c.words (words_from cs d.start) (ne_eqb c.start d.start (λ (e : c.start ≡ d.start). omega (arith, p.1, h.1))) ∙ p.0, omega (arith, p.1, h.0)))
+      cs (own-words (c.start + length c.words) cs h.2),
 )
 
 restored-cell : (cs : List Cell) (b : ℕ) (ks : List Cell) (a : ℕ) (ws : List ℕ) (o : Option ℕ) → AllByRecursion (IsCopy cs) ks → heap_base ≤ b → header ws < heap_base → words_from cs a ≡ ws → new_start (moves_from b ks) a ≡ o → restored (placed b ks) (marked_words o ws) ≡ ws
@@ -181,7 +181,7 @@ standing-marked T ms (c ∷ cs) h =
     let first = ap (λ (ws : List ℕ). let cell : Cell = record { start = c.start; words = ws } in cell) h.0 in
     ap (λ (d : Cell). d ∷ standing T (marked ms cs)) first ∙ ap (λ ds. c ∷ ds) rest
 
-pub standing-is : (cs : List Cell) (a b : ℕ) (ks : List Cell) → AreLaid a cs → AllByRecursion IsShort cs → AllByRecursion (IsCopy cs) ks → heap_base ≤ b → standing (placed b ks) (marked (moves_from b ks) cs) ≡ cs
+pub standing-is : (cs : List Cell) (a b : ℕ) (ks : List Cell) → AreRising a cs → AllByRecursion IsShort cs → AllByRecursion (IsCopy cs) ks → heap_base ≤ b → standing (placed b ks) (marked (moves_from b ks) cs) ≡ cs
 standing-is cs a b ks laid short copied low =
     standing-marked (placed b ks) (moves_from b ks) cs
     (all_map (λ (c : Cell). ((words_from cs c.start ≡ c.words) × (a ≤ c.start)) × IsShort c) (λ (c : Cell). restored (placed b ks) (marked_words (new_start (moves_from b ks) c.start) c.words) ≡ c.words)
@@ -246,7 +246,7 @@ copies-is cs b ks short copied distinct low =
 pub cells-told : (left kept : Space) (cs ks : List Cell) → Traces left kept cs ks → old_cells left kept ≡ cs
 cells-told left kept cs ks h =
     ap (λ fs. standing kept.cells fs) h.is_marked ∙ ap (λ ts. standing ts (marked (moves_from kept.base ks) cs)) h.is_placed
-    ∙ standing-is cs left.base kept.base ks h.laid h.short h.are_copies h.kept_base
+    ∙ standing-is cs left.base kept.base ks h.rising h.short h.are_copies h.kept_base
 
 pub copies-told : (left kept : Space) (cs ks : List Cell) → Traces left kept cs ks → copies left kept ≡ ks
 copies-told left kept cs ks h =

@@ -58,14 +58,14 @@ pub record AreMoving (here there : Space) : Type 0 where
 
 -- and the last collection copied so many words of them
 abbrev pub IsAsOpen : Bool → Space → Space → ℕ → Type 0
-IsAsOpen true here there copied = AreMoving here there
+IsAsOpen true here there copied = AreMoving here there × AreLaid here.base (old_cells here there)
 IsAsOpen false here there copied = AreAtRest here × (copied ≤ total_words here.cells)
 
 abbrev pub semi_of : Inside → Heap
-semi_of semi = semi_heap semi.is_open semi.here semi.there semi.copied semi.asked semi.fulls
+semi_of semi = semi_heap semi.is_open semi.pair.here semi.pair.there semi.copied semi.asked semi.fulls
 
 pub record IsSemi (semi : Inside) : Type 0 where
-  pub bases : ((semi.here.base ≡ first_base) × (semi.there.base ≡ second_base)) ⊎ ((semi.here.base ≡ second_base) × (semi.there.base ≡ first_base))
-  pub same_size : semi.there.size ≡ semi.here.size
-  pub small : semi.here.size ≤ 67108864
-  pub as_open : IsAsOpen semi.is_open semi.here semi.there semi.copied
+  pub bases : ((semi.pair.here.base ≡ first_base) × (semi.pair.there.base ≡ second_base)) ⊎ ((semi.pair.here.base ≡ second_base) × (semi.pair.there.base ≡ first_base))
+  pub same_size : semi.pair.there.size ≡ semi.pair.here.size
+  pub small : semi.pair.here.size ≤ 67108864
+  pub as_open : IsAsOpen semi.is_open semi.pair.here semi.pair.there semi.copied

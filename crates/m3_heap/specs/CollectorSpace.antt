@@ -26,3 +26,8 @@ cells_in at (false ∷ marks) (word ∷ words) = cells_in (at + 1) marks words
 abbrev pub AreLaid : ℕ → List Cell → Type 0
 AreLaid at [] = Unit {0}
 AreLaid at (cell ∷ cells) = (cell.start ≡ at) × (1 ≤ length cell.words) × AreLaid (at + length cell.words) cells
+
+-- the cells lie behind an address in their order, perhaps with room between them, and none is empty
+abbrev pub AreRising : ℕ → List Cell → Type 0
+AreRising at [] = Unit {0}
+AreRising at (cell ∷ cells) = (at ≤ cell.start) × (1 ≤ length cell.words) × AreRising (cell.start + length cell.words) cells

@@ -4,7 +4,7 @@ use Rattle.std.specs.Prelude.{◌≡◌, ◌≢◌, ℕ, ◌+◌, ◌<◌, ◌�
 use Rattle.std.specs.List.{AllByRecursion}
 use Rattle.m3_heap.specs.Cells.{Cell, heap_base, header, is_start, words_from, cell_word_at, total_words, IsHeaded}
 use Rattle.m3_heap.specs.Moves.{Move, new_start, is_kept}
-use Rattle.m3_heap.specs.CollectorSpace.{Space, AreLaid}
+use Rattle.m3_heap.specs.CollectorSpace.{Space, AreRising}
 
 -- a cell's words with the header that it had: a word where heaps lie stands for the copy's header
 abbrev pub restored : List Cell → List ℕ → List ℕ
@@ -70,7 +70,7 @@ IsShort cell = (header cell.words < heap_base) × (1 ≤ length cell.words)
 pub record Traces (left kept : Space) (stood copied : List Cell) : Type 0 where
   pub headed : AllByRecursion IsHeaded stood
   pub short : AllByRecursion IsShort stood
-  pub laid : AreLaid left.base stood
+  pub rising : AreRising left.base stood
   pub fits : total_words stood ≤ kept.size
   pub left_base : heap_base ≤ left.base
   pub kept_base : heap_base ≤ kept.base

@@ -3,9 +3,10 @@ ghost use Rattle.std.specs.Option.{IfNone};
 ghost use Rattle.std.specs.Prelude.{◌≡◌, ℕ, ◌+◌, ◌≤◌, ◌↔◌, true, false, if◌then◌else◌, IsNone, IfSome, IfOk, IsTrue, List, []};
 ghost use Rattle.m3_heap.specs.Heap.{counted};
 
-use crate::copying::{forward, trace};
+use crate::copying::Copying;
 use crate::half::Half;
 use crate::maps::Maps;
+use crate::pair::{trace, Pair};
 use crate::steps::Steps;
 use m3_base::NoMemory;
 use std::alloc::Global;
@@ -22,8 +23,7 @@ const SECOND_BASE: u64 = 1 << 61;
 /// from then on (Cheney 1970).
 #[derive(Drop)]
 pub struct Halves {
-    here: Half,
-    there: Half,
+    pair: Pair,
     is_open: bool,
     copied: u64,
     asked: u64,
@@ -54,8 +54,7 @@ impl Halves {
         let here = Half::new(alloc, FIRST_BASE, words as usize)?;
         let there = Half::new(alloc, SECOND_BASE, words as usize)?;
         Ok(Halves {
-            here,
-            there,
+            pair: Pair { here, there },
             is_open: false,
             copied: 0,
             asked: 0,
@@ -86,12 +85,12 @@ impl Halves {
         ensures sound { IsSoundHeap self.new }
         ensures of_halves { IsOfHalves self.new }
     {
-        if words > self.here.free() {
+        if words > self.pair.here.free() {
             self.asked = words;
             return None;
         }
         let header = u64::from(kind) + words * (1 << 32);
-        Some(self.here.append_zeroed(header, words))
+        Some(self.pair.here.append_zeroed(header, words))
     }
 
     /// As `load` of a store.
@@ -100,7 +99,7 @@ impl Halves {
         requires closed { self.now.is_open ≡ false }
         ensures { result ≡ cell_word_at self.now.cells at }
     {
-        self.here.word(at)
+        self.pair.here.word(at)
     }
 
     /// As `store` of a store.
@@ -113,7 +112,7 @@ impl Halves {
         ensures sound { IsSoundHeap self.new }
         ensures of_halves { IsOfHalves self.new }
     {
-        self.here.replace(at, word)
+        self.pair.here.replace(at, word)
     }
 
     /// As `begin` of a store.
@@ -124,7 +123,7 @@ impl Halves {
         ensures sound { IsSoundHeap self.new }
         ensures of_halves { IsOfHalves self.new }
     {
-        self.there.clear();
+        self.pair.there.clear();
         self.is_open = true;
     }
 
@@ -140,7 +139,7 @@ impl Halves {
         ensures of_halves { IsOfHalves self.new }
     {
         steps.tick();
-        forward(&mut self.here, &mut self.there, word, steps)
+        self.pair.forward(word, steps)
     }
 
     /// As `finish` of a store. Where it answers true, the other half is in use.
@@ -160,16 +159,16 @@ impl Halves {
         ensures sound { IsSoundHeap self.new }
         ensures of_halves { IsOfHalves self.new }
     {
-        let is_traced = trace(&mut self.here, &mut self.there, maps, steps);
+        let is_traced = trace(&mut self.pair, maps, steps);
         self.is_open = false;
         self.asked = 0;
         self.copied = 0;
         if !is_traced {
-            self.here.clear();
+            self.pair.here.clear();
             return false;
         }
-        self.copied = self.there.total();
-        mem::swap(&mut self.here, &mut self.there);
+        self.copied = self.pair.there.total();
+        mem::swap(&mut self.pair.here, &mut self.pair.there);
         self.fulls = one_more(self.fulls);
         true
     }
@@ -179,6 +178,6 @@ impl Halves {
         requires closed { self.now.is_open ≡ false }
         ensures { result ≡ self.now.free }
     {
-        self.here.free()
+        self.pair.here.free()
     }
 }

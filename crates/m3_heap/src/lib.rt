@@ -7,11 +7,13 @@ mod half;
 mod halves;
 mod maps;
 mod marks;
+mod pair;
 mod semi_space;
 mod steps;
 mod store;
 
 pub use closed::Closed;
+pub use copying::{scan, Copying};
 pub use half::Half;
 pub use maps::Maps;
 pub use marks::Marks;

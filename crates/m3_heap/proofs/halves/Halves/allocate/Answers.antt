@@ -6,7 +6,7 @@ use Rattle.m3_heap.proofs.SemiLemmas.{is-closed, at-rest, few-copied, semi-sound
 use Rattle.m3_heap.proofs.TracingLemmas.{total-append}
 use Rattle.m3_heap.proofs.halves.Halves.allocate.Goals as goal
 
-after : (c : goal.After-self-1) → IsSemi (record { here = c.self.inside.here; there = c.self.inside.there; is_open = c.self.inside.is_open; copied = c.self.inside.copied; asked = c.args.words; fulls = c.self.inside.fulls })
+after : (c : goal.After-self-1) → IsSemi (record { pair = record { here = c.self.inside.pair.here; there = c.self.inside.pair.there }; is_open = c.self.inside.is_open; copied = c.self.inside.copied; asked = c.args.words; fulls = c.self.inside.fulls })
 after c = let was = c.self.invariant in record { bases = was.bases; same_size = was.same_size; small = was.small; as_open = was.as_open }
 
 pub returns-then-words-free-clause-sound : goal.returns-then-words-free-clause-sound
@@ -19,13 +19,13 @@ pub returns-then-words-free-clause-allots : goal.returns-then-words-free-clause-
 returns-then-words-free-clause-allots c =
     let i = c.self.inside in
     let closed = is-closed i c.args.self.now c.self.view_is c.requires.closed in
-    let full : i.here.size - total_words (cells_seen i.is_open i.here i.there) < c.args.words = subst (λ b. i.here.size - total_words (cells_seen b i.here i.there) < c.args.words) (sym closed) (omega (arith, c.free.ensures)) in
-    subst (λ (h : Heap). Allots h c.args.kind c.args.words None (semi_heap i.is_open i.here i.there i.copied c.args.words i.fulls)) c.self.view_is
-    (refused i.here i.there i.is_open i.copied i.asked i.fulls c.args.kind c.args.words full)
+    let full : i.pair.here.size - total_words (cells_seen i.is_open i.pair.here i.pair.there) < c.args.words = subst (λ b. i.pair.here.size - total_words (cells_seen b i.pair.here i.pair.there) < c.args.words) (sym closed) (omega (arith, c.free.ensures)) in
+    subst (λ (h : Heap). Allots h c.args.kind c.args.words None (semi_heap i.is_open i.pair.here i.pair.there i.copied c.args.words i.fulls)) c.self.view_is
+    (refused i.pair.here i.pair.there i.is_open i.copied i.asked i.fulls c.args.kind c.args.words full)
 
-cells : (c : goal.After-append_zeroed) → c.append_zeroed.new.self.cells ≡ c.self.inside.here.cells ++ new_cell (c.self.inside.here.base + total_words c.self.inside.here.cells) c.args.kind c.args.words ∷ []
+cells : (c : goal.After-append_zeroed) → c.append_zeroed.new.self.cells ≡ c.self.inside.pair.here.cells ++ new_cell (c.self.inside.pair.here.base + total_words c.self.inside.pair.here.cells) c.args.kind c.args.words ∷ []
 cells c =
-    let here = c.self.inside.here in
+    let here = c.self.inside.pair.here in
     let count = c.args.words in
     let head : c.from.result + c.args.words * 4294967296 ≡ header_of c.args.kind count = omega (arith, c.from.ensures) in
     c.append_zeroed.ensures.cells
@@ -34,7 +34,7 @@ cells c =
 
 rest : (c : goal.After-append_zeroed) → AreAtRest c.append_zeroed.new.self
 rest c =
-    let here = c.self.inside.here in
+    let here = c.self.inside.pair.here in
     let kind = c.args.kind in
     let count = c.args.words in
     rest-push here c.append_zeroed.new.self kind count (at-rest c.self.inside c.self.invariant (is-closed c.self.inside c.args.self.now c.self.view_is c.requires.closed))
@@ -44,17 +44,17 @@ pub invariant_of-self-2 : goal.invariant_of-self-2
 invariant_of-self-2 c =
     let was = c.self.invariant in
     let new = c.append_zeroed.ensures in
-    let P : Bool → Type 0 = λ b. IsAsOpen b c.append_zeroed.new.self c.self.inside.there c.self.inside.copied in
+    let P : Bool → Type 0 = λ b. IsAsOpen b c.append_zeroed.new.self c.self.inside.pair.there c.self.inside.copied in
     let closed = is-closed c.self.inside c.args.self.now c.self.view_is c.requires.closed in
     let total = ap total_words (cells c) in
     record {
       bases = ⊎_elim
-          (λ (p : (c.self.inside.here.base ≡ first_base) × (c.self.inside.there.base ≡ second_base)). inl (new.base ∙ p.0, p.1))
-          (λ (p : (c.self.inside.here.base ≡ second_base) × (c.self.inside.there.base ≡ first_base)). inr (new.base ∙ p.0, p.1))
+          (λ (p : (c.self.inside.pair.here.base ≡ first_base) × (c.self.inside.pair.there.base ≡ second_base)). inl (new.base ∙ p.0, p.1))
+          (λ (p : (c.self.inside.pair.here.base ≡ second_base) × (c.self.inside.pair.there.base ≡ first_base)). inr (new.base ∙ p.0, p.1))
           was.bases;
       same_size = was.same_size ∙ sym new.size;
       small = omega (arith, new.size, was.small);
-      as_open = subst P (sym closed) (rest c, omega (arith, few-copied c.self.inside was closed, total, total-append c.self.inside.here.cells (new_cell (c.self.inside.here.base + total_words c.self.inside.here.cells) c.args.kind c.args.words ∷ [])));
+      as_open = subst P (sym closed) (rest c, omega (arith, few-copied c.self.inside was closed, total, total-append c.self.inside.pair.here.cells (new_cell (c.self.inside.pair.here.base + total_words c.self.inside.pair.here.cells) c.args.kind c.args.words ∷ [])));
     }
 
 pub returns-clause-sound : goal.returns-clause-sound
@@ -68,5 +68,5 @@ returns-clause-allots c =
     let i = c.self.inside in
     let new = c.append_zeroed.ensures in
     let closed = is-closed i c.args.self.now c.self.view_is c.requires.closed in
-    subst (λ (h : Heap). Allots h c.args.kind c.args.words (Some c.append_zeroed.result) (semi_heap i.is_open c.append_zeroed.new.self i.there i.copied i.asked i.fulls)) c.self.view_is
-    (allotted i.here c.append_zeroed.new.self i.there i.is_open i.copied i.asked i.fulls c.args.kind c.args.words c.append_zeroed.result closed (few-copied i c.self.invariant closed) c.requires.some (omega (arith, c.free.ensures)) new.start new.base new.size (cells c))
+    subst (λ (h : Heap). Allots h c.args.kind c.args.words (Some c.append_zeroed.result) (semi_heap i.is_open c.append_zeroed.new.self i.pair.there i.copied i.asked i.fulls)) c.self.view_is
+    (allotted i.pair.here c.append_zeroed.new.self i.pair.there i.is_open i.copied i.asked i.fulls c.args.kind c.args.words c.append_zeroed.result closed (few-copied i c.self.invariant closed) c.requires.some (omega (arith, c.free.ensures)) new.start new.base new.size (cells c))

@@ -11,18 +11,18 @@ use Rattle.m3_heap.proofs.halves.Halves.visit.Goals as goal
 opens : (g : given.Over) (c : goal.After-forward g) → c.self.inside.is_open ≡ true
 opens g c = is-opened c.self.inside c.args.self.now c.self.view_is c.requires.open
 
-moving : (g : given.Over) (c : goal.After-forward g) → AreMoving c.self.inside.here c.self.inside.there
+moving : (g : given.Over) (c : goal.After-forward g) → AreMoving c.self.inside.pair.here c.self.inside.pair.there
 moving g c = in-motion c.self.inside c.self.invariant (opens g c)
 
-after : (g : given.Over) (c : goal.After-forward g) → IsVisited c.self.inside.here c.self.inside.there c.forward.new.left c.forward.new.kept
-after g c = after-visit c.self.inside.here c.self.inside.there c.forward.new.left c.forward.new.kept c.args.word c.forward.result (moving g c) c.forward.ensures.kept c.forward.ensures.left_stays c.forward.ensures.kept_stays
+after : (g : given.Over) (c : goal.After-forward g) → IsVisited c.self.inside.pair.here c.self.inside.pair.there c.forward.new.self.here c.forward.new.self.there
+after g c = after-visit c.self.inside.pair.here c.self.inside.pair.there c.forward.new.self.here c.forward.new.self.there c.args.word c.forward.result (moving g c) c.forward.ensures.kept c.forward.ensures.left_stays c.forward.ensures.kept_stays
 
 pub returns-clause-kept : goal.returns-clause-kept
 returns-clause-kept g c =
-    let here = c.self.inside.here in
-    let there = c.self.inside.there in
-    let left = c.forward.new.left in
-    let kept = c.forward.new.kept in
+    let here = c.self.inside.pair.here in
+    let there = c.self.inside.pair.there in
+    let left = c.forward.new.self.here in
+    let kept = c.forward.new.self.there in
     let n = c.self.inside.copied in
     let a = c.self.inside.asked in
     let f = c.self.inside.fulls in
@@ -37,10 +37,10 @@ returns-clause-kept g c =
 
 pub returns-clause-cost : goal.returns-clause-cost
 returns-clause-cost g c =
-    let here = c.self.inside.here in
-    let there = c.self.inside.there in
-    let left = c.forward.new.left in
-    let kept = c.forward.new.kept in
+    let here = c.self.inside.pair.here in
+    let there = c.self.inside.pair.there in
+    let left = c.forward.new.self.here in
+    let kept = c.forward.new.self.there in
     let seen : old_cells here there ≡ c.args.self.now.cells = ap (λ b. (semi_heap b here there c.self.inside.copied c.self.inside.asked c.self.inside.fulls).cells) (sym (opens g c)) ∙ ap (λ (h : Heap). h.cells) c.self.view_is in
     let list : moves here there ≡ c.args.self.now.moves = ap (λ b. moves_seen b here there c.self.inside.copied) (sym (opens g c)) ∙ ap (λ (h : Heap). h.moves) c.self.view_is in
     let was : kept_words c.args.self.now.cells c.args.self.now.moves ≡ total_words there.cells =
@@ -50,8 +50,8 @@ returns-clause-cost g c =
     ∙ ap (λ cs. kept_words cs (moves left kept)) (sym (after g c).same_cells) ∙ words-told left kept (after g c).moving.tracing in
     omega (arith, c.forward.ensures.cost, c.tick.ensures)
 
-settled : (g : given.Over) (c : goal.After-forward g) → IsSemi (record { here = c.forward.new.left; there = c.forward.new.kept; is_open = c.self.inside.is_open; copied = c.self.inside.copied; asked = c.self.inside.asked; fulls = c.self.inside.fulls })
-settled g c = visited-semi c.self.inside c.forward.new.left c.forward.new.kept c.self.invariant (opens g c) (after g c)
+settled : (g : given.Over) (c : goal.After-forward g) → IsSemi (record { pair = record { here = c.forward.new.self.here; there = c.forward.new.self.there }; is_open = c.self.inside.is_open; copied = c.self.inside.copied; asked = c.self.inside.asked; fulls = c.self.inside.fulls })
+settled g c = visited-semi c.self.inside c.forward.new.self.here c.forward.new.self.there c.self.invariant (opens g c) (after g c)
 
 pub returns-clause-sound : goal.returns-clause-sound
 returns-clause-sound g c = semi-sound _ (settled g c)
