@@ -10,9 +10,11 @@ use Rattle.m3_heap.specs.Shapes.{Shape, is_pointer_word, is_pointer_of}
 use Rattle.m3_heap.specs.CollectorSpace.{AreLaid}
 use Rattle.m3_heap.proofs.SpaceLemmas.{start-fits, is_start-outside, word_at-outside, word_at-cell, word_at-start}
 use Rattle.m3_generational.specs.Remembering.{Remembering, Fits, FitsIn, is_old_word}
-use Rattle.m3_generational.specs.Inside.{heap_seen, ArePlaced, AreResting}
+use Rattle.m3_generational.specs.Inside.{heap_seen, AreResting}
+use Rattle.m3_generational.specs.Collecting.{ArePlaced}
 use Rattle.m3_generational.specs.declared.spaces.Spaces.{Spaces}
-use Rattle.m3_generational.proofs.PartLemmas.{start-first, start-second, start-either, words-first, words-second, IsSplit, low, high}
+use Rattle.m3_generational.specs.Collecting.{IsSplit}
+use Rattle.m3_generational.proofs.PartLemmas.{start-first, start-second, start-either, words-first, words-second, low, high}
 use Rattle.m3_heap.specs.CollectorSpace.{Space}
 use Rattle.m3_generational.specs.Inside.{seen}
 use Rattle.m3_generational.specs.declared.generations.Generations.TheInside.{Inside}

@@ -16,10 +16,12 @@ use Rattle.m3_heap.proofs.TracingLemmas.{all_append, total-append}
 use Rattle.m3_heap.proofs.FinalLemmas.{sound-cells}
 use Rattle.m3_generational.specs.Remembering.{Remembering, watching, marked_count, new_generations}
 use Rattle.m3_heap.specs.CollectorTracing.{moves_from, copies_of}
-use Rattle.m3_generational.specs.Inside.{left_of, kept_of, cells_seen, moves_seen, plain_heap, heap_seen, seen, AreResting, ArePlaced, IsAsOpen, IsGenerations}
+use Rattle.m3_generational.specs.Inside.{cells_seen, moves_seen, plain_heap, heap_seen, seen, AreResting, IsAsOpen, IsGenerations}
+use Rattle.m3_generational.specs.Collecting.{left_of, kept_of, ArePlaced}
 use Rattle.m3_generational.specs.declared.spaces.Spaces.{Spaces}
 use Rattle.m3_generational.specs.declared.generations.Generations.TheInside.{Inside}
-use Rattle.m3_generational.proofs.PartLemmas.{IsSplit, word-first, word-second, low, high, writable-low, writable-high, set-first, set-second}
+use Rattle.m3_generational.specs.Collecting.{IsSplit}
+use Rattle.m3_generational.proofs.PartLemmas.{word-first, word-second, low, high, writable-low, writable-high, set-first, set-second}
 
 -- ---- open or not
 
@@ -179,6 +181,20 @@ closed-parts s left marks asked minors fulls p r =
       free = refl;
       tenured = refl;
     }
+
+-- ---- the same lengths
+
+words-laid : List (ℕ × ℕ) → ℕ
+words-laid [] = 0
+words-laid (cell ∷ cells) = cell.1 + words-laid cells
+
+total-laid : (cs : List Cell) → total_words cs ≡ words-laid (layout cs)
+unfolding words-laid
+total-laid [] = refl
+total-laid (c ∷ cs) = ap (λ n. length c.words + n) (total-laid cs)
+
+pub same-total : (cs ds : List Cell) → layout ds ≡ layout cs → total_words ds ≡ total_words cs
+same-total cs ds e = total-laid ds ∙ ap words-laid e ∙ sym (total-laid cs)
 
 -- ---- a request
 
@@ -385,15 +401,6 @@ closed-sound true s left marks asked minors fulls closed p r = absurd (cc)
 closed-sound false s left marks asked minors fulls closed p r = parts-sound (heap_seen false s left marks asked minors fulls) s.here.cells s.nursery.cells (closed-parts s left marks asked minors fulls p r)
 
 -- ---- a word that is set
-
-words-laid : List (ℕ × ℕ) → ℕ
-words-laid [] = 0
-words-laid (cell ∷ cells) = cell.1 + words-laid cells
-
-total-laid : (cs : List Cell) → total_words cs ≡ words-laid (layout cs)
-unfolding words-laid
-total-laid [] = refl
-total-laid (c ∷ cs) = ap (λ n. length c.words + n) (total-laid cs)
 
 old-laid : List (ℕ × ℕ) → List ℕ
 old-laid [] = []

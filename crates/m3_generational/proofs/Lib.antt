@@ -1,3 +1,4 @@
 pub mod PartLemmas
 pub mod HeapLemmas
 pub mod FitLemmas
+pub mod ForwardLemmas

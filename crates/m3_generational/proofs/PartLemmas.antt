@@ -5,7 +5,7 @@ use Rattle.std.specs.List.{AllByRecursion}
 use Rattle.std.proofs.lemmas.Bool.{cases_Bool, cases_lt, cond-true, cond-false, false≢true, and_parts, leb-true, ltb-true}
 use Rattle.m3_heap.specs.Cells.{Cell, covers, cell_from, cell_word_at, is_start, is_writable, words_from, with_word, total_words}
 use Rattle.m3_heap.specs.Heap.{nursery_base}
-use Rattle.m3_heap.specs.CollectorSpace.{AreLaid}
+use Rattle.m3_generational.specs.Collecting.{IsSplit}
 use Rattle.m3_heap.proofs.SpaceLemmas.{word_at-outside, with_word-outside, is_start-outside}
 use Rattle.m3_heap.proofs.WordLemmas.{some-within}
 
@@ -81,11 +81,6 @@ with_word-both [] y at w = refl
 with_word-both (c ∷ cs) y at w = ap (λ l. (cond (covers c at) (record { start = c.start; words = set c.words (at - c.start) w }) c) ∷ l) (with_word-both cs y at w)
 
 -- ---- old cells below the nursery, and young ones in it
-
-pub record IsSplit (a : ℕ) (x y : List Cell) : Type 0 where
-  pub old : AreLaid a x
-  pub below : a + total_words x ≤ nursery_base
-  pub young : AreLaid nursery_base y
 
 pub record IsLow (y : List Cell) (at : ℕ) : Type 0 where
   pub no_word : cell_word_at y at ≡ None

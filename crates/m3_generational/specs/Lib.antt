@@ -1,2 +1,3 @@
 pub mod Remembering
+pub mod Collecting
 pub mod Inside

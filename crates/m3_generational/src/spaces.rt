@@ -10,7 +10,7 @@ pub struct Spaces {
     pub there: Half,
     /// Where young cells lie.
     pub nursery: Half,
-    /// Whether the collection that is open, or the last one, keeps the old cells unasked.
+    /// Whether the collection that is open keeps the old cells unasked.
     pub is_minor: bool,
     /// How many words of old cells it keeps so.
     pub tenured: u64,

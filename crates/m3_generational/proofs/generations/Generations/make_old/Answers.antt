@@ -3,7 +3,8 @@ use Rattle.m3_heap.specs.Cells.{header_of, total_words, new_cell}
 use Rattle.m3_heap.specs.Heap.{Heap, Allots}
 use Rattle.m3_heap.specs.Shapes.{Shape}
 use Rattle.m3_generational.specs.Remembering.{Remembering, Fits}
-use Rattle.m3_generational.specs.Inside.{heap_seen, AreResting, ArePlaced, IsAsOpen, IsGenerations}
+use Rattle.m3_generational.specs.Inside.{heap_seen, AreResting, IsAsOpen, IsGenerations}
+use Rattle.m3_generational.specs.Collecting.{ArePlaced}
 use Rattle.m3_generational.specs.declared.spaces.Spaces.{Spaces}
 use Rattle.m3_generational.proofs.HeapLemmas.{is-closed, resting, SamePlaces, still-placed, made-old, room-left, room-young, rest-old, closed-sound}
 use Rattle.m3_generational.proofs.FitLemmas.{fits-told, fits-again, fits-push}

@@ -3,7 +3,8 @@ use Rattle.m3_heap.specs.Cells.{is_writable, with_word, total_words}
 use Rattle.m3_heap.specs.CellWords.{layout_after}
 use Rattle.m3_heap.specs.Heap.{HasOtherWords}
 use Rattle.m3_generational.specs.Remembering.{Remembering, Fits}
-use Rattle.m3_generational.specs.Inside.{heap_seen, cells_seen, AreResting, ArePlaced, IsAsOpen}
+use Rattle.m3_generational.specs.Inside.{heap_seen, cells_seen, AreResting, IsAsOpen}
+use Rattle.m3_generational.specs.Collecting.{ArePlaced}
 use Rattle.m3_generational.specs.declared.spaces.Spaces.{Spaces}
 use Rattle.m3_heap.specs.CollectorHalves.{AreAtRest}
 use Rattle.m3_heap.proofs.SemiLemmas.{rest-replace}
