@@ -269,6 +269,7 @@ promoted-keeps s here nursery w to k m h hb hs hc nb ns nc =
     record {
       placed = still-placed s (promoted s here nursery) (record { here_base = hb; here_size = hs; nursery_base = nb; nursery_size = ns; there_base = refl; there_size = refl }) h.placed;
       split = subst A (sym (old-minor (promoted s here nursery) m)) (record { old = subst B (sym hb) sp.old; below = omega (arith, hb, sp.below); young = laid-same nursery_base s.nursery.cells nursery.cells young sp.young });
+      young = omega (arith, same-total s.nursery.cells nursery.cells young, ns, h.young);
       minor = λ _. record {
             found = subst C (sym hb) ten.found;
             first = (ten.first.0 ++ f k ∷ [], ap layout hc ∙ map-append f s.here.cells (k ∷ []) ∙ ap (λ l. l ++ f k ∷ []) ten.first.1 ∙ append_assoc (layout s.found.value.cells) ten.first.0 (f k ∷ []));
@@ -288,6 +289,7 @@ moved-young-keeps s there nursery w to m h tb ts nb ns nc =
     record {
       placed = still-placed s (moved_young s there nursery) (record { here_base = refl; here_size = refl; nursery_base = nb; nursery_size = ns; there_base = tb; there_size = ts }) h.placed;
       split = subst A (sym (old-full (moved_young s there nursery) m)) (record { old = sp.old; below = sp.below; young = laid-same nursery_base s.nursery.cells nursery.cells young sp.young });
+      young = omega (arith, same-total s.nursery.cells nursery.cells young, ns, h.young);
       minor = λ yes. absurd (false-true s.is_minor m yes);
     }
 
@@ -305,6 +307,7 @@ moved-old-keeps s here there w to m h tb ts hb hs hc =
     record {
       placed = still-placed s (moved_old s here there) (record { here_base = hb; here_size = hs; nursery_base = refl; nursery_size = refl; there_base = tb; there_size = ts }) h.placed;
       split = subst A (sym (old-full (moved_old s here there) m)) (record { old = subst B (sym hb) (laid-same s.here.base s.here.cells here.cells lay sp.old); below = omega (arith, hb, total, sp.below); young = sp.young });
+      young = h.young;
       minor = λ yes. absurd (false-true s.is_minor m yes);
     }
 
@@ -437,3 +440,24 @@ old-moved s here there w h start before after m t k up down on head short tb ts 
 
 pub low-stays : (s : Spaces) (w n : ℕ) → IsTracing (left_of s) (kept_of s) → IsKeeping s → w < heap_base → Forwards s s w (Some w) n n
 low-stays s w n t k low = record { forwards = is-low (left_of s) (kept_of s) w n t low; keeping = k; mode = refl; young = refl }
+
+-- ---- a word of a copy is set
+
+pub set-keeps : (s : Spaces) (here : Space) (at w : ℕ) → s.is_minor ≡ true → IsKeeping s → here.base ≡ s.here.base → here.size ≡ s.here.size → here.cells ≡ with_word s.here.cells at w → IsKeeping (record s { here = here })
+set-keeps s here at w m k hb hs hc =
+    let s' : Spaces = record s { here = here } in
+    let sp = split-minor s m k in
+    let ten = k.minor m in
+    let A : List Cell → Type 0 = λ l. IsSplit here.base l s.nursery.cells in
+    let B : ℕ → Type 0 = λ n. IsSplit n (stayed s.found.value.cells) s.nursery.cells in
+    let C : ℕ → Type 0 = λ n. AreLaid n s.found.value.cells in
+    record {
+      placed = still-placed s s' (record { here_base = hb; here_size = hs; nursery_base = refl; nursery_size = refl; there_base = refl; there_size = refl }) k.placed;
+      split = subst A (sym (old-minor s' m)) (subst B (sym hb) sp);
+      young = k.young;
+      minor = λ _. record {
+            found = subst C (sym hb) ten.found;
+            first = (ten.first.0, ap layout hc ∙ layout_stays s.here.cells at w ∙ ten.first.1);
+            tenured = ten.tenured;
+          };
+    }

@@ -232,10 +232,10 @@ free-some false s left marks asked minors fulls room free closed some is young =
 
 -- ---- the same heap with other cells
 
-plain : List Cell → List Move → ℕ → ℕ → ℕ → ℕ → ℕ → ℕ → ℕ → Heap
-plain cells moves asked size base nursery young minors fulls = record {
+abbrev pub plain : Bool → List Cell → List Move → ℕ → ℕ → ℕ → ℕ → ℕ → ℕ → ℕ → Heap
+plain is_open cells moves asked size base nursery young minors fulls = record {
   cells = cells;
-  is_open = false;
+  is_open = is_open;
   moves = moves;
   tenured = [];
   watched = 0;
@@ -272,14 +272,13 @@ still-placed s s' same p = record {
 
 pub as-changed : (s s' left : Spaces) (marks : List Bool) (asked minors fulls : ℕ) → SamePlaces s s'
     → heap_seen false s' left marks asked minors fulls ≡ watching (marked_count marks) (settled (record (plain_heap false s left asked minors fulls) { cells = s'.here.cells ++ s'.nursery.cells; young = total_words s'.nursery.cells }))
-unfolding plain
 as-changed s s' left marks asked minors fulls same =
     let cells = s'.here.cells ++ s'.nursery.cells in
     let list = moves_seen false s left in
     let young = total_words s'.nursery.cells in
-    ap (λ n. watching (marked_count marks) (settled (plain cells list asked n s'.here.base s'.nursery.size young minors fulls))) same.here_size
-    ∙ ap (λ n. watching (marked_count marks) (settled (plain cells list asked s.here.size n s'.nursery.size young minors fulls))) same.here_base
-    ∙ ap (λ n. watching (marked_count marks) (settled (plain cells list asked s.here.size s.here.base n young minors fulls))) same.nursery_size
+    ap (λ n. watching (marked_count marks) (settled (plain false cells list asked n s'.here.base s'.nursery.size young minors fulls))) same.here_size
+    ∙ ap (λ n. watching (marked_count marks) (settled (plain false cells list asked s.here.size n s'.nursery.size young minors fulls))) same.here_base
+    ∙ ap (λ n. watching (marked_count marks) (settled (plain false cells list asked s.here.size s.here.base n young minors fulls))) same.nursery_size
 
 -- ---- a new cell
 
@@ -485,18 +484,17 @@ none-marked (false ∷ marks) clear = let rest = none-marked marks (λ k. clear 
 
 pub made : (s left : Spaces) (marks : List Bool) (words : ℕ) → s.here.base ≡ first_base → s.here.size ≡ words → s.here.cells ≡ [] → s.nursery.cells ≡ [] → s.nursery.size ≡ words / 4 → (kept_of left).cells ≡ [] → marked_count marks ≡ 0
     → heap_seen false s left marks 0 0 0 ≡ new_generations words
-unfolding plain
 made s left marks words base size old young quarter kept clear =
     let list : moves_seen false s left ≡ [] = ap (λ cs. moves_from (kept_of left).base (copies_of (left_of left).cells cs)) kept in
     let cells : s.here.cells ++ s.nursery.cells ≡ [] = ap (λ l. l ++ s.nursery.cells) old ∙ young in
     let n = marked_count marks in
-    ap (λ l. watching n (settled (plain l (moves_seen false s left) 0 s.here.size s.here.base s.nursery.size (total_words s.nursery.cells) 0 0))) cells
-    ∙ ap (λ l. watching n (settled (plain [] l 0 s.here.size s.here.base s.nursery.size (total_words s.nursery.cells) 0 0))) list
-    ∙ ap (λ k. watching n (settled (plain [] [] 0 k s.here.base s.nursery.size (total_words s.nursery.cells) 0 0))) size
-    ∙ ap (λ k. watching n (settled (plain [] [] 0 words k s.nursery.size (total_words s.nursery.cells) 0 0))) base
-    ∙ ap (λ k. watching n (settled (plain [] [] 0 words first_base k (total_words s.nursery.cells) 0 0))) quarter
-    ∙ ap (λ l. watching n (settled (plain [] [] 0 words first_base (words / 4) (total_words l) 0 0))) young
-    ∙ ap (λ k. watching k (settled (plain [] [] 0 words first_base (words / 4) 0 0 0))) clear
+    ap (λ l. watching n (settled (plain false l (moves_seen false s left) 0 s.here.size s.here.base s.nursery.size (total_words s.nursery.cells) 0 0))) cells
+    ∙ ap (λ l. watching n (settled (plain false [] l 0 s.here.size s.here.base s.nursery.size (total_words s.nursery.cells) 0 0))) list
+    ∙ ap (λ k. watching n (settled (plain false [] [] 0 k s.here.base s.nursery.size (total_words s.nursery.cells) 0 0))) size
+    ∙ ap (λ k. watching n (settled (plain false [] [] 0 words k s.nursery.size (total_words s.nursery.cells) 0 0))) base
+    ∙ ap (λ k. watching n (settled (plain false [] [] 0 words first_base k (total_words s.nursery.cells) 0 0))) quarter
+    ∙ ap (λ l. watching n (settled (plain false [] [] 0 words first_base (words / 4) (total_words l) 0 0))) young
+    ∙ ap (λ k. watching k (settled (plain false [] [] 0 words first_base (words / 4) 0 0 0))) clear
 
 -- ---- a word of an old cell was set, or couldn't be
 

@@ -2,3 +2,4 @@ pub mod PartLemmas
 pub mod HeapLemmas
 pub mod FitLemmas
 pub mod ForwardLemmas
+pub mod BeginLemmas

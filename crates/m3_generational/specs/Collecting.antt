@@ -50,6 +50,7 @@ pub record HasTenured (s : Spaces) : Type 0 where
 pub record IsKeeping (s : Spaces) : Type 0 where
   pub placed : ArePlaced s
   pub split : IsSplit s.here.base (old_left s) s.nursery.cells
+  pub young : total_words s.nursery.cells ≤ s.nursery.size
   pub minor : s.is_minor ≡ true → HasTenured s
 
 -- what a word that is forwarded makes of the cells that are left and of those that are kept

@@ -76,7 +76,8 @@ impl Generations {
 
 impl Generations {
     ghost use Rattle.m3_heap.specs.Cells.{cell_word_at, is_writable, with_word};
-    ghost use Rattle.m3_heap.specs.Heap.{IsSoundHeap, Allots, HasOtherWords};
+    ghost use Rattle.m3_heap.specs.Heap.{IsSoundHeap, Allots, HasOtherWords, is_minor};
+    ghost use Rattle.m3_heap.specs.Moves.{staying};
     ghost use Rattle.m3_heap.specs.Shapes.{Shape};
     ghost use Rattle.m3_generational.specs.Remembering.{HasNursery, Fits};
 
@@ -157,6 +158,51 @@ impl Generations {
             self.set_old(at, word)
         } else {
             self.set_young(at, word)
+        }
+    }
+
+    // Opens a collection of the young cells alone.
+    fn begin_minor(&mut self)
+        requires closed { self.old.heap.is_open ≡ false }
+        requires minor { is_minor self.old.heap ≡ true }
+        ensures opened { self.new.heap ≡ record self.old.heap { is_open = true; moves = staying self.old.heap.tenured } }
+        ensures remembered { self.new.remembered ≡ self.old.remembered }
+        ensures sound { IsSoundHeap self.new.heap }
+        ensures nursery { HasNursery self.new.heap }
+    {
+        self.spaces.found = Snapshot::of(&self.spaces.here);
+        self.spaces.tenured = self.spaces.here.total();
+        self.spaces.is_minor = true;
+        self.is_open = true;
+    }
+
+    // Opens a collection of all cells.
+    fn begin_full(&mut self)
+        requires closed { self.old.heap.is_open ≡ false }
+        requires full { is_minor self.old.heap ≡ false }
+        ensures opened { self.new.heap ≡ record self.old.heap { is_open = true; moves = staying self.old.heap.tenured } }
+        ensures remembered { self.new.remembered ≡ self.old.remembered }
+        ensures sound { IsSoundHeap self.new.heap }
+        ensures nursery { HasNursery self.new.heap }
+    {
+        self.spaces.there.clear();
+        self.spaces.is_minor = false;
+        self.is_open = true;
+    }
+
+    /// As `begin` of a store: of a collection of the young cells alone, where the half in use has room for all
+    /// cells and for what was asked for.
+    pub fn begin(&mut self)
+        requires closed { self.old.heap.is_open ≡ false }
+        ensures opened { self.new.heap ≡ record self.old.heap { is_open = true; moves = staying self.old.heap.tenured } }
+        ensures remembered { self.new.remembered ≡ self.old.remembered }
+        ensures sound { IsSoundHeap self.new.heap }
+        ensures nursery { HasNursery self.new.heap }
+    {
+        if self.asked <= self.spaces.here.free() - self.spaces.nursery.total() {
+            self.begin_minor();
+        } else {
+            self.begin_full();
         }
     }
 

@@ -2,6 +2,7 @@
 //! old ones where they are.
 #![tactic(auto)]
 
+mod copying;
 mod forwarding;
 mod generations;
 mod spaces;

@@ -287,17 +287,17 @@ words-only here here' there false copied asked fulls closed base size lay total 
 
 -- ---- a collection begins
 
-short-cells : (cs : List Cell) (n : ℕ) → AllByRecursion IsHeaded cs → total_words cs ≤ n → n ≤ 67108864 → AllByRecursion IsShort cs
+pub short-cells : (cs : List Cell) (n : ℕ) → AllByRecursion IsHeaded cs → total_words cs ≤ n → n ≤ 67108864 → AllByRecursion IsShort cs
 short-cells [] n h room small = tt
 short-cells (c ∷ cs) n h room small =
     let head : header c.words / 4294967296 ≡ length c.words = h.0.0 in
     ((omega arith, h.0.1), short-cells cs n h.1 (omega arith) small)
 
-none-marked : (cs : List Cell) → marked [] cs ≡ cs
+pub none-marked : (cs : List Cell) → marked [] cs ≡ cs
 none-marked [] = refl
 none-marked (c ∷ cs) = ap (λ l. c ∷ l) (none-marked cs)
 
-none-kept : (cs : List Cell) → words_kept [] cs ≡ 0
+pub none-kept : (cs : List Cell) → words_kept [] cs ≡ 0
 none-kept [] = refl
 none-kept (c ∷ cs) = let rest = none-kept cs in omega arith
 
