@@ -3,3 +3,4 @@ pub mod HeapLemmas
 pub mod FitLemmas
 pub mod ForwardLemmas
 pub mod BeginLemmas
+pub mod VisitLemmas

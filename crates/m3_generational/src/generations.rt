@@ -1,11 +1,14 @@
-ghost use Rattle.std.specs.Prelude.{◌≡◌, ℕ, ◌<◌, ◌≤◌, true, false, if◌then◌else◌, IfOk, List, Some, None};
+ghost use Rattle.std.specs.Option.{IfNone};
+ghost use Rattle.std.specs.Prelude.{◌≡◌, ℕ, ◌+◌, ◌<◌, ◌≤◌, ◌↔◌, true, false, if◌then◌else◌, IsNone, IfSome, IfOk, List, Some, None};
 
+use crate::forwarding::forward_word;
 use crate::spaces::Spaces;
 use m3_base::NoMemory;
-use m3_heap::{Half, Marks};
+use m3_heap::{Half, Marks, Steps};
 use std::alloc::Global;
 use std::marker::Model;
 use std::snapshot::Snapshot;
+use std::sync::ledger::Ledger;
 
 /// Where the two halves begin, and the nursery.
 const FIRST_BASE: u64 = 1 << 60;
@@ -77,7 +80,8 @@ impl Generations {
 impl Generations {
     ghost use Rattle.m3_heap.specs.Cells.{cell_word_at, is_writable, with_word};
     ghost use Rattle.m3_heap.specs.Heap.{IsSoundHeap, Allots, HasOtherWords, is_minor};
-    ghost use Rattle.m3_heap.specs.Moves.{staying};
+    ghost use Rattle.m3_heap.specs.Moves.{staying, forwarded, with_kept, kept_words};
+    ghost use Rattle.m3_heap.specs.Reach.{IsBadPointer};
     ghost use Rattle.m3_heap.specs.Shapes.{Shape};
     ghost use Rattle.m3_generational.specs.Remembering.{HasNursery, Fits};
 
@@ -204,6 +208,22 @@ impl Generations {
         } else {
             self.begin_full();
         }
+    }
+
+    /// As `visit` of a store.
+    pub fn visit<L: Ledger>(&mut self, word: u64, steps: &mut Steps<L>) -> Option<u64>
+        requires open { self.old.heap.is_open ≡ true }
+        ensures none { IsNone result ↔ IsBadPointer self.old.heap.cells word }
+        ensures value { IfSome result (λ to. to ≡ forwarded self.new.heap.moves word) }
+        ensures kept { IfSome result (λ to. self.new.heap ≡ record self.old.heap { moves = with_kept self.old.heap.moves word to }) }
+        ensures refused { IfNone result (self.new.heap ≡ self.old.heap) }
+        ensures cost { steps.new + kept_words self.old.heap.cells self.old.heap.moves ≡ steps.old + 1 + kept_words self.old.heap.cells self.new.heap.moves }
+        ensures remembered { self.new.remembered ≡ self.old.remembered }
+        ensures sound { IsSoundHeap self.new.heap }
+        ensures nursery { HasNursery self.new.heap }
+    {
+        steps.tick();
+        forward_word(&mut self.spaces, word, steps)
     }
 
     // A new cell in the nursery.
