@@ -4,3 +4,4 @@ pub mod FitLemmas
 pub mod ForwardLemmas
 pub mod BeginLemmas
 pub mod VisitLemmas
+pub mod EndLemmas

@@ -5,7 +5,7 @@ use Rattle.std.specs.Option.{IfNone}
 use Rattle.m3_heap.specs.Cells.{Cell, total_words}
 use Rattle.m3_heap.specs.Moves.{Move, forwarded, with_kept, kept_words}
 use Rattle.m3_heap.specs.Reach.{IsBadPointer}
-use Rattle.m3_heap.specs.Heap.{Heap, settled, IsSoundHeap}
+use Rattle.m3_heap.specs.Heap.{Heap, settled, is_minor, IsSoundHeap}
 use Rattle.m3_heap.specs.CollectorSpace.{Space}
 use Rattle.m3_heap.specs.CollectorTracing.{old_cells, moves, Keeps}
 use Rattle.m3_heap.proofs.SemiLemmas.{IsVisited, after-visit, with_kept-told, words-told, if-both}
@@ -123,3 +123,10 @@ pub visit-sound : (i : Inside) (v : Remembering) (s : Spaces) (w : ℕ) (r : Opt
 visit-sound i v s w r before after h =
     let P : Bool → Type 0 = λ b. IsSoundHeap (heap_seen b s i.left.value i.remembered i.asked i.minors i.fulls) in
     subst P (sym (visit-open i v s w r before after h)) (open-sound s i.left.value i.remembered i.asked i.minors i.fulls (visit-collecting i v s w r before after h))
+
+pub visit-mode : (i : Inside) (v : Remembering) (s : Spaces) (w : ℕ) (r : Option ℕ) (before after : ℕ) → IsVisit i v s w r before after → is_minor (heap_seen true s i.left.value i.remembered i.asked i.minors i.fulls) ≡ s.is_minor
+visit-mode i v s w r before after h =
+    let d = visit-done i v s w r before after h in
+    let young = same-total i.spaces.nursery.cells s.nursery.cells h.forwards.young in
+    ap (λ (k : Heap). is_minor k) (seen-again i.spaces s i.left.value i.remembered i.asked i.minors i.fulls (moves_seen true s i.left.value) h.invariant.placed h.forwards.keeping.placed d.left_size d.left_base young d.same_cells refl)
+    ∙ h.invariant.mode (visit-open i v s w r before after h) ∙ sym h.forwards.mode

@@ -2,11 +2,14 @@
 use Rattle.std.specs.Prelude.{◌≡◌, ℕ, ◌+◌, ◌/◌, ◌≤◌, ◌⊎◌, ◌↔◌, if◌then◌else◌, true, List, [], ◌∷◌, ◌++◌, Option, Some, IsNone, IfSome}
 use Rattle.std.specs.Option.{IfNone}
 use Rattle.m3_heap.specs.Cells.{Cell, layout, total_words}
-use Rattle.m3_heap.specs.Moves.{forwarded}
+use Rattle.m3_heap.specs.Moves.{forwarded, kept_starts}
+use Rattle.m3_heap.specs.Shapes.{Shape}
 use Rattle.m3_heap.specs.Reach.{IsBadPointer}
 use Rattle.m3_heap.specs.Heap.{first_base, second_base, nursery_base}
 use Rattle.m3_heap.specs.CollectorSpace.{Space, AreLaid}
-use Rattle.m3_heap.specs.CollectorTracing.{old_cells, moves, marked_words, Keeps}
+use Rattle.m3_heap.specs.CollectorTracing.{old_cells, moves, marked_words, IsTracing, Keeps}
+use Rattle.m3_heap.specs.CollectorScanning.{Scans, Grows}
+use Rattle.m3_heap.specs.CollectorHalves.{AreMoving}
 use Rattle.m3_generational.specs.declared.spaces.Spaces.{Spaces}
 
 -- the cells that stay where they are, as ones that went to their own places
@@ -68,3 +71,10 @@ pub record Forwards (s s' : Spaces) (word : ℕ) (result : Option ℕ) (before a
   pub keeping : IsKeeping s'
   pub mode : s'.is_minor ≡ s.is_minor
   pub young : layout s'.nursery.cells ≡ layout s.nursery.cells
+
+-- all copies are scanned
+pub record AreTraced (shapes : List Shape) (s s' : Spaces) : Type 0 where
+  pub before : AreMoving (left_of s) (kept_of s)
+  pub tracing : IsTracing (left_of s') (kept_of s')
+  pub grows : Grows (left_of s) (kept_of s) (left_of s') (kept_of s')
+  pub scans : Scans shapes (kept_starts (moves (left_of s) (kept_of s))) (left_of s') (kept_of s') ((kept_of s').base + total_words (kept_of s').cells)

@@ -2,7 +2,7 @@
 use Rattle.std.specs.Prelude.{◌≡◌, ℕ, ◌+◌, ◌/◌, ◌≤◌, ◌⊎◌, if◌then◌else◌, Bool, true, false, List, [], ◌∷◌, ◌++◌, Some, length}
 use Rattle.m3_heap.specs.Cells.{Cell, total_words}
 use Rattle.m3_heap.specs.Moves.{Move}
-use Rattle.m3_heap.specs.Heap.{Heap, first_base, second_base, nursery_base, settled}
+use Rattle.m3_heap.specs.Heap.{Heap, is_minor, settled}
 use Rattle.m3_heap.specs.CollectorSpace.{Space}
 use Rattle.m3_heap.specs.CollectorTracing.{old_cells, moves}
 use Rattle.m3_heap.specs.CollectorHalves.{AreAtRest, AreMoving}
@@ -61,3 +61,4 @@ pub record IsGenerations (g : Inside) : Type 0 where
   pub placed : ArePlaced g.spaces
   pub marks : length g.remembered ≡ g.spaces.here.size
   pub as_open : IsAsOpen g.is_open g.spaces
+  pub mode : g.is_open ≡ true → is_minor (heap_seen true g.spaces g.left.value g.remembered g.asked g.minors g.fulls) ≡ g.spaces.is_minor

@@ -2,8 +2,9 @@
 use Rattle.std.specs.Prelude.{◌≡◌, ℕ, ◌+◌, ◌-◌, ◌/◌, ◌≤◌, Bool, true, false, ◌&&◌, ◌||◌, nat_lt, if◌then◌else◌, List, [], ◌∷◌, slice_get, slice_index_or, Some}
 use Rattle.m3_heap.specs.Cells.{Cell, heap_base, is_start, words_from}
 use Rattle.m3_heap.specs.Shapes.{Shape, is_pointer_word}
-use Rattle.m3_heap.specs.Moves.{Move}
-use Rattle.m3_heap.specs.Heap.{Heap, first_base, nursery_base, settled, is_minor}
+use Rattle.m3_heap.specs.Moves.{kept_starts}
+use Rattle.m3_heap.specs.Reach.{HasBadPointer}
+use Rattle.m3_heap.specs.Heap.{Heap, first_base, nursery_base, settled, is_minor, KeepsReached, MovesCells, MakesRoom, CountsOne, ChangesHalves, CostsTrace}
 
 -- what the rest of the machine sees of it, and which words of the half in use were set since the last
 -- collection, or in it, one mark for each
@@ -53,3 +54,14 @@ FitsIn shapes cells remembered base = (start place word : ℕ) → nat_lt start 
 
 abbrev pub Fits : List Shape → Remembering → Type 0
 Fits shapes held = FitsIn shapes held.heap.cells held.remembered held.heap.base
+
+-- what a collection makes of it, where it ends well, with the steps before its end and behind it
+pub record Finishes (shapes : List Shape) (old new : Remembering) (before after : ℕ) : Type 0 where
+  pub good : HasBadPointer shapes old.heap.cells (kept_starts old.heap.moves) → ⊥
+  pub reached : KeepsReached shapes old.heap new.heap
+  pub moved : MovesCells shapes old.heap new.heap
+  pub room : MakesRoom old.heap new.heap
+  pub counted : CountsOne old.heap new.heap
+  pub halves : ChangesHalves old.heap new.heap
+  pub fits : Fits shapes new
+  pub cost : CostsTrace shapes old.heap new.heap before after

@@ -1,12 +1,16 @@
+ghost use Rattle.std.specs.Bool.{OnTrue};
 ghost use Rattle.std.specs.Option.{IfNone};
 ghost use Rattle.std.specs.Prelude.{◌≡◌, ℕ, ◌+◌, ◌<◌, ◌≤◌, ◌↔◌, true, false, if◌then◌else◌, IsNone, IfSome, IfOk, List, Some, None};
+ghost use Rattle.m3_heap.specs.Heap.{counted};
 
 use crate::forwarding::forward_word;
 use crate::spaces::Spaces;
+use crate::tracing::trace_full;
 use m3_base::NoMemory;
-use m3_heap::{Half, Marks, Steps};
+use m3_heap::{Half, Maps, Marks, Steps};
 use std::alloc::Global;
 use std::marker::Model;
+use std::mem;
 use std::snapshot::Snapshot;
 use std::sync::ledger::Ledger;
 
@@ -77,13 +81,20 @@ impl Generations {
     }
 }
 
+// A count that stops at the end of its type.
+fn one_more(count: u64) -> u64
+    ensures { result ≡ counted count }
+{
+    if count == u64::MAX { count } else { count + 1 }
+}
+
 impl Generations {
     ghost use Rattle.m3_heap.specs.Cells.{cell_word_at, is_writable, with_word};
-    ghost use Rattle.m3_heap.specs.Heap.{IsSoundHeap, Allots, HasOtherWords, is_minor};
-    ghost use Rattle.m3_heap.specs.Moves.{staying, forwarded, with_kept, kept_words};
-    ghost use Rattle.m3_heap.specs.Reach.{IsBadPointer};
+    ghost use Rattle.m3_heap.specs.Heap.{IsSoundHeap, SameSizes, Allots, HasOtherWords, is_minor};
+    ghost use Rattle.m3_heap.specs.Moves.{staying, forwarded, with_kept, kept_words, kept_starts};
+    ghost use Rattle.m3_heap.specs.Reach.{IsBadPointer, HasBadPointer};
     ghost use Rattle.m3_heap.specs.Shapes.{Shape};
-    ghost use Rattle.m3_generational.specs.Remembering.{HasNursery, Fits};
+    ghost use Rattle.m3_generational.specs.Remembering.{HasNursery, Fits, Finishes};
 
     /// As `free_words` of a store.
     pub fn free_words(&self) -> u64
@@ -224,6 +235,34 @@ impl Generations {
     {
         steps.tick();
         forward_word(&mut self.spaces, word, steps)
+    }
+
+    // Ends a collection of all cells: the other half is in use from then on.
+    fn finish_full<M: Maps, L: Ledger>(&mut self, maps: &M, steps: &mut Steps<L>) -> bool
+        requires open { self.old.heap.is_open ≡ true }
+        requires full { is_minor self.old.heap ≡ false }
+        ensures bad { result ≡ false → HasBadPointer (M.shapes maps.now) self.old.heap.cells (kept_starts self.old.heap.moves) }
+        ensures done { OnTrue result (Finishes (M.shapes maps.now) self.old self.new steps.old steps.new) }
+        ensures closed { self.new.heap.is_open ≡ false }
+        ensures asked { self.new.heap.asked ≡ 0 }
+        ensures sizes { SameSizes self.old.heap self.new.heap }
+        ensures sound { IsSoundHeap self.new.heap }
+        ensures nursery { HasNursery self.new.heap }
+    {
+        let is_traced = trace_full(&mut self.spaces, maps, steps);
+        self.is_open = false;
+        self.asked = 0;
+        if !is_traced {
+            self.spaces.here.clear();
+            self.spaces.nursery.clear();
+            return false;
+        }
+        self.left = Snapshot::of(&self.spaces);
+        mem::swap(&mut self.spaces.here, &mut self.spaces.there);
+        self.spaces.nursery.clear();
+        self.remembered.clear(self.spaces.here.size() as usize);
+        self.fulls = one_more(self.fulls);
+        true
     }
 
     // A new cell in the nursery.

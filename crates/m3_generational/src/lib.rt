@@ -6,5 +6,6 @@ mod copying;
 mod forwarding;
 mod generations;
 mod spaces;
+mod tracing;
 
 pub use generations::Generations;

@@ -18,9 +18,6 @@ after c = record c.self.inside.spaces { there = c.clear.new.self; is_minor = fal
 begins : (c : goal.After-self-2-1) → AreCollecting (after c) × (cells_seen true (after c) ≡ cells_seen false c.self.inside.spaces) × ((left : Spaces) → moves_seen true (after c) left ≡ [])
 begins c = full-begins c.self.inside.spaces c.clear.new.self c.self.invariant.placed (resting c.self.inside c.self.invariant (closed c)) c.clear.ensures.base c.clear.ensures.size c.clear.ensures.cells
 
-pub invariant_of-self : goal.invariant_of-self
-invariant_of-self c = record { placed = (begins c).0.keeping.placed; marks = c.self.invariant.marks; as_open = (begins c).0 }
-
 pub returns-clause-opened : goal.returns-clause-opened
 returns-clause-opened c =
     let i = c.self.inside in
@@ -31,6 +28,9 @@ returns-clause-opened c =
     ∙ ap (λ b. record (heap_seen b i.spaces i.left.value i.remembered i.asked i.minors i.fulls) { is_open = true; moves = [] }) (sym (closed c))
     ∙ ap (λ l. record h { is_open = true; moves = staying l }) (sym none)
     ∙ ap (λ (v : Remembering). record v.heap { is_open = true; moves = staying v.heap.tenured }) c.self.view_is
+
+pub invariant_of-self : goal.invariant_of-self
+invariant_of-self c = record { placed = (begins c).0.keeping.placed; marks = c.self.invariant.marks; as_open = (begins c).0; mode = λ _. ap (λ (h : Heap). is_minor h) (returns-clause-opened c) ∙ c.requires.full }
 
 pub returns-clause-sound : goal.returns-clause-sound
 returns-clause-sound c = let i = c.self.inside in open-sound (after c) i.left.value i.remembered i.asked i.minors i.fulls (begins c).0

@@ -21,9 +21,6 @@ begins c =
     let p = c.self.invariant.placed in
     minor-begins (after c) refl (record { bases = p.bases; nursery = p.nursery; same_size = p.same_size; quarter = p.quarter; least = p.least; most = p.most }) (record { old = r.old; young = r.young; room = r.room }) c.of.ensures c.total-self-inside.ensures.total
 
-pub invariant_of-self : goal.invariant_of-self
-invariant_of-self c = record { placed = (begins c).0.keeping.placed; marks = c.self.invariant.marks; as_open = (begins c).0 }
-
 pub returns-clause-opened : goal.returns-clause-opened
 returns-clause-opened c =
     let i = c.self.inside in
@@ -36,6 +33,9 @@ returns-clause-opened c =
     ∙ ap (λ b. record (h i.is_open) { is_open = true; moves = staying (old_starts (cells_seen b i.spaces)) }) (sym (closed c))
     ∙ ap (λ l. record (h i.is_open) { is_open = true; moves = staying l }) (sym old)
     ∙ ap (λ (v : Remembering). record v.heap { is_open = true; moves = staying v.heap.tenured }) c.self.view_is
+
+pub invariant_of-self : goal.invariant_of-self
+invariant_of-self c = record { placed = (begins c).0.keeping.placed; marks = c.self.invariant.marks; as_open = (begins c).0; mode = λ _. ap (λ (h : Heap). is_minor h) (returns-clause-opened c) ∙ c.requires.minor }
 
 pub returns-clause-sound : goal.returns-clause-sound
 returns-clause-sound c = let i = c.self.inside in open-sound (after c) i.left.value i.remembered i.asked i.minors i.fulls (begins c).0

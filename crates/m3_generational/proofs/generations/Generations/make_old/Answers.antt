@@ -6,6 +6,7 @@ use Rattle.m3_generational.specs.Remembering.{Remembering, Fits}
 use Rattle.m3_generational.specs.Inside.{heap_seen, AreResting, IsAsOpen, IsGenerations}
 use Rattle.m3_generational.specs.Collecting.{ArePlaced}
 use Rattle.m3_generational.specs.declared.spaces.Spaces.{Spaces}
+use Rattle.std.proofs.lemmas.Bool.{false≢true}
 use Rattle.m3_generational.proofs.HeapLemmas.{is-closed, resting, SamePlaces, still-placed, made-old, room-left, room-young, rest-old, closed-sound}
 use Rattle.m3_generational.proofs.FitLemmas.{fits-told, fits-again, fits-push}
 use Rattle.m3_generational.proofs.generations.Generations.make_old.Goals as goal
@@ -58,7 +59,7 @@ rested c =
 pub invariant_of-self : goal.invariant_of-self
 invariant_of-self c =
     let P : Bool → Type 0 = λ b. IsAsOpen b (after c) in
-    record { placed = placed c; marks = c.self.invariant.marks ∙ sym c.append_zeroed.ensures.size; as_open = subst P (sym (closed c)) (rested c) }
+    record { placed = placed c; marks = c.self.invariant.marks ∙ sym c.append_zeroed.ensures.size; as_open = subst P (sym (closed c)) (rested c); mode = λ opened. absurd (false≢true (sym (closed c) ∙ opened)) }
 
 pub returns-clause-allots : goal.returns-clause-allots
 returns-clause-allots c =

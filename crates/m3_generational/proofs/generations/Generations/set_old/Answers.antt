@@ -1,6 +1,7 @@
 use Rattle.std.proofs.Common.{◌≡◌, Bool, List, true, false, refl, sym, subst, ◌∙◌, arith, length, length-set, ap, set, ◌-◌}
 use Rattle.m3_generational.specs.Remembering.{Remembering, Fits}
 use Rattle.m3_generational.specs.Inside.{IsAsOpen}
+use Rattle.std.proofs.lemmas.Bool.{false≢true}
 use Rattle.m3_generational.proofs.HeapLemmas.{IsPut, with_here, put-closed, put-resting, put-placed, put-rested, put-value, put-cells, put-rest, put-sound, put-inside}
 use Rattle.m3_generational.proofs.FitLemmas.{put-off, put-on}
 use Rattle.m3_generational.proofs.generations.Generations.set_old.Goals as goal
@@ -76,6 +77,7 @@ invariant_of-self-2 c =
       placed = put-placed i c.args.self.now c.replace.new.self c.args.at c.args.word true (on-set c);
       marks = ap (λ (l : List Bool). length l) (marked c) ∙ length-set i.remembered (c.args.at - i.spaces.here.base) true ∙ c.self.invariant.marks ∙ sym c.replace.ensures.size;
       as_open = subst P (sym (put-closed i c.args.self.now c.replace.new.self c.args.at c.args.word true (on-set c))) (put-rested i c.args.self.now c.replace.new.self c.args.at c.args.word true (on-set c));
+      mode = λ opened. absurd (false≢true (sym (put-closed i c.args.self.now c.replace.new.self c.args.at c.args.word true (on-set c)) ∙ opened));
     }
 
 pub returns-clause-value : goal.returns-clause-value

@@ -8,6 +8,7 @@ use Rattle.m3_generational.specs.Collecting.{ArePlaced}
 use Rattle.m3_generational.specs.declared.spaces.Spaces.{Spaces}
 use Rattle.m3_heap.specs.CollectorHalves.{AreAtRest}
 use Rattle.m3_heap.proofs.SemiLemmas.{rest-replace}
+use Rattle.std.proofs.lemmas.Bool.{false≢true}
 use Rattle.m3_generational.proofs.HeapLemmas.{is-closed, resting, SamePlaces, still-placed, stored, rest-stored, closed-sound, set-young-told}
 use Rattle.m3_generational.proofs.FitLemmas.{fits-told, fits-again, fits-set}
 use Rattle.m3_generational.proofs.generations.Generations.set_young.Goals as goal
@@ -41,7 +42,7 @@ told c =
 pub invariant_of-self : goal.invariant_of-self
 invariant_of-self c =
     let P : Bool → Type 0 = λ b. IsAsOpen b (after c) in
-    record { placed = placed c; marks = c.self.invariant.marks; as_open = subst P (sym (closed c)) (rested c) }
+    record { placed = placed c; marks = c.self.invariant.marks; as_open = subst P (sym (closed c)) (rested c); mode = λ opened. absurd (false≢true (sym (closed c) ∙ opened)) }
 
 pub returns-clause-value : goal.returns-clause-value
 returns-clause-value c = subst (λ (v : Remembering). c.replace.result ≡ is_writable v.heap.cells c.args.at) c.self.view_is (told c).0

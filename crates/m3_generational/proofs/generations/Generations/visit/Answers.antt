@@ -1,6 +1,6 @@
 use Rattle.std.proofs.Common.{◌≡◌, Bool, true, sym, subst, ap, ◌∙◌, arith}
 use Rattle.m3_generational.specs.Inside.{IsAsOpen, AreCollecting}
-use Rattle.m3_generational.proofs.VisitLemmas.{IsVisit, collecting, visit-open, visit-collecting, visit-sizes, visit-none, visit-value, visit-kept, visit-refused, visit-cost, visit-sound}
+use Rattle.m3_generational.proofs.VisitLemmas.{IsVisit, collecting, visit-open, visit-collecting, visit-mode, visit-sizes, visit-none, visit-value, visit-kept, visit-refused, visit-cost, visit-sound}
 use Rattle.m3_generational.specs.Remembering.{Remembering}
 use Rattle.m3_generational.proofs.generations.Generations.visit.Given as given
 use Rattle.m3_generational.proofs.generations.Generations.visit.Goals as goal
@@ -22,6 +22,7 @@ invariant_of-self g c =
       placed = then.keeping.placed;
       marks = c.self.invariant.marks ∙ sym (visit-sizes c.self.inside c.args.self.now c.forward_word.new.spaces c.args.word c.forward_word.result c.tick.new.self c.forward_word.new.steps (visit g c));
       as_open = subst P (sym (visit-open c.self.inside c.args.self.now c.forward_word.new.spaces c.args.word c.forward_word.result c.tick.new.self c.forward_word.new.steps (visit g c))) then;
+      mode = λ _. visit-mode c.self.inside c.args.self.now c.forward_word.new.spaces c.args.word c.forward_word.result c.tick.new.self c.forward_word.new.steps (visit g c);
     }
 
 pub returns-clause-none : goal.returns-clause-none
