@@ -72,7 +72,7 @@ bad-before shapes roots a b c d g bad =
     let P : List Cell → Type 0 = λ cs. HasBadPointer shapes cs roots in
     subst P g.same_cells bad
 
-boundary-laid : (a at : ℕ) (cells : List Cell) → AreLaid a cells → is_start cells at ≡ true → (is_start cells (at + length (words_from cells at)) ≡ true) ⊎ (at + length (words_from cells at) ≡ a + total_words cells)
+pub boundary-laid : (a at : ℕ) (cells : List Cell) → AreLaid a cells → is_start cells at ≡ true → (is_start cells (at + length (words_from cells at)) ≡ true) ⊎ (at + length (words_from cells at) ≡ a + total_words cells)
 boundary-laid a at [] h e = absurd (false≢true e)
 boundary-laid a at (c ∷ cs) h e = ⊎_elim
     (λ (same : c.start ≡ at).

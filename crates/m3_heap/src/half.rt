@@ -126,6 +126,17 @@ impl Half {
         }
     }
 
+    /// Where the cell starts that has a word at an address.
+    pub fn start_of(&self, at: u64) -> u64
+        requires { is_some (cell_word_at self.now.cells at) ≡ true }
+        ensures starts { is_start self.now.cells result ≡ true }
+        ensures low { result ≤ at }
+        ensures within { at < result + length (words_from self.now.cells result) }
+    {
+        let place = (at - self.base) as usize;
+        self.base + self.starts.last(place) as u64
+    }
+
     /// Sets the word at an address, and says whether it did: it doesn't outside a cell and at a header.
     #[inline]
     pub fn replace(&mut self, at: u64, word: u64) -> bool

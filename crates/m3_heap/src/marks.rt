@@ -62,6 +62,47 @@ impl Marks {
         self.bits[place] = with_bit(word, i % 64);
     }
 
+    /// The first place from one on that is marked, or the number of marks.
+    pub fn next(&self, from: usize) -> usize
+        requires { from ≤ length self.now }
+        ensures from { from ≤ result }
+        ensures end { result ≤ length self.now }
+        ensures between { (k : ℕ) → from ≤ k → k < result → slice_index_or self.now k false ≡ false }
+        ensures there { result < length self.now → slice_index_or self.now result false ≡ true }
+    {
+        let count = self.count;
+        let mut at = from;
+        while at < count {
+            if at % 64 == 0 && count - at >= 64 && self.bits[at / 64] == 0 {
+                at += 64;
+            } else if self.get(at) {
+                return at;
+            } else {
+                at += 1;
+            }
+        }
+        at
+    }
+
+    /// The last place up to one that is marked, where the first of all is.
+    pub fn last(&self, from: usize) -> usize
+        requires within { from < length self.now }
+        requires first { slice_index_or self.now 0 false ≡ true }
+        ensures from { result ≤ from }
+        ensures there { slice_index_or self.now result false ≡ true }
+        ensures between { (k : ℕ) → result < k → k ≤ from → slice_index_or self.now k false ≡ false }
+    {
+        let mut at = from;
+        while !self.get(at) {
+            if at % 64 == 63 && at > 63 && self.bits[at / 64] == 0 {
+                at -= 64;
+            } else {
+                at -= 1;
+            }
+        }
+        at
+    }
+
     /// Clears all marks, where none is set from a place on.
     pub fn clear(&mut self, end: usize)
         requires end { end ≤ length self.old }
