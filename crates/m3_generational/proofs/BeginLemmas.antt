@@ -265,7 +265,7 @@ minor-begins s m p r found tenured =
 pub opened-heap : (s s' left : Spaces) (marks : List Bool) (asked minors fulls : ℕ) (ms : List Move) → s'.here.size ≡ s.here.size → s'.here.base ≡ s.here.base → s'.nursery ≡ s.nursery → cells_seen true s' ≡ cells_seen false s → moves_seen true s' left ≡ ms
     → heap_seen true s' left marks asked minors fulls ≡ record (heap_seen false s left marks asked minors fulls) { is_open = true; moves = ms }
 opened-heap s s' left marks asked minors fulls ms size base nursery cells list =
-    let n = marked_count marks in
+    let n = marks in
     ap (λ k. watching n (settled (plain true (cells_seen true s') (moves_seen true s' left) asked k s'.here.base s'.nursery.size (total_words s'.nursery.cells) minors fulls))) size
     ∙ ap (λ k. watching n (settled (plain true (cells_seen true s') (moves_seen true s' left) asked s.here.size k s'.nursery.size (total_words s'.nursery.cells) minors fulls))) base
     ∙ ap (λ (k : Space). watching n (settled (plain true (cells_seen true s') (moves_seen true s' left) asked s.here.size s.here.base k.size (total_words k.cells) minors fulls))) nursery

@@ -1,5 +1,5 @@
 -- A collection ends.
-use Rattle.std.proofs.Common.{◌≡◌, ℕ, zero, suc, ◌+◌, ◌-◌, ◌/◌, ◌%◌, min, ◌<◌, ◌≤◌, Bool, true, false, cond, eqb, ltb, leb, List, [], ◌∷◌, ◌++◌, length, get_or, Option, Some, None, is_some, unwrap_or, refl, sym, ap, subst, ◌∙◌, arith, inl, inr, ◌⊎◌, ⊎_elim, append-nil}
+use Rattle.std.proofs.Common.{◌≡◌, ℕ, zero, suc, ◌+◌, ◌-◌, ◌/◌, ◌%◌, min, ◌<◌, ◌≤◌, Bool, true, false, cond, eqb, ltb, leb, List, [], ◌∷◌, ◌++◌, length, take, get_or, Option, Some, None, is_some, unwrap_or, refl, sym, ap, subst, ◌∙◌, arith, inl, inr, ◌⊎◌, ⊎_elim, append-nil}
 use Rattle.std.specs.Prelude.{◌&&◌, ◌||◌, slice_get}
 use Rattle.std.specs.List.{AllByRecursion}
 use Rattle.std.proofs.lemmas.Bool.{cases_Bool, cases_eq, cases_lt, cond-true, cond-false, false≢true, or_left, or_right, lt-ltb, le-ltb, eq-eqb, ne_eqb, eqb-true}
@@ -7,7 +7,7 @@ use Rattle.m3_heap.specs.Cells.{Cell, heap_base, header, kind_in, cell_from, is_
 use Rattle.m3_heap.specs.Shapes.{Shape, is_pointer_word, is_pointer_of}
 use Rattle.m3_heap.specs.Moves.{Move, new_start, is_kept, forwarded, kept_starts, kept_words, kept_pointers, moved_cells, AreOneToOne}
 use Rattle.m3_heap.specs.Reach.{IsReachable, HasBadPointer}
-use Rattle.m3_heap.specs.Heap.{Heap, IsSoundHeap, SameSizes, CountsOne, ChangesHalves, KeepsReached, MovesCells, MakesRoom, CostsTrace, first_base, second_base, nursery_base, other_base, is_minor, unasked, old_starts, counted}
+use Rattle.m3_heap.specs.Heap.{Heap, IsSoundHeap, SameSizes, CountsOne, ChangesHalves, KeepsReached, MovesCells, MakesRoom, CostsTrace, first_base, second_base, nursery_base, other_base, old_words, is_minor, unasked, old_starts, counted}
 use Rattle.m3_heap.specs.CollectorSpace.{Space, AreLaid}
 use Rattle.m3_heap.specs.CollectorTracing.{old_cells, copies, moves, moves_from, placed, IsCopy, IsTracing}
 use Rattle.m3_heap.specs.CollectorScanning.{AreScanned, AreSettled, PointsToKept, scanned_words, met, Grows}
@@ -334,7 +334,7 @@ full-finishes shapes i v s' here there nursery left marks fulls before after f c
     let list = old-moves shapes i v s' s left e in
     let list' = end-moves shapes i v s' s left e in
     let tenured : v.heap.tenured ≡ [] = no-tenured v.heap (ap (λ (u : Remembering). u.heap.tenured) (sym f.view) ∙ ap (λ (u : Remembering). unasked u.heap) f.view) f.full in
-    let watched : v.heap.watched ≡ 0 = ap (λ (u : Remembering). u.heap.watched) (sym f.view) ∙ ap (λ (u : Remembering). cond (is_minor u.heap) (marked_count i.remembered) 0) f.view ∙ ap (λ b. cond b (marked_count i.remembered) 0) f.full in
+    let watched : v.heap.watched ≡ 0 = ap (λ (u : Remembering). u.heap.watched) (sym f.view) ∙ ap (λ (u : Remembering). cond (is_minor u.heap) (marked_count (take (old_words u.heap) i.remembered)) 0) f.view ∙ ap (λ b. cond b (marked_count (take (old_words v.heap) i.remembered)) 0) f.full in
     let was : kept_words v.heap.cells v.heap.moves ≡ total_words k.cells = ap (λ cs. kept_words cs v.heap.moves) (sym cells) ∙ ap (λ ms. kept_words (old_cells l k) ms) (sym list) ∙ words-told l k f.traced.before.tracing in
     let now : kept_words v.heap.cells (moves_seen false s left) ≡ total_words k'.cells =
     ap (λ cs. kept_words cs (moves_seen false s left)) (sym (fin.grows.same_cells ∙ cells)) ∙ ap (λ ms. kept_words (old_cells l' k') ms) (sym list') ∙ words-told l' k' f.traced.tracing in

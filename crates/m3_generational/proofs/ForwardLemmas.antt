@@ -232,14 +232,14 @@ tenured-stays s w n m t k up down below on =
     let found : is_start s.found.value.cells w ≡ true = sym (starts-same s.found.value.cells x w (stayed-layout s.found.value.cells)) ∙ there in
     let both : is_start (x ++ y) w ≡ true = start-first x y w (low s.here.base x y w sp down).no_start ∙ there in
     let head : w ≡ header (words_from (x ++ y) w) = sym (ap header (words-first x y w there) ∙ stayed-header s.here.base s.found.value.cells w (k.minor m).found found) in
-    record { forwards = in-minor s s w (Some w) n n m m (is-kept (minor_left s) s.here w w n (traces-minor s m t) up both head up); keeping = k; mode = refl; young = refl }
+    record { forwards = in-minor s s w (Some w) n n m m (is-kept (minor_left s) s.here w w n (traces-minor s m t) up both head up); keeping = k; mode = refl; tenured = refl; found = refl; young = refl }
 
 pub not-tenured : (s : Spaces) (w n : ℕ) → s.is_minor ≡ true → IsTracing (left_of s) (kept_of s) → IsKeeping s → heap_base ≤ w → w < nursery_base → is_start (stayed s.found.value.cells) w ≡ false → Forwards s s w None n n
 not-tenured s w n m t k up down off =
     let x = stayed s.found.value.cells in
     let y = s.nursery.cells in
     let sp = split-minor s m k in
-    record { forwards = in-minor s s w None n n m m (is-refused (minor_left s) s.here w n (traces-minor s m t) up (start-first x y w (low s.here.base x y w sp down).no_start ∙ off)); keeping = k; mode = refl; young = refl }
+    record { forwards = in-minor s s w None n n m m (is-refused (minor_left s) s.here w n (traces-minor s m t) up (start-first x y w (low s.here.base x y w sp down).no_start ∙ off)); keeping = k; mode = refl; tenured = refl; found = refl; young = refl }
 
 pub outside-tenured : (s : Spaces) (w : ℕ) → s.is_minor ≡ true → IsKeeping s → (w < s.here.base) ⊎ (s.here.base + s.tenured ≤ w) → is_start (stayed s.found.value.cells) w ≡ false
 outside-tenured s w m k out =
@@ -332,12 +332,12 @@ is-old a x y w s down = record { starts = start-first x y w (low a x y w s down)
 pub young-refused : (s : Spaces) (w n : ℕ) → s.is_minor ≡ true → IsTracing (left_of s) (kept_of s) → IsKeeping s → nursery_base ≤ w → is_start s.nursery.cells w ≡ false → Forwards s s w None n n
 young-refused s w n m t k up off =
     let here = is-young s.here.base (stayed s.found.value.cells) s.nursery.cells w (split-minor s m k) up in
-    record { forwards = in-minor s s w None n n m m (is-refused (minor_left s) s.here w n (traces-minor s m t) (omega (arith, up)) (here.starts ∙ off)); keeping = k; mode = refl; young = refl }
+    record { forwards = in-minor s s w None n n m m (is-refused (minor_left s) s.here w n (traces-minor s m t) (omega (arith, up)) (here.starts ∙ off)); keeping = k; mode = refl; tenured = refl; found = refl; young = refl }
 
 pub young-kept : (s : Spaces) (w h n : ℕ) → s.is_minor ≡ true → IsTracing (left_of s) (kept_of s) → IsKeeping s → nursery_base ≤ w → is_start s.nursery.cells w ≡ true → h ≡ header (words_from s.nursery.cells w) → heap_base ≤ h → Forwards s s w (Some h) n n
 young-kept s w h n m t k up on head there =
     let here = is-young s.here.base (stayed s.found.value.cells) s.nursery.cells w (split-minor s m k) up in
-    record { forwards = in-minor s s w (Some h) n n m m (is-kept (minor_left s) s.here w h n (traces-minor s m t) (omega (arith, up)) (here.starts ∙ on) (head ∙ ap header (sym here.words)) there); keeping = k; mode = refl; young = refl }
+    record { forwards = in-minor s s w (Some h) n n m m (is-kept (minor_left s) s.here w h n (traces-minor s m t) (omega (arith, up)) (here.starts ∙ on) (head ∙ ap header (sym here.words)) there); keeping = k; mode = refl; tenured = refl; found = refl; young = refl }
 
 pub young-needs : (s : Spaces) (w h : ℕ) → s.is_minor ≡ true → IsTracing (left_of s) (kept_of s) → IsKeeping s → nursery_base ≤ w → is_start s.nursery.cells w ≡ true → h ≡ header (words_from s.nursery.cells w) → h < heap_base
     → (length (words_from s.nursery.cells w) ≡ h / 4294967296) × (total_words s.here.cells + h / 4294967296 ≤ s.here.size)
@@ -360,7 +360,7 @@ young-promoted s here nursery w h start before after m t k up on head short hb h
           (ap (λ l. x ++ l) nc ∙ set-second s.here.base x y w start true sp up)
           (hc ∙ ap (λ ws. s.here.cells ++ record { start = start; words = ws } ∷ []) (sym young.words)) steps);
       keeping = promoted-keeps s here nursery w start (record { start = start; words = words_from y w }) m k hb hs hc nb ns nc;
-      mode = refl;
+      mode = refl; tenured = refl; found = refl;
       young = ap layout nc ∙ layout_stays y w start;
     }
 
@@ -369,12 +369,12 @@ young-promoted s here nursery w h start before after m t k up on head short hb h
 pub young-refused-full : (s : Spaces) (w n : ℕ) → s.is_minor ≡ false → IsTracing (left_of s) (kept_of s) → IsKeeping s → nursery_base ≤ w → is_start s.nursery.cells w ≡ false → Forwards s s w None n n
 young-refused-full s w n m t k up off =
     let there = is-young s.here.base s.here.cells s.nursery.cells w (split-full s m k) up in
-    record { forwards = in-full s s w None n n m m (is-refused (full_left s) s.there w n (traces-full s m t) (omega (arith, up)) (there.starts ∙ off)); keeping = k; mode = refl; young = refl }
+    record { forwards = in-full s s w None n n m m (is-refused (full_left s) s.there w n (traces-full s m t) (omega (arith, up)) (there.starts ∙ off)); keeping = k; mode = refl; tenured = refl; found = refl; young = refl }
 
 pub young-kept-full : (s : Spaces) (w h n : ℕ) → s.is_minor ≡ false → IsTracing (left_of s) (kept_of s) → IsKeeping s → nursery_base ≤ w → is_start s.nursery.cells w ≡ true → h ≡ header (words_from s.nursery.cells w) → heap_base ≤ h → Forwards s s w (Some h) n n
 young-kept-full s w h n m t k up on head far =
     let there = is-young s.here.base s.here.cells s.nursery.cells w (split-full s m k) up in
-    record { forwards = in-full s s w (Some h) n n m m (is-kept (full_left s) s.there w h n (traces-full s m t) (omega (arith, up)) (there.starts ∙ on) (head ∙ ap header (sym there.words)) far); keeping = k; mode = refl; young = refl }
+    record { forwards = in-full s s w (Some h) n n m m (is-kept (full_left s) s.there w h n (traces-full s m t) (omega (arith, up)) (there.starts ∙ on) (head ∙ ap header (sym there.words)) far); keeping = k; mode = refl; tenured = refl; found = refl; young = refl }
 
 pub young-needs-full : (s : Spaces) (w h : ℕ) → s.is_minor ≡ false → IsTracing (left_of s) (kept_of s) → IsKeeping s → nursery_base ≤ w → is_start s.nursery.cells w ≡ true → h ≡ header (words_from s.nursery.cells w) → h < heap_base
     → (length (words_from s.nursery.cells w) ≡ h / 4294967296) × (total_words s.there.cells + h / 4294967296 ≤ s.there.size)
@@ -397,7 +397,7 @@ young-moved s there nursery w h start before after m t k up on head short tb ts 
           (ap (λ l. x ++ l) nc ∙ set-second s.here.base x y w start true sp up)
           (tc ∙ ap (λ ws. s.there.cells ++ record { start = start; words = ws } ∷ []) (sym young.words)) steps);
       keeping = moved-young-keeps s there nursery w start m k tb ts nb ns nc;
-      mode = refl;
+      mode = refl; tenured = refl; found = refl;
       young = ap layout nc ∙ layout_stays y w start;
     }
 
@@ -406,12 +406,12 @@ young-moved s there nursery w h start before after m t k up on head short tb ts 
 pub old-refused : (s : Spaces) (w n : ℕ) → s.is_minor ≡ false → IsTracing (left_of s) (kept_of s) → IsKeeping s → heap_base ≤ w → w < nursery_base → is_start s.here.cells w ≡ false → Forwards s s w None n n
 old-refused s w n m t k up down off =
     let old = is-old s.here.base s.here.cells s.nursery.cells w (split-full s m k) down in
-    record { forwards = in-full s s w None n n m m (is-refused (full_left s) s.there w n (traces-full s m t) up (old.starts ∙ off)); keeping = k; mode = refl; young = refl }
+    record { forwards = in-full s s w None n n m m (is-refused (full_left s) s.there w n (traces-full s m t) up (old.starts ∙ off)); keeping = k; mode = refl; tenured = refl; found = refl; young = refl }
 
 pub old-kept : (s : Spaces) (w h n : ℕ) → s.is_minor ≡ false → IsTracing (left_of s) (kept_of s) → IsKeeping s → heap_base ≤ w → w < nursery_base → is_start s.here.cells w ≡ true → h ≡ header (words_from s.here.cells w) → heap_base ≤ h → Forwards s s w (Some h) n n
 old-kept s w h n m t k up down on head far =
     let old = is-old s.here.base s.here.cells s.nursery.cells w (split-full s m k) down in
-    record { forwards = in-full s s w (Some h) n n m m (is-kept (full_left s) s.there w h n (traces-full s m t) up (old.starts ∙ on) (head ∙ ap header (sym (old.words on))) far); keeping = k; mode = refl; young = refl }
+    record { forwards = in-full s s w (Some h) n n m m (is-kept (full_left s) s.there w h n (traces-full s m t) up (old.starts ∙ on) (head ∙ ap header (sym (old.words on))) far); keeping = k; mode = refl; tenured = refl; found = refl; young = refl }
 
 pub old-needs : (s : Spaces) (w h : ℕ) → s.is_minor ≡ false → IsTracing (left_of s) (kept_of s) → IsKeeping s → w < nursery_base → is_start s.here.cells w ≡ true → h ≡ header (words_from s.here.cells w) → h < heap_base
     → (length (words_from s.here.cells w) ≡ h / 4294967296) × (total_words s.there.cells + h / 4294967296 ≤ s.there.size)
@@ -434,12 +434,12 @@ old-moved s here there w h start before after m t k up down on head short tb ts 
           (ap (λ l. l ++ y) hc ∙ set-first s.here.base x y w start true sp down)
           (tc ∙ ap (λ ws. s.there.cells ++ record { start = start; words = ws } ∷ []) (sym (old.words on))) steps);
       keeping = moved-old-keeps s here there w start m k tb ts hb hs hc;
-      mode = refl;
+      mode = refl; tenured = refl; found = refl;
       young = refl;
     }
 
 pub low-stays : (s : Spaces) (w n : ℕ) → IsTracing (left_of s) (kept_of s) → IsKeeping s → w < heap_base → Forwards s s w (Some w) n n
-low-stays s w n t k low = record { forwards = is-low (left_of s) (kept_of s) w n t low; keeping = k; mode = refl; young = refl }
+low-stays s w n t k low = record { forwards = is-low (left_of s) (kept_of s) w n t low; keeping = k; mode = refl; tenured = refl; found = refl; young = refl }
 
 -- ---- a word of a copy is set
 

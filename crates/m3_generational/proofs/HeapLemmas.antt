@@ -199,7 +199,7 @@ same-total cs ds e = total-laid ds ∙ ap words-laid e ∙ sym (total-laid cs)
 -- ---- a request
 
 -- the heap with other cells, young ones among them
-pub changed : (h : Heap) (m : ℕ) (cells cells' : List Cell) (young young' : ℕ) → cells ≡ cells' → young ≡ young' → watching m (settled (record h { cells = cells; young = young })) ≡ record (settled (record h { cells = cells'; young = young' })) { watched = (watching m (settled (record h { cells = cells; young = young }))).watched }
+pub changed : (h : Heap) (m : List Bool) (cells cells' : List Cell) (young young' : ℕ) → cells ≡ cells' → young ≡ young' → watching m (settled (record h { cells = cells; young = young })) ≡ record (settled (record h { cells = cells'; young = young' })) { watched = (watching m (settled (record h { cells = cells; young = young }))).watched }
 changed h m cells cells' young young' c y =
     let P : List Cell → Type 0 = λ l. watching m (settled (record h { cells = cells; young = young })) ≡ record (settled (record h { cells = l; young = young })) { watched = (watching m (settled (record h { cells = cells; young = young }))).watched } in
     let Q : ℕ → Type 0 = λ n. watching m (settled (record h { cells = cells; young = young })) ≡ record (settled (record h { cells = cells'; young = n })) { watched = (watching m (settled (record h { cells = cells; young = young }))).watched } in
@@ -271,14 +271,14 @@ still-placed s s' same p = record {
 }
 
 pub as-changed : (s s' left : Spaces) (marks : List Bool) (asked minors fulls : ℕ) → SamePlaces s s'
-    → heap_seen false s' left marks asked minors fulls ≡ watching (marked_count marks) (settled (record (plain_heap false s left asked minors fulls) { cells = s'.here.cells ++ s'.nursery.cells; young = total_words s'.nursery.cells }))
+    → heap_seen false s' left marks asked minors fulls ≡ watching marks (settled (record (plain_heap false s left asked minors fulls) { cells = s'.here.cells ++ s'.nursery.cells; young = total_words s'.nursery.cells }))
 as-changed s s' left marks asked minors fulls same =
     let cells = s'.here.cells ++ s'.nursery.cells in
     let list = moves_seen false s left in
     let young = total_words s'.nursery.cells in
-    ap (λ n. watching (marked_count marks) (settled (plain false cells list asked n s'.here.base s'.nursery.size young minors fulls))) same.here_size
-    ∙ ap (λ n. watching (marked_count marks) (settled (plain false cells list asked s.here.size n s'.nursery.size young minors fulls))) same.here_base
-    ∙ ap (λ n. watching (marked_count marks) (settled (plain false cells list asked s.here.size s.here.base n young minors fulls))) same.nursery_size
+    ap (λ n. watching marks (settled (plain false cells list asked n s'.here.base s'.nursery.size young minors fulls))) same.here_size
+    ∙ ap (λ n. watching marks (settled (plain false cells list asked s.here.size n s'.nursery.size young minors fulls))) same.here_base
+    ∙ ap (λ n. watching marks (settled (plain false cells list asked s.here.size s.here.base n young minors fulls))) same.nursery_size
 
 -- ---- a new cell
 
@@ -306,7 +306,7 @@ made-young false s s' left marks asked minors fulls kind words start closed p sa
       room,
       to,
       subst P (sym (as-changed s s' left marks asked minors fulls same))
-          (changed (plain_heap false s left asked minors fulls) (marked_count marks) (s'.here.cells ++ s'.nursery.cells) _ (total_words s'.nursery.cells) _ cells young),
+          (changed (plain_heap false s left asked minors fulls) marks (s'.here.cells ++ s'.nursery.cells) _ (total_words s'.nursery.cells) _ cells young),
     )
 
 -- a cell that the nursery can't hold is made while no cell is young
@@ -344,7 +344,7 @@ made-old false s s' left marks asked minors fulls kind words start closed r same
       room,
       to,
       subst P (sym (as-changed s s' left marks asked minors fulls same))
-          (changed (plain_heap false s left asked minors fulls) (marked_count marks) (s'.here.cells ++ s'.nursery.cells) _ (total_words s'.nursery.cells) _ cells young'),
+          (changed (plain_heap false s left asked minors fulls) marks (s'.here.cells ++ s'.nursery.cells) _ (total_words s'.nursery.cells) _ cells young'),
     )
 
 -- ---- what a request may have
@@ -413,7 +413,7 @@ starts-laid (c ∷ cs) = ap (λ (l : List ℕ). cond (ltb c.start nursery_base) 
 rebuilt : Heap → List Cell → List ℕ → ℕ → ℕ → ℕ → Heap
 rebuilt h cells tenured watched young free = record h { cells = cells; tenured = tenured; watched = watched; young = young; free = free }
 
-pub other-words : (h : Heap) (n m young : ℕ) (cells : List Cell) → 1 ≤ h.nursery → layout cells ≡ layout h.cells → young ≡ h.young → HasOtherWords (watching n (settled h)) (watching m (settled (record h { cells = cells; young = young })))
+pub other-words : (h : Heap) (n m : List Bool) (young : ℕ) (cells : List Cell) → 1 ≤ h.nursery → layout cells ≡ layout h.cells → young ≡ h.young → HasOtherWords (watching n (settled h)) (watching m (settled (record h { cells = cells; young = young })))
 unfolding rebuilt free-by
 other-words h n m young cells some lay same =
     let total : total_words cells ≡ total_words h.cells = total-laid cells ∙ ap words-laid lay ∙ sym (total-laid h.cells) in
@@ -440,7 +440,7 @@ stored false s s' left marks marks' asked minors fulls closed p same old young =
     let total : total_words s'.nursery.cells ≡ total_words y = total-laid s'.nursery.cells ∙ ap words-laid young ∙ sym (total-laid y) in
     let P : Heap → Type 0 = λ n. HasOtherWords (heap_seen false s left marks asked minors fulls) n in
     subst P (sym (as-changed s s' left marks' asked minors fulls same))
-    (other-words (plain_heap false s left asked minors fulls) (marked_count marks) (marked_count marks') (total_words s'.nursery.cells) (s'.here.cells ++ s'.nursery.cells) (bounded s p).some lay total)
+    (other-words (plain_heap false s left asked minors fulls) marks marks' (total_words s'.nursery.cells) (s'.here.cells ++ s'.nursery.cells) (bounded s p).some lay total)
 
 pub rest-stored : (s s' : Spaces) → AreResting s → SamePlaces s s' → AreAtRest s'.here × (total_words s'.here.cells ≡ total_words s.here.cells) → AreAtRest s'.nursery × (total_words s'.nursery.cells ≡ total_words s.nursery.cells) → AreResting s'
 rest-stored s s' r same old young = record { old = old.0; young = young.0; room = omega (arith, old.1, young.1, r.room, same.here_size) }
@@ -477,24 +477,23 @@ set-old-told false s s' at w b closed p r below can young new =
 
 -- ---- a heap that was just made
 
-pub none-marked : (marks : List Bool) → ((k : ℕ) → get_or marks k false ≡ false) → marked_count marks ≡ 0
-none-marked [] clear = refl
-none-marked (true ∷ marks) clear = absurd (false≢true (sym (clear 0)))
-none-marked (false ∷ marks) clear = let rest = none-marked marks (λ k. clear (suc k)) in omega arith
+none-watched : (marks : List Bool) (words : ℕ) → watching marks (settled (plain false [] [] 0 words first_base (words / 4) 0 0 0)) ≡ watching [] (settled (plain false [] [] 0 words first_base (words / 4) 0 0 0))
+none-watched [] words = refl
+none-watched (mark ∷ marks) words = refl
 
-pub made : (s left : Spaces) (marks : List Bool) (words : ℕ) → s.here.base ≡ first_base → s.here.size ≡ words → s.here.cells ≡ [] → s.nursery.cells ≡ [] → s.nursery.size ≡ words / 4 → (kept_of left).cells ≡ [] → marked_count marks ≡ 0
+pub made : (s left : Spaces) (marks : List Bool) (words : ℕ) → s.here.base ≡ first_base → s.here.size ≡ words → s.here.cells ≡ [] → s.nursery.cells ≡ [] → s.nursery.size ≡ words / 4 → (kept_of left).cells ≡ []
     → heap_seen false s left marks 0 0 0 ≡ new_generations words
-made s left marks words base size old young quarter kept clear =
+made s left marks words base size old young quarter kept =
     let list : moves_seen false s left ≡ [] = ap (λ cs. moves_from (kept_of left).base (copies_of (left_of left).cells cs)) kept in
     let cells : s.here.cells ++ s.nursery.cells ≡ [] = ap (λ l. l ++ s.nursery.cells) old ∙ young in
-    let n = marked_count marks in
+    let n = marks in
     ap (λ l. watching n (settled (plain false l (moves_seen false s left) 0 s.here.size s.here.base s.nursery.size (total_words s.nursery.cells) 0 0))) cells
     ∙ ap (λ l. watching n (settled (plain false [] l 0 s.here.size s.here.base s.nursery.size (total_words s.nursery.cells) 0 0))) list
     ∙ ap (λ k. watching n (settled (plain false [] [] 0 k s.here.base s.nursery.size (total_words s.nursery.cells) 0 0))) size
     ∙ ap (λ k. watching n (settled (plain false [] [] 0 words k s.nursery.size (total_words s.nursery.cells) 0 0))) base
     ∙ ap (λ k. watching n (settled (plain false [] [] 0 words first_base k (total_words s.nursery.cells) 0 0))) quarter
     ∙ ap (λ l. watching n (settled (plain false [] [] 0 words first_base (words / 4) (total_words l) 0 0))) young
-    ∙ ap (λ k. watching k (settled (plain false [] [] 0 words first_base (words / 4) 0 0 0))) clear
+    ∙ none-watched marks words
 
 -- ---- a word of an old cell was set, or couldn't be
 

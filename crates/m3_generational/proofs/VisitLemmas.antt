@@ -48,7 +48,7 @@ visit-sizes i v s w r before after h = (visit-done i v s w r before after h).lef
 seen-again : (s s' left : Spaces) (marks : List Bool) (asked minors fulls : ℕ) (ms : List Move) → ArePlaced s → ArePlaced s' → s'.here.size ≡ s.here.size → s'.here.base ≡ s.here.base → total_words s'.nursery.cells ≡ total_words s.nursery.cells → cells_seen true s' ≡ cells_seen true s → moves_seen true s' left ≡ ms
     → heap_seen true s' left marks asked minors fulls ≡ record (heap_seen true s left marks asked minors fulls) { moves = ms }
 seen-again s s' left marks asked minors fulls ms p p' size base young cells list =
-    let n = marked_count marks in
+    let n = marks in
     let nursery : s'.nursery.size ≡ s.nursery.size = p'.quarter ∙ ap (λ k. k / 4) size ∙ sym p.quarter in
     ap (λ k. watching n (settled (plain true (cells_seen true s') (moves_seen true s' left) asked k s'.here.base s'.nursery.size (total_words s'.nursery.cells) minors fulls))) size
     ∙ ap (λ k. watching n (settled (plain true (cells_seen true s') (moves_seen true s' left) asked s.here.size k s'.nursery.size (total_words s'.nursery.cells) minors fulls))) base

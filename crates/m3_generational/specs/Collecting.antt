@@ -70,6 +70,8 @@ pub record Forwards (s s' : Spaces) (word : ℕ) (result : Option ℕ) (before a
   pub forwards : ForwardsIn (left_of s) (kept_of s) (left_of s') (kept_of s') word result before after
   pub keeping : IsKeeping s'
   pub mode : s'.is_minor ≡ s.is_minor
+  pub tenured : s'.tenured ≡ s.tenured
+  pub found : s'.found.value ≡ s.found.value
   pub young : layout s'.nursery.cells ≡ layout s.nursery.cells
 
 -- all copies are scanned

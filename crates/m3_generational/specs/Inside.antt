@@ -7,7 +7,7 @@ use Rattle.m3_heap.specs.CollectorSpace.{Space}
 use Rattle.m3_heap.specs.CollectorTracing.{old_cells, moves}
 use Rattle.m3_heap.specs.CollectorHalves.{AreAtRest, AreMoving}
 use Rattle.m3_generational.specs.Collecting.{left_of, kept_of, ArePlaced, IsKeeping}
-use Rattle.m3_generational.specs.Remembering.{Remembering, marked_count, watching}
+use Rattle.m3_generational.specs.Remembering.{Remembering, watching}
 use Rattle.m3_generational.specs.declared.spaces.Spaces.{Spaces}
 use Rattle.m3_generational.specs.declared.generations.Generations.TheInside.{Inside}
 
@@ -37,7 +37,7 @@ plain_heap is_open s left asked minors fulls = record {
 }
 
 abbrev pub heap_seen : Bool → Spaces → Spaces → List Bool → ℕ → ℕ → ℕ → Heap
-heap_seen is_open s left remembered asked minors fulls = watching (marked_count remembered) (settled (plain_heap is_open s left asked minors fulls))
+heap_seen is_open s left remembered asked minors fulls = watching remembered (settled (plain_heap is_open s left asked minors fulls))
 
 abbrev pub seen : Inside → Remembering
 seen g = record { heap = heap_seen g.is_open g.spaces g.left.value g.remembered g.asked g.minors g.fulls; remembered = g.remembered }

@@ -1,10 +1,10 @@
 -- A heap with a nursery, as contracts see it.
-use Rattle.std.specs.Prelude.{◌≡◌, ℕ, ◌+◌, ◌-◌, ◌/◌, ◌≤◌, Bool, true, false, ◌&&◌, ◌||◌, nat_lt, if◌then◌else◌, List, [], ◌∷◌, slice_get, slice_index_or, Some}
+use Rattle.std.specs.Prelude.{◌≡◌, ℕ, ◌+◌, ◌-◌, ◌/◌, ◌≤◌, Bool, true, false, ◌&&◌, ◌||◌, nat_lt, if◌then◌else◌, List, [], ◌∷◌, take, slice_get, slice_index_or, Some}
 use Rattle.m3_heap.specs.Cells.{Cell, heap_base, is_start, words_from}
 use Rattle.m3_heap.specs.Shapes.{Shape, is_pointer_word}
 use Rattle.m3_heap.specs.Moves.{kept_starts}
 use Rattle.m3_heap.specs.Reach.{HasBadPointer}
-use Rattle.m3_heap.specs.Heap.{Heap, first_base, nursery_base, settled, is_minor, KeepsReached, MovesCells, MakesRoom, CountsOne, ChangesHalves, CostsTrace}
+use Rattle.m3_heap.specs.Heap.{Heap, old_words, first_base, nursery_base, settled, is_minor, KeepsReached, MovesCells, MakesRoom, CountsOne, ChangesHalves, CostsTrace}
 
 -- what the rest of the machine sees of it, and which words of the half in use were set since the last
 -- collection, or in it, one mark for each
@@ -17,13 +17,13 @@ abbrev pub marked_count : List Bool → ℕ
 marked_count [] = 0
 marked_count (mark ∷ marks) = (if mark then 1 else 0) + marked_count marks
 
--- the heap whose next collection, if it is one of the young cells alone, looks at so many words of old ones
-abbrev pub watching : ℕ → Heap → Heap
-watching words heap = record heap { watched = if is_minor heap then words else 0 }
+-- the heap whose next collection, if it is one of the young cells alone, looks at the marked words of old cells
+abbrev pub watching : List Bool → Heap → Heap
+watching marks heap = record heap { watched = if is_minor heap then marked_count (take (old_words heap) marks) else 0 }
 
 -- a heap that was just made
 abbrev pub new_generations : ℕ → Heap
-new_generations words = watching 0 (settled (record {
+new_generations words = watching [] (settled (record {
   cells = [];
   is_open = false;
   moves = [];

@@ -3,7 +3,7 @@ use Rattle.m3_heap.specs.CollectorSpace.{Space}
 
 use Rattle.m3_generational.specs.Collecting.{kept_of}
 use Rattle.m3_generational.specs.declared.spaces.Spaces.{Spaces}
-use Rattle.m3_generational.proofs.HeapLemmas.{made, none-marked}
+use Rattle.m3_generational.proofs.HeapLemmas.{made}
 use Rattle.m3_generational.proofs.generations.Generations.new.Goals as goal
 
 pub returns : goal.returns
@@ -12,4 +12,3 @@ returns c =
     (ap (λ (s : Space). s.base) c.in_ok-here.ensures) (ap (λ (s : Space). s.size) c.in_ok-here.ensures) (ap (λ (s : Space). s.cells) c.in_ok-here.ensures)
     (ap (λ (s : Space). s.cells) c.in_ok-nursery.ensures) (ap (λ (s : Space). s.size) c.in_ok-nursery.ensures)
     (ap (λ (s : Spaces). (kept_of s).cells) c.of-left.ensures ∙ ap (λ (s : Space). s.cells) c.in_ok-there.ensures)
-    (none-marked c.in_ok-remembered.remembered c.in_ok-remembered.ensures.clear)
