@@ -14,12 +14,12 @@ use Rattle.m3_heap.proofs.SpaceLemmas.{laid-rising}
 use Rattle.m3_heap.proofs.TracingLemmas.{all_map, all_append, total-append, own-words, cells-told, copies-told, tracing-told}
 use Rattle.m3_heap.proofs.SemiLemmas.{short-cells, none-marked, none-kept}
 use Rattle.m3_generational.specs.Remembering.{watching, marked_count}
-use Rattle.m3_generational.specs.Collecting.{stayed, old_left, left_of, kept_of, ArePlaced, IsSplit, HasTenured, IsKeeping}
+use Rattle.m3_generational.specs.Collecting.{stayed, minor_left, full_left, old_left, left_of, kept_of, ArePlaced, IsSplit, HasTenured, IsKeeping}
 use Rattle.m3_generational.specs.Inside.{cells_seen, moves_seen, plain_heap, heap_seen, AreResting, AreCollecting}
 use Rattle.m3_generational.specs.declared.spaces.Spaces.{Spaces}
 use Rattle.m3_generational.proofs.PartLemmas.{start-first, low}
 use Rattle.m3_generational.proofs.HeapLemmas.{SamePlaces, still-placed, bounded, split, plain, HasParts, parts-sound, same-total}
-use Rattle.m3_generational.proofs.ForwardLemmas.{minor_left, full_left, left-minor, kept-minor, laid-same, stayed-layout}
+use Rattle.m3_generational.proofs.ForwardLemmas.{left-minor, kept-minor, laid-same, stayed-layout}
 
 -- ---- lists of cells
 

@@ -13,7 +13,7 @@ use Rattle.m3_heap.proofs.SpaceLemmas.{start-fits, is_start-outside, with_word-o
 use Rattle.m3_heap.proofs.TracingLemmas.{total-append}
 use Rattle.m3_heap.proofs.CopyLemmas.{is_start-left, fresh-header, kept-header, copy-room, forwarded-kept, forwarded-low, keeps-kept, keeps-low, keeps-fresh, fresh-start}
 use Rattle.m3_heap.proofs.WordLemmas.{kept-laid}
-use Rattle.m3_generational.specs.Collecting.{stayed, old_left, left_of, kept_of, ArePlaced, IsSplit, HasTenured, IsKeeping, ForwardsIn, Forwards}
+use Rattle.m3_generational.specs.Collecting.{stayed, old_left, minor_left, full_left, left_of, kept_of, ArePlaced, IsSplit, HasTenured, IsKeeping, ForwardsIn, Forwards}
 use Rattle.m3_generational.specs.declared.spaces.Spaces.{Spaces}
 use Rattle.m3_generational.proofs.PartLemmas.{start-first, start-second, words-first, words-second, low, high, set-first, set-second}
 use Rattle.m3_generational.proofs.HeapLemmas.{SamePlaces, still-placed, same-total}
@@ -83,12 +83,6 @@ is-fresh left kept left' kept' w h start before after t high on head low lb kb l
     }
 
 -- ---- of a minor collection and of a full one
-
-abbrev pub minor_left : Spaces → Space
-minor_left s = record { base = s.here.base; size = s.here.size; cells = stayed s.found.value.cells ++ s.nursery.cells }
-
-abbrev pub full_left : Spaces → Space
-full_left s = record { base = s.here.base; size = s.here.size; cells = s.here.cells ++ s.nursery.cells }
 
 pub left-minor : (s : Spaces) → s.is_minor ≡ true → left_of s ≡ minor_left s
 left-minor s m = ap (λ b. let l : Space = record { base = s.here.base; size = s.here.size; cells = cond b (stayed s.found.value.cells) s.here.cells ++ s.nursery.cells } in l) m
@@ -461,3 +455,8 @@ set-keeps s here at w m k hb hs hc =
             tenured = ten.tenured;
           };
     }
+
+pub minor-in : (s s' : Spaces) (w : ℕ) (r : Option ℕ) (before after : ℕ) → s.is_minor ≡ true → Forwards s s' w r before after → ForwardsIn (minor_left s) s.here (minor_left s') s'.here w r before after
+minor-in s s' w r before after m f =
+    let m' = f.mode ∙ m in
+    over _ _ _ _ _ _ _ _ w r before after (sym (left-minor s m)) (sym (kept-minor s m)) (sym (left-minor s' m')) (sym (kept-minor s' m')) f.forwards

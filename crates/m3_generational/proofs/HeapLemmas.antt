@@ -196,6 +196,17 @@ total-laid (c ∷ cs) = ap (λ n. length c.words + n) (total-laid cs)
 pub same-total : (cs ds : List Cell) → layout ds ≡ layout cs → total_words ds ≡ total_words cs
 same-total cs ds e = total-laid ds ∙ ap words-laid e ∙ sym (total-laid cs)
 
+words-both : (xs ys : List (ℕ × ℕ)) → words-laid (xs ++ ys) ≡ words-laid xs + words-laid ys
+unfolding words-laid
+words-both [] ys = let sum : words-laid ys ≡ 0 + words-laid ys = omega arith in sum
+words-both (x ∷ xs) ys = let ih = words-both xs ys in omega arith
+
+pub front-total : (ds cs : List Cell) (rest : List (ℕ × ℕ)) → layout ds ≡ layout cs ++ rest → total_words cs ≤ total_words ds
+front-total ds cs rest e =
+    let sum = total-laid ds ∙ ap words-laid e ∙ words-both (layout cs) rest in
+    let front = total-laid cs in
+    omega arith
+
 -- ---- a request
 
 -- the heap with other cells, young ones among them

@@ -5,3 +5,4 @@ pub mod ForwardLemmas
 pub mod BeginLemmas
 pub mod VisitLemmas
 pub mod EndLemmas
+pub mod MinorLemmas

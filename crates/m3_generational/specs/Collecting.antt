@@ -1,9 +1,9 @@
 -- For the heap of generations alone: its parts in a collection.
 use Rattle.std.specs.Prelude.{◌≡◌, ℕ, ◌+◌, ◌/◌, ◌≤◌, ◌⊎◌, ◌↔◌, if◌then◌else◌, true, List, [], ◌∷◌, ◌++◌, Option, Some, IsNone, IfSome}
 use Rattle.std.specs.Option.{IfNone}
-use Rattle.m3_heap.specs.Cells.{Cell, layout, total_words}
+use Rattle.m3_heap.specs.Cells.{Cell, layout, words_from, total_words}
 use Rattle.m3_heap.specs.Moves.{forwarded, kept_starts}
-use Rattle.m3_heap.specs.Shapes.{Shape}
+use Rattle.m3_heap.specs.Shapes.{Shape, pointer_words}
 use Rattle.m3_heap.specs.Reach.{IsBadPointer}
 use Rattle.m3_heap.specs.Heap.{first_base, second_base, nursery_base}
 use Rattle.m3_heap.specs.CollectorSpace.{Space, AreLaid}
@@ -27,6 +27,13 @@ left_of s = record { base = s.here.base; size = s.here.size; cells = old_left s 
 
 abbrev pub kept_of : Spaces → Space
 kept_of s = if s.is_minor then s.here else s.there
+
+-- the cells that a minor collection leaves, and those that a full one leaves
+abbrev pub minor_left : Spaces → Space
+minor_left s = record { base = s.here.base; size = s.here.size; cells = stayed s.found.value.cells ++ s.nursery.cells }
+
+abbrev pub full_left : Spaces → Space
+full_left s = record { base = s.here.base; size = s.here.size; cells = s.here.cells ++ s.nursery.cells }
 
 -- where the parts lie
 pub record ArePlaced (s : Spaces) : Type 0 where
@@ -80,3 +87,8 @@ pub record AreTraced (shapes : List Shape) (s s' : Spaces) : Type 0 where
   pub tracing : IsTracing (left_of s') (kept_of s')
   pub grows : Grows (left_of s) (kept_of s) (left_of s') (kept_of s')
   pub scans : Scans shapes (kept_starts (moves (left_of s) (kept_of s))) (left_of s') (kept_of s') ((kept_of s').base + total_words (kept_of s').cells)
+
+-- how many pointers the tenured cells have
+abbrev pub tenured_pointers : List Shape → List Cell → List Cell → ℕ
+tenured_pointers shapes cells [] = 0
+tenured_pointers shapes cells (cell ∷ tenured) = pointer_words shapes (words_from cells cell.start) + tenured_pointers shapes cells tenured

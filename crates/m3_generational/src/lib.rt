@@ -5,6 +5,7 @@
 mod copying;
 mod forwarding;
 mod generations;
+mod remembering;
 mod spaces;
 mod tracing;
 
