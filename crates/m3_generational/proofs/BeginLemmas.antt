@@ -186,7 +186,7 @@ plain-minor s p r =
 
 -- ---- the forwarding list
 
-no-old : (a : ℕ) (y : List Cell) → nursery_base ≤ a → AreLaid a y → old_starts y ≡ []
+pub no-old : (a : ℕ) (y : List Cell) → nursery_base ≤ a → AreLaid a y → old_starts y ≡ []
 no-old a [] le h = refl
 no-old a (c ∷ cs) le h = cond-false (ltb c.start nursery_base) (c.start ∷ old_starts cs) (old_starts cs) (le-ltb c.start nursery_base (omega (arith, h.0))) ∙ no-old (a + length c.words) cs (omega arith) h.2
 
@@ -278,11 +278,11 @@ restored-length : (T : List Cell) (ws : List ℕ) → length (restored T ws) ≡
 restored-length T [] = refl
 restored-length T (w ∷ ws) = refl
 
-standing-layout : (T cs : List Cell) → layout (standing T cs) ≡ layout cs
+pub standing-layout : (T cs : List Cell) → layout (standing T cs) ≡ layout cs
 standing-layout T [] = refl
 standing-layout T (c ∷ cs) = ap (λ n. (c.start, n) ∷ layout (standing T cs)) (restored-length T c.words) ∙ ap (λ l. (c.start, length c.words) ∷ l) (standing-layout T cs)
 
-standing-both : (T x y : List Cell) → standing T (x ++ y) ≡ standing T x ++ standing T y
+pub standing-both : (T x y : List Cell) → standing T (x ++ y) ≡ standing T x ++ standing T y
 standing-both T [] y = refl
 standing-both T (c ∷ cs) y = ap (λ l. record { start = c.start; words = restored T c.words } ∷ l) (standing-both T cs y)
 

@@ -2,7 +2,7 @@
 use Rattle.std.proofs.Common.{◌≡◌, ℕ, zero, suc, ◌+◌, ◌-◌, ◌/◌, ◌%◌, min, ◌<◌, ◌≤◌, Bool, true, false, cond, eqb, ltb, leb, List, [], ◌∷◌, ◌++◌, length, take, get_or, Option, Some, None, is_some, unwrap_or, refl, sym, ap, subst, ◌∙◌, arith, inl, inr, ◌⊎◌, ⊎_elim, append-nil}
 use Rattle.std.specs.Prelude.{◌&&◌, ◌||◌, slice_get}
 use Rattle.std.specs.List.{AllByRecursion}
-use Rattle.std.proofs.lemmas.Bool.{cases_Bool, cases_eq, cases_lt, cond-true, cond-false, false≢true, or_left, or_right, lt-ltb, le-ltb, eq-eqb, ne_eqb, eqb-true}
+use Rattle.std.proofs.lemmas.Bool.{cases_Bool, cases_eq, cases_lt, cond-true, cond-false, false≢true, or_left, or_right, lt-ltb, le-ltb, eq-eqb, ne_eqb, eqb-true, and_parts, leb-true}
 use Rattle.m3_heap.specs.Cells.{Cell, heap_base, header, kind_in, cell_from, is_start, words_from, layout, total_words, IsHeaded}
 use Rattle.m3_heap.specs.Shapes.{Shape, is_pointer_word, is_pointer_of}
 use Rattle.m3_heap.specs.Moves.{Move, new_start, is_kept, forwarded, kept_starts, kept_words, kept_pointers, moved_cells, AreOneToOne}
@@ -12,7 +12,7 @@ use Rattle.m3_heap.specs.CollectorSpace.{Space, AreLaid}
 use Rattle.m3_heap.specs.CollectorTracing.{old_cells, copies, moves, moves_from, placed, IsCopy, IsTracing}
 use Rattle.m3_heap.specs.CollectorScanning.{AreScanned, AreSettled, PointsToKept, scanned_words, met, Grows}
 use Rattle.m3_heap.specs.CollectorHalves.{AreAtRest, AreMoving}
-use Rattle.m3_heap.proofs.TracingLemmas.{all_map, none_or_some, total-placed}
+use Rattle.m3_heap.proofs.TracingLemmas.{all_map, none_or_some, total-append}
 use Rattle.m3_heap.proofs.CopyLemmas.{kept-le}
 use Rattle.m3_heap.proofs.ScanLemmas.{laid-placed, copy-here}
 use Rattle.m3_heap.proofs.StepLemmas.{laid-copies}
@@ -21,13 +21,16 @@ use Rattle.m3_heap.proofs.SemiLemmas.{words-told}
 use Rattle.m3_heap.proofs.FinalLemmas.{one-to-one, all-kept, reached-kept, done-moved, done-met}
 use Rattle.m3_heap.proofs.FinishLemmas.{IsFinished, done, finished-good, finished-rest}
 use Rattle.m3_generational.specs.Remembering.{Remembering, Fits, Finishes, marked_count}
-use Rattle.m3_generational.specs.Collecting.{left_of, kept_of, ArePlaced, IsKeeping, AreTraced}
+use Rattle.m3_generational.specs.Collecting.{stayed, left_of, kept_of, minor_left, ArePlaced, IsKeeping, AreTraced, tenured_pointers}
 use Rattle.m3_generational.specs.Inside.{cells_seen, moves_seen, heap_seen, seen, AreResting, AreCollecting, IsGenerations}
 use Rattle.m3_generational.specs.declared.spaces.Spaces.{Spaces}
 use Rattle.m3_generational.specs.declared.generations.Generations.TheInside.{Inside}
-use Rattle.m3_generational.proofs.HeapLemmas.{bounded, closed-sound}
+use Rattle.m3_generational.proofs.HeapLemmas.{SamePlaces, still-placed, same-total, closed-sound}
 use Rattle.m3_generational.proofs.FitLemmas.{FitsOld, fits-again}
-use Rattle.m3_generational.proofs.ForwardLemmas.{left-minor, kept-minor, left-full, kept-full}
+use Rattle.m3_generational.proofs.ForwardLemmas.{left-minor, kept-minor, left-full, kept-full, stayed-layout, back-minor, fore-minor}
+use Rattle.m3_generational.proofs.BeginLemmas.{standing-layout}
+use Rattle.m3_generational.proofs.VisitLemmas.{collecting}
+use Rattle.m3_generational.proofs.TenuredLemmas.{starts_of, by-starts, tenured-counted, tenured-starts}
 
 -- ---- of any cells that are left and kept, and of the heaps that are seen
 
@@ -368,3 +371,132 @@ full-finishes shapes i v s' here there nursery left marks fulls before after f c
         (λ (q : (s.here.base ≡ first_base) × (s.there.base ≡ second_base)). q.1 ∙ sym (ap (λ n. other_base n) q.0))
         (λ (q : (s.here.base ≡ second_base) × (s.there.base ≡ first_base)). q.1 ∙ sym (ap (λ n. other_base n) q.0))
         p.bases
+
+-- ---- what a minor one knew of the old cells
+
+pub collecting-told : (i : Inside) (v : Remembering) → IsGenerations i → seen i ≡ v → v.heap.is_open ≡ true → AreCollecting i.spaces
+collecting-told i v h view opened = collecting i h (ap (λ (u : Remembering). u.heap.is_open) view ∙ opened)
+
+old-words-told : (i : Inside) (v : Remembering) → IsGenerations i → seen i ≡ v → v.heap.is_open ≡ true → i.spaces.is_minor ≡ true → IsKeeping i.spaces → old_cells (minor_left i.spaces) i.spaces.here ≡ v.heap.cells → old_words v.heap ≡ i.spaces.tenured
+old-words-told i v h view opened m k cells =
+    let s = i.spaces in
+    let f = s.found.value.cells in
+    let y = s.nursery.cells in
+    let total : total_words v.heap.cells ≡ total_words (stayed f) + total_words y = ap total_words (sym cells) ∙ same-total (stayed f ++ y) (old_cells (minor_left s) s.here) (standing-layout s.here.cells (stayed f ++ y)) ∙ total-append (stayed f) y in
+    let front = same-total f (stayed f) (stayed-layout f) in
+    let young : v.heap.young ≡ total_words y = ap (λ (u : Remembering). u.heap.young) (sym view) in
+    omega (arith, total, front, young, (k.minor m).tenured)
+
+-- ---- the end of a minor one
+
+pub record IsMinorEnd (shapes : List Shape) (i : Inside) (v : Remembering) (s' : Spaces) (nursery : Space) (left : Spaces) : Type 0 where
+  pub invariant : IsGenerations i
+  pub view : seen i ≡ v
+  pub opened : v.heap.is_open ≡ true
+  pub minor : is_minor v.heap ≡ true
+  pub traced : AreTraced shapes i.spaces s'
+  pub keeping : IsKeeping s'
+  pub base : nursery.base ≡ s'.nursery.base
+  pub size : nursery.size ≡ s'.nursery.size
+  pub empty : nursery.cells ≡ []
+  pub snapshot : left ≡ s'
+
+abbrev pub emptied : Spaces → Space → Spaces
+emptied s nursery = record s { nursery = nursery }
+
+pub mode-told : (i : Inside) (v : Remembering) (b : Bool) → IsGenerations i → seen i ≡ v → v.heap.is_open ≡ true → is_minor v.heap ≡ b → i.spaces.is_minor ≡ b
+mode-told i v b h view opened is =
+    let there = ap (λ (u : Remembering). u.heap.is_open) view ∙ opened in
+    sym (h.mode there) ∙ ap (λ b. is_minor (heap_seen b i.spaces i.left.value i.remembered i.asked i.minors i.fulls)) (sym there) ∙ ap (λ (u : Remembering). is_minor u.heap) view ∙ is
+
+is-minor : (shapes : List Shape) (i : Inside) (v : Remembering) (s' : Spaces) (nursery : Space) (left : Spaces) → IsMinorEnd shapes i v s' nursery left → i.spaces.is_minor ≡ true
+is-minor shapes i v s' nursery left e = mode-told i v true e.invariant e.view e.opened e.minor
+
+was-minor : (shapes : List Shape) (i : Inside) (v : Remembering) (s' : Spaces) (nursery : Space) (left : Spaces) → IsMinorEnd shapes i v s' nursery left → s'.is_minor ≡ true
+was-minor shapes i v s' nursery left e = still-minor i.spaces s' e.keeping.placed e.traced.grows (is-minor shapes i v s' nursery left e)
+
+pub minor-end : (shapes : List Shape) (i : Inside) (v : Remembering) (s' : Spaces) (nursery : Space) (left : Spaces) → IsMinorEnd shapes i v s' nursery left → IsEnd shapes i v s' (emptied s' nursery) left
+minor-end shapes i v s' nursery left e =
+    let kept = kept-minor s' (was-minor shapes i v s' nursery left e) in
+    record {
+      invariant = e.invariant;
+      view = e.view;
+      opened = e.opened;
+      traced = e.traced;
+      here = sym kept;
+      empty = e.empty;
+      snapshot = e.snapshot;
+      placed = still-placed s' (emptied s' nursery) (record { here_base = refl; here_size = refl; nursery_base = e.base; nursery_size = e.size; there_base = refl; there_size = refl }) e.keeping.placed;
+      size = ap (λ (k : Space). k.size) kept ∙ e.traced.grows.left_size;
+    }
+
+all-tenured : (h : Heap) → h.tenured ≡ unasked h → is_minor h ≡ true → h.tenured ≡ old_starts h.cells
+all-tenured h is minor = is ∙ ap (λ b. cond b (old_starts h.cells) []) minor
+
+fits-then : (h : Heap) → is_minor h ≡ true → h.asked + total_words h.cells ≤ h.size
+fits-then h minor = leb-true (h.asked + total_words h.cells) h.size (and_parts (ltb 0 h.nursery) (leb (h.asked + total_words h.cells) h.size) minor).1
+
+pub minor-finishes : (shapes : List Shape) (i : Inside) (v : Remembering) (s' : Spaces) (nursery : Space) (left : Spaces) (marks : List Bool) (minors before after : ℕ) → IsMinorEnd shapes i v s' nursery left → minors ≡ counted i.minors
+    → after + tenured_pointers shapes (old_cells (minor_left i.spaces) i.spaces.here) i.spaces.found.value.cells + total_words i.spaces.here.cells
+    ≡ before + marked_count (take i.spaces.tenured i.remembered) + met shapes (left_of s') (kept_of s') ((kept_of s').base + total_words (kept_of s').cells) + total_words (kept_of s').cells
+    → Finishes shapes v (record { heap = heap_seen false (emptied s' nursery) left marks 0 minors i.fulls; remembered = marks }) before after
+minor-finishes shapes i v s' nursery left marks minors before after f count cost =
+    let e = minor-end shapes i v s' nursery left f in
+    let s = emptied s' nursery in
+    let l = left_of i.spaces in
+    let k = kept_of i.spaces in
+    let l' = left_of s' in
+    let k' = kept_of s' in
+    let m = is-minor shapes i v s' nursery left f in
+    let m' = was-minor shapes i v s' nursery left f in
+    let fin = end-finished shapes i v s' s left e in
+    let cells = old-cells shapes i v s' s left e in
+    let list = old-moves shapes i v s' s left e in
+    let list' = end-moves shapes i v s' s left e in
+    let old : old_cells (minor_left i.spaces) i.spaces.here ≡ v.heap.cells = fore-minor (λ l k. old_cells l k ≡ v.heap.cells) i.spaces m cells in
+    let now-cells : old_cells (minor_left s') s'.here ≡ v.heap.cells = fore-minor (λ l k. old_cells l k ≡ v.heap.cells) s' m' (fin.grows.same_cells ∙ cells) in
+    let keeping = (collecting-told i v f.invariant f.view f.opened).keeping in
+    let ten' = f.keeping.minor m' in
+    let tenured : v.heap.tenured ≡ starts_of s'.found.value.cells =
+    all-tenured v.heap (ap (λ (u : Remembering). u.heap.tenured) (sym f.view) ∙ ap (λ (u : Remembering). unasked u.heap) f.view) f.minor
+    ∙ ap old_starts (sym now-cells) ∙ tenured-starts s' m' f.keeping in
+    let front : tenured_pointers shapes v.heap.cells s'.found.value.cells ≡ tenured_pointers shapes (old_cells (minor_left i.spaces) i.spaces.here) i.spaces.found.value.cells =
+    by-starts shapes v.heap.cells s'.found.value.cells i.spaces.found.value.cells (sym tenured ∙ all-tenured v.heap (ap (λ (u : Remembering). u.heap.tenured) (sym f.view) ∙ ap (λ (u : Remembering). unasked u.heap) f.view) f.minor ∙ ap old_starts (sym old) ∙ tenured-starts i.spaces m keeping)
+    ∙ ap (λ cs. tenured_pointers shapes cs i.spaces.found.value.cells) (sym old) in
+    let words : old_words v.heap ≡ i.spaces.tenured = old-words-told i v f.invariant f.view f.opened m keeping old in
+    let watched : v.heap.watched ≡ marked_count (take i.spaces.tenured i.remembered) =
+    ap (λ (u : Remembering). u.heap.watched) (sym f.view) ∙ ap (λ (u : Remembering). cond (is_minor u.heap) (marked_count (take (old_words u.heap) i.remembered)) 0) f.view ∙ ap (λ b. cond b (marked_count (take (old_words v.heap) i.remembered)) 0) f.minor ∙ ap (λ n. marked_count (take n i.remembered)) words in
+    let was : kept_words v.heap.cells v.heap.moves ≡ total_words k.cells = ap (λ cs. kept_words cs v.heap.moves) (sym cells) ∙ ap (λ ms. kept_words (old_cells l k) ms) (sym list) ∙ words-told l k f.traced.before.tracing in
+    let here : total_words k.cells ≡ total_words i.spaces.here.cells = ap (λ (x : Space). total_words x.cells) (kept-minor i.spaces m) in
+    let now : kept_words v.heap.cells (moves_seen false s left) ≡ total_words k'.cells =
+    ap (λ cs. kept_words cs (moves_seen false s left)) (sym (fin.grows.same_cells ∙ cells)) ∙ ap (λ ms. kept_words (old_cells l' k') ms) (sym list') ∙ words-told l' k' f.traced.tracing in
+    let traces' = fore-minor IsTracing s' m' f.traced.tracing in
+    let pointers : met shapes l' k' (k'.base + total_words k'.cells) ≡ tenured_pointers shapes v.heap.cells s'.found.value.cells + kept_pointers shapes v.heap.cells v.heap.tenured (moves_seen false s left) =
+    back-minor (λ l k. met shapes l k (k.base + total_words k.cells) ≡ tenured_pointers shapes (old_cells (minor_left s') s'.here) s'.found.value.cells + kept_pointers shapes (old_cells (minor_left s') s'.here) (starts_of s'.found.value.cells) (moves l k)) s' m' (tenured-counted shapes s' m' traces' f.keeping)
+    ∙ ap (λ cs. tenured_pointers shapes cs s'.found.value.cells + kept_pointers shapes cs (starts_of s'.found.value.cells) (moves l' k')) now-cells
+    ∙ ap (λ ts. tenured_pointers shapes v.heap.cells s'.found.value.cells + kept_pointers shapes v.heap.cells ts (moves l' k')) (sym tenured)
+    ∙ ap (λ ms. tenured_pointers shapes v.heap.cells s'.found.value.cells + kept_pointers shapes v.heap.cells v.heap.tenured ms) list' in
+    let size : s.here.size ≡ v.heap.size = end-size shapes i v s' s left e ∙ ap (λ (u : Remembering). u.heap.size) f.view in
+    let free = end-free shapes i v s' s left marks 0 minors i.fulls e in
+    let few : total_words k'.cells ≤ total_words v.heap.cells = kept-few l' k' v.heap.cells f.traced.tracing (fin.grows.same_cells ∙ cells) in
+    record {
+      good = end-good shapes i v s' s left e;
+      reached = end-reached shapes i v s' s left marks 0 minors i.fulls e;
+      moved = end-moved shapes i v s' s left marks 0 minors i.fulls e;
+      room = inl (omega (arith, free, size, few, fits-then v.heap f.minor));
+      counted = (
+        count ∙ ap (λ (u : Remembering). counted u.heap.minors) f.view ∙ sym (cond-true (is_minor v.heap) (counted v.heap.minors) v.heap.minors f.minor),
+        ap (λ (u : Remembering). u.heap.fulls) f.view ∙ sym (cond-true (is_minor v.heap) v.heap.fulls (counted v.heap.fulls) f.minor),
+      );
+      halves = record {
+          base = f.traced.grows.left_base ∙ ap (λ (u : Remembering). u.heap.base) f.view ∙ sym (cond-true (is_minor v.heap) v.heap.base (other_base v.heap.base) f.minor);
+          young = ap total_words f.empty;
+        };
+      fits = end-fits shapes i v s' s left marks 0 minors i.fulls e;
+      cost = sums after before _ _ _ _ _ _ _ _ _ _ _ cost was now pointers watched here front;
+    }
+  where
+    sums : (after before p h count met2 k2 kw w w2 kp q t : ℕ) → after + p + h ≡ before + count + met2 + k2 → w ≡ t → w2 ≡ k2 → met2 ≡ q + kp → kw ≡ count → t ≡ h → q ≡ p → after + w ≡ before + kw + kp + w2
+    sums after before p h count met2 k2 kw w w2 kp q t e a b c d f g = omega arith
+    kept-few : (l k : Space) (cs : List Cell) → IsTracing l k → old_cells l k ≡ cs → total_words k.cells ≤ total_words cs
+    kept-few l k cs t e = let total = kept-total l k t in let le = kept-le (moves l k) (old_cells l k) in omega (arith, total.0, t.counted, le, ap total_words e)

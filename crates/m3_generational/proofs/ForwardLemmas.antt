@@ -460,3 +460,22 @@ pub minor-in : (s s' : Spaces) (w : ℕ) (r : Option ℕ) (before after : ℕ) �
 minor-in s s' w r before after m f =
     let m' = f.mode ∙ m in
     over _ _ _ _ _ _ _ _ w r before after (sym (left-minor s m)) (sym (kept-minor s m)) (sym (left-minor s' m')) (sym (kept-minor s' m')) f.forwards
+
+pub traces-back : (s : Spaces) → s.is_minor ≡ true → IsTracing (minor_left s) s.here → IsTracing (left_of s) (kept_of s)
+traces-back s m t =
+    let A : Space → Type 0 = λ x. IsTracing x s.here in
+    let B : Space → Type 0 = λ x. IsTracing (left_of s) x in
+    subst B (sym (kept-minor s m)) (subst A (sym (left-minor s m)) t)
+
+-- a fact of what is left and of what is kept, in a minor collection
+pub back-minor : (P : Space → Space → Type 0) (s : Spaces) → s.is_minor ≡ true → P (minor_left s) s.here → P (left_of s) (kept_of s)
+back-minor P s m h =
+    let A : Space → Type 0 = λ x. P x s.here in
+    let B : Space → Type 0 = λ x. P (left_of s) x in
+    subst B (sym (kept-minor s m)) (subst A (sym (left-minor s m)) h)
+
+pub fore-minor : (P : Space → Space → Type 0) (s : Spaces) → s.is_minor ≡ true → P (left_of s) (kept_of s) → P (minor_left s) s.here
+fore-minor P s m h =
+    let A : Space → Type 0 = λ x. P x (kept_of s) in
+    let B : Space → Type 0 = λ x. P (minor_left s) x in
+    subst B (kept-minor s m) (subst A (left-minor s m) h)

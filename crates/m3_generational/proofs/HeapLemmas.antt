@@ -421,6 +421,9 @@ unfolding old-laid
 starts-laid [] = refl
 starts-laid (c ∷ cs) = ap (λ (l : List ℕ). cond (ltb c.start nursery_base) (c.start ∷ l) l) (starts-laid cs)
 
+pub same-olds : (cs ds : List Cell) → layout ds ≡ layout cs → old_starts ds ≡ old_starts cs
+same-olds cs ds e = starts-laid ds ∙ ap old-laid e ∙ sym (starts-laid cs)
+
 rebuilt : Heap → List Cell → List ℕ → ℕ → ℕ → ℕ → Heap
 rebuilt h cells tenured watched young free = record h { cells = cells; tenured = tenured; watched = watched; young = young; free = free }
 

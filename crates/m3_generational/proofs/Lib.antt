@@ -6,3 +6,4 @@ pub mod BeginLemmas
 pub mod VisitLemmas
 pub mod EndLemmas
 pub mod MinorLemmas
+pub mod TenuredLemmas

@@ -5,7 +5,7 @@ ghost use Rattle.m3_heap.specs.Heap.{counted};
 
 use crate::forwarding::forward_word;
 use crate::spaces::Spaces;
-use crate::tracing::trace_full;
+use crate::tracing::{trace_full, trace_minor};
 use m3_base::NoMemory;
 use m3_heap::{Half, Maps, Marks, Steps};
 use std::alloc::Global;
@@ -262,6 +262,34 @@ impl Generations {
         self.spaces.nursery.clear();
         self.remembered.clear(self.spaces.here.size() as usize);
         self.fulls = one_more(self.fulls);
+        true
+    }
+
+    // Ends a collection of the young cells alone: those that are kept lie behind the old ones.
+    fn finish_minor<M: Maps, L: Ledger>(&mut self, maps: &M, steps: &mut Steps<L>) -> bool
+        requires open { self.old.heap.is_open ≡ true }
+        requires fitting { Fits (M.shapes maps.now) self.old }
+        requires minor { is_minor self.old.heap ≡ true }
+        ensures bad { result ≡ false → HasBadPointer (M.shapes maps.now) self.old.heap.cells (kept_starts self.old.heap.moves) }
+        ensures done { OnTrue result (Finishes (M.shapes maps.now) self.old self.new steps.old steps.new) }
+        ensures closed { self.new.heap.is_open ≡ false }
+        ensures asked { self.new.heap.asked ≡ 0 }
+        ensures sizes { SameSizes self.old.heap self.new.heap }
+        ensures sound { IsSoundHeap self.new.heap }
+        ensures nursery { HasNursery self.new.heap }
+    {
+        let is_traced = trace_minor(&mut self.spaces, &self.remembered, maps, steps);
+        self.is_open = false;
+        self.asked = 0;
+        if !is_traced {
+            self.spaces.here.clear();
+            self.spaces.nursery.clear();
+            return false;
+        }
+        self.left = Snapshot::of(&self.spaces);
+        self.spaces.nursery.clear();
+        self.remembered.clear(self.spaces.here.size() as usize);
+        self.minors = one_more(self.minors);
         true
     }
 
