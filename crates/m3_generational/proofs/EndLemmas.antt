@@ -404,6 +404,11 @@ pub record IsMinorEnd (shapes : List Shape) (i : Inside) (v : Remembering) (s' :
 abbrev pub emptied : Spaces → Space → Spaces
 emptied s nursery = record s { nursery = nursery }
 
+pub mode-seen : (i : Inside) (v : Remembering) → IsGenerations i → seen i ≡ v → v.heap.is_open ≡ true → is_minor v.heap ≡ i.spaces.is_minor
+mode-seen i v h view opened =
+    let there = ap (λ (u : Remembering). u.heap.is_open) view ∙ opened in
+    ap (λ (u : Remembering). is_minor u.heap) (sym view) ∙ ap (λ b. is_minor (heap_seen b i.spaces i.left.value i.remembered i.asked i.minors i.fulls)) there ∙ h.mode there
+
 pub mode-told : (i : Inside) (v : Remembering) (b : Bool) → IsGenerations i → seen i ≡ v → v.heap.is_open ≡ true → is_minor v.heap ≡ b → i.spaces.is_minor ≡ b
 mode-told i v b h view opened is =
     let there = ap (λ (u : Remembering). u.heap.is_open) view ∙ opened in

@@ -1,5 +1,8 @@
 -- A heap with a nursery, as contracts see it.
 use Rattle.std.specs.Prelude.{◌≡◌, ℕ, ◌+◌, ◌-◌, ◌/◌, ◌≤◌, Bool, true, false, ◌&&◌, ◌||◌, nat_lt, if◌then◌else◌, List, [], ◌∷◌, take, slice_get, slice_index_or, Some}
+use Rattle.std.proofs.Common.{sym, ap, ◌∙◌}
+use Rattle.std.proofs.Props.{props}
+use Rattle.std.proofs.lemmas.Bool.{false≢true}
 use Rattle.m3_heap.specs.Cells.{Cell, heap_base, is_start, words_from}
 use Rattle.m3_heap.specs.Shapes.{Shape, is_pointer_word}
 use Rattle.m3_heap.specs.Moves.{kept_starts}
@@ -65,3 +68,15 @@ pub record Finishes (shapes : List Shape) (old new : Remembering) (before after 
   pub halves : ChangesHalves old.heap new.heap
   pub fits : Fits shapes new
   pub cost : CostsTrace shapes old.heap new.heap before after
+
+-- ---- facts with one proof at most, so that a store may keep them beside its fields
+
+pub HasNursery-prop : (heap : Heap) → IsProp (HasNursery heap)
+HasNursery-prop heap = hlevel props
+
+pub Fits-prop : (shapes : List Shape) (held : Remembering) → IsProp (Fits shapes held)
+Fits-prop shapes held = hlevel props
+
+-- without cells every list of shapes agrees
+pub empty_fits : (shapes : List Shape) (held : Remembering) → held.heap.cells ≡ [] → Fits shapes held
+empty_fits shapes held none = λ start place word low starts pointer holds free. absurd (false≢true (sym (ap (λ cells. is_start cells start) none) ∙ starts))

@@ -293,6 +293,39 @@ impl Generations {
         true
     }
 
+    /// As `finish` of a store.
+    pub fn finish<M: Maps, L: Ledger>(&mut self, maps: &M, steps: &mut Steps<L>) -> bool
+        requires open { self.old.heap.is_open ≡ true }
+        requires fitting { Fits (M.shapes maps.now) self.old }
+        ensures bad { result ≡ false → HasBadPointer (M.shapes maps.now) self.old.heap.cells (kept_starts self.old.heap.moves) }
+        ensures done { OnTrue result (Finishes (M.shapes maps.now) self.old self.new steps.old steps.new) }
+        ensures closed { self.new.heap.is_open ≡ false }
+        ensures asked { self.new.heap.asked ≡ 0 }
+        ensures sizes { SameSizes self.old.heap self.new.heap }
+        ensures sound { IsSoundHeap self.new.heap }
+        ensures nursery { HasNursery self.new.heap }
+    {
+        if self.spaces.is_minor {
+            self.finish_minor(maps, steps)
+        } else {
+            self.finish_full(maps, steps)
+        }
+    }
+
+    /// How many collections kept the old cells unasked.
+    pub fn minors(&self) -> u64
+        ensures { result ≡ self.now.heap.minors }
+    {
+        self.minors
+    }
+
+    /// How many collections kept no cell unasked.
+    pub fn fulls(&self) -> u64
+        ensures { result ≡ self.now.heap.fulls }
+    {
+        self.fulls
+    }
+
     // A new cell in the nursery.
     fn make_young(&mut self, kind: u32, words: u64) -> u64
         requires closed { self.old.heap.is_open ≡ false }

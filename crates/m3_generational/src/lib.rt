@@ -4,9 +4,10 @@
 
 mod copying;
 mod forwarding;
+mod generational;
 mod generations;
 mod remembering;
 mod spaces;
 mod tracing;
 
-pub use generations::Generations;
+pub use generational::Generational;
