@@ -1,24 +1,23 @@
 -- A collection begins.
-use Rattle.std.proofs.Common.{◌≡◌, ◌≢◌, ℕ, ◌+◌, ◌-◌, ◌<◌, ◌≤◌, Bool, true, false, cond, eqb, ltb, leb, List, [], ◌∷◌, ◌++◌, length, Option, Some, None, is_some, refl, sym, ap, subst, ◌∙◌, arith, inl, inr, ⊎_elim, append-nil}
+use Rattle.std.proofs.Common.{◌≡◌, ◌≢◌, ℕ, ◌+◌, ◌-◌, ◌<◌, ◌≤◌, Bool, true, false, cond, eqb, ltb, leb, List, [], ◌∷◌, ◌++◌, length, Option, Some, None, is_some, refl, sym, ap, subst, ◌∙◌, arith, append-nil}
 use Rattle.std.specs.Prelude.{◌&&◌}
 use Rattle.std.specs.List.{AllByRecursion}
-use Rattle.std.proofs.lemmas.Bool.{cases_Bool, cases_eq, cond-true, cond-false, false≢true, eq-eqb, ne_eqb, lt-ltb, le-ltb, or_left, and_from, le-leb, lt-leb}
-use Rattle.m3_heap.specs.Cells.{Cell, heap_base, header, cell_from, is_start, words_from, layout, total_words, IsHeaded}
-use Rattle.m3_heap.specs.Moves.{Move, new_start, is_kept, staying}
-use Rattle.m3_heap.specs.Heap.{Heap, IsSoundHeap, nursery_base, old_starts, is_minor, unasked, settled}
+use Rattle.std.proofs.lemmas.Bool.{cond-true, cond-false, false≢true, eq-eqb, ne_eqb, lt-ltb, le-ltb, and_from, le-leb, lt-leb}
+use Rattle.m3_heap.specs.Cells.{Cell, header, cell_from, is_start, words_from, layout, total_words, IsHeaded}
+use Rattle.m3_heap.specs.Moves.{Move, new_start, staying}
+use Rattle.m3_heap.specs.Heap.{IsSoundHeap, nursery_base, old_starts, is_minor, settled}
 use Rattle.m3_heap.specs.CollectorSpace.{Space, AreLaid, AreRising}
-use Rattle.m3_heap.specs.CollectorTracing.{restored, standing, old_cells, copies, moves, moves_from, placed, marked_words, marked, words_kept, IsCopy, AreDistinct, IsShort, Traces, IsTracing}
+use Rattle.m3_heap.specs.CollectorTracing.{restored, standing, old_cells, moves, moves_from, placed, marked_words, marked, words_kept, IsCopy, AreDistinct, Traces}
 use Rattle.m3_heap.specs.CollectorScanning.{ArePlain}
 use Rattle.m3_heap.specs.CollectorHalves.{AreMoving}
 use Rattle.m3_heap.proofs.SpaceLemmas.{laid-rising}
 use Rattle.m3_heap.proofs.TracingLemmas.{all_map, all_append, total-append, own-words, cells-told, copies-told, tracing-told}
 use Rattle.m3_heap.proofs.SemiLemmas.{short-cells, none-marked, none-kept}
-use Rattle.m3_generational.specs.Remembering.{watching, marked_count}
-use Rattle.m3_generational.specs.Collecting.{stayed, minor_left, full_left, old_left, left_of, kept_of, ArePlaced, IsSplit, HasTenured, IsKeeping}
-use Rattle.m3_generational.specs.Inside.{cells_seen, moves_seen, plain_heap, heap_seen, AreResting, AreCollecting}
+use Rattle.m3_generational.specs.Remembering.{watching}
+use Rattle.m3_generational.specs.Collecting.{stayed, minor_left, full_left, old_left, left_of, kept_of, ArePlaced, IsSplit}
+use Rattle.m3_generational.specs.Inside.{cells_seen, moves_seen, heap_seen, AreResting, AreCollecting}
 use Rattle.m3_generational.specs.declared.spaces.Spaces.{Spaces}
-use Rattle.m3_generational.proofs.PartLemmas.{start-first, low}
-use Rattle.m3_generational.proofs.HeapLemmas.{SamePlaces, still-placed, bounded, split, plain, HasParts, parts-sound, same-total}
+use Rattle.m3_generational.proofs.HeapLemmas.{still-placed, bounded, split, plain, parts-sound, same-total}
 use Rattle.m3_generational.proofs.ForwardLemmas.{left-minor, kept-minor, laid-same, stayed-layout}
 
 -- ---- lists of cells
@@ -133,6 +132,7 @@ own-copies a cs h = both cs (own-start cs) (own-words a cs h) (some-words a cs h
     some-words : (a : ℕ) (ds : List Cell) → AreRising a ds → AllByRecursion (λ (c : Cell). 1 ≤ length c.words) ds
     some-words a [] h = tt
     some-words a (d ∷ ds) h = (h.1, some-words (d.start + length d.words) ds h.2)
+
     both : (ds : List Cell) → AllByRecursion (λ (c : Cell). is_start cs c.start ≡ true) ds → AllByRecursion (λ (c : Cell). (words_from cs c.start ≡ c.words) × (a ≤ c.start)) ds → AllByRecursion (λ (c : Cell). 1 ≤ length c.words) ds → AllByRecursion (IsCopy cs) ds
     both [] p q r = tt
     both (d ∷ ds) p q r = (record { starts = p.0; same_length = ap (λ (ws : List ℕ). length ws) (sym q.0.0); same_header = ap header (sym q.0.0); some = r.0 }, both ds p.1 q.1 r.1)
@@ -207,16 +207,15 @@ full-begins s there p r tb ts tc =
     let cs = s.here.cells ++ s.nursery.cells in
     let cells = cells-told (full_left s) there cs [] t in
     let none = copies-told (full_left s) there cs [] t in
-    let P : List Cell → Type 0 = λ l. ArePlain (old_cells (full_left s) there) l in
-    (
+    let P : List Cell → Type 0 = λ l. ArePlain (old_cells (full_left s) there) l in (
       record {
         moving = record { tracing = tracing-told (full_left s) there cs [] t; plain = subst P (sym none) tt; room = omega (arith, ap total_words cells, total-append s.here.cells s.nursery.cells, r.room) };
         keeping = record {
-            placed = still-placed s s' (record { here_base = refl; here_size = refl; nursery_base = refl; nursery_size = refl; there_base = tb; there_size = ts }) p;
-            split = split s p r;
-            young = r.young.room;
-            minor = λ yes. absurd (false≢true yes);
-          };
+          placed = still-placed s s' (record { here_base = refl; here_size = refl; nursery_base = refl; nursery_size = refl; there_base = tb; there_size = ts }) p;
+          split = split s p r;
+          young = r.young.room;
+          minor = λ yes. absurd (false≢true yes);
+        };
       },
       cells,
       λ left. ap (λ l. moves_from there.base l) none,
@@ -244,17 +243,16 @@ minor-begins s m p r found tenured =
     let lay : layout (stayed s.found.value.cells) ≡ layout x = stayed-layout s.found.value.cells ∙ ap layout same in
     let A : List Cell → Type 0 = λ k. IsSplit s.here.base k y in
     let B : List Cell → Type 0 = λ k. AreLaid s.here.base k in
-    let left : old_left s ≡ stayed s.found.value.cells = ap (λ b. cond b (stayed s.found.value.cells) s.here.cells) m in
-    (
+    let left : old_left s ≡ stayed s.found.value.cells = ap (λ b. cond b (stayed s.found.value.cells) s.here.cells) m in (
       record {
         moving = moving-over (left_of s) (kept_of s) l s.here (left-minor s m) (kept-minor s m)
             (record { tracing = tracing-told l s.here (x ++ y) x t; plain = subst P (sym list) (subst Q (sym cells) (plain-minor s p r)); room = omega (arith, ap total_words cells, total-append x y, r.room) });
         keeping = record {
-            placed = p;
-            split = subst A (sym left) (record { old = laid-same s.here.base x (stayed s.found.value.cells) lay sp.old; below = omega (arith, same-total x (stayed s.found.value.cells) lay, sp.below); young = sp.young });
-            young = r.young.room;
-            minor = λ _. record { found = subst B (sym same) sp.old; first = ([], ap layout (sym same) ∙ sym (append-nil (layout s.found.value.cells))); tenured = tenured ∙ ap total_words (sym same) };
-          };
+          placed = p;
+          split = subst A (sym left) (record { old = laid-same s.here.base x (stayed s.found.value.cells) lay sp.old; below = omega (arith, same-total x (stayed s.found.value.cells) lay, sp.below); young = sp.young });
+          young = r.young.room;
+          minor = λ _. record { found = subst B (sym same) sp.old; first = ([], ap layout (sym same) ∙ sym (append-nil (layout s.found.value.cells))); tenured = tenured ∙ ap total_words (sym same) };
+        };
       },
       ap (λ k. old_cells k (kept_of s)) (left-minor s m) ∙ ap (λ k. old_cells l k) (kept-minor s m) ∙ cells,
       λ last. ap (λ k. moves k (kept_of s)) (left-minor s m) ∙ ap (λ k. moves l k) (kept-minor s m) ∙ ap (λ k. moves_from s.here.base k) list ∙ sym (staying-old s.here.base x y sp),

@@ -1,22 +1,20 @@
 -- A collection ends.
-use Rattle.std.proofs.Common.{◌≡◌, ℕ, zero, suc, ◌+◌, ◌-◌, ◌/◌, ◌%◌, min, ◌<◌, ◌≤◌, Bool, true, false, cond, eqb, ltb, leb, List, [], ◌∷◌, ◌++◌, length, take, get_or, Option, Some, None, is_some, unwrap_or, refl, sym, ap, subst, ◌∙◌, arith, inl, inr, ◌⊎◌, ⊎_elim, append-nil}
+use Rattle.std.proofs.Common.{◌≡◌, ℕ, zero, suc, ◌+◌, ◌-◌, ◌/◌, min, ◌<◌, ◌≤◌, Bool, true, false, cond, eqb, ltb, leb, List, [], ◌∷◌, ◌++◌, length, take, Option, Some, None, is_some, unwrap_or, refl, sym, ap, subst, ◌∙◌, arith, inl, inr, ⊎_elim, append-nil}
 use Rattle.std.specs.Prelude.{◌&&◌, ◌||◌, slice_get}
 use Rattle.std.specs.List.{AllByRecursion}
-use Rattle.std.proofs.lemmas.Bool.{cases_Bool, cases_eq, cases_lt, cond-true, cond-false, false≢true, or_left, or_right, lt-ltb, le-ltb, eq-eqb, ne_eqb, eqb-true, and_parts, leb-true}
-use Rattle.m3_heap.specs.Cells.{Cell, heap_base, header, kind_in, cell_from, is_start, words_from, layout, total_words, IsHeaded}
+use Rattle.std.proofs.lemmas.Bool.{cases_Bool, cases_lt, cond-true, cond-false, false≢true, or_left, or_right, lt-ltb, le-ltb, eq-eqb, and_parts, leb-true}
+use Rattle.m3_heap.specs.Cells.{Cell, heap_base, kind_in, cell_from, is_start, words_from, total_words, IsHeaded}
 use Rattle.m3_heap.specs.Shapes.{Shape, is_pointer_word, is_pointer_of}
 use Rattle.m3_heap.specs.Moves.{Move, new_start, is_kept, forwarded, kept_starts, kept_words, kept_pointers, moved_cells, AreOneToOne}
 use Rattle.m3_heap.specs.Reach.{IsReachable, HasBadPointer}
-use Rattle.m3_heap.specs.Heap.{Heap, IsSoundHeap, SameSizes, CountsOne, ChangesHalves, KeepsReached, MovesCells, MakesRoom, CostsTrace, first_base, second_base, nursery_base, other_base, old_words, is_minor, unasked, old_starts, counted}
+use Rattle.m3_heap.specs.Heap.{Heap, IsSoundHeap, SameSizes, KeepsReached, MovesCells, first_base, second_base, other_base, old_words, is_minor, unasked, old_starts, counted}
 use Rattle.m3_heap.specs.CollectorSpace.{Space, AreLaid}
 use Rattle.m3_heap.specs.CollectorTracing.{old_cells, copies, moves, moves_from, placed, IsCopy, IsTracing}
 use Rattle.m3_heap.specs.CollectorScanning.{AreScanned, AreSettled, PointsToKept, scanned_words, met, Grows}
-use Rattle.m3_heap.specs.CollectorHalves.{AreAtRest, AreMoving}
+use Rattle.m3_heap.specs.CollectorHalves.{AreAtRest}
 use Rattle.m3_heap.proofs.TracingLemmas.{all_map, none_or_some, total-append}
 use Rattle.m3_heap.proofs.CopyLemmas.{kept-le}
-use Rattle.m3_heap.proofs.ScanLemmas.{laid-placed, copy-here}
-use Rattle.m3_heap.proofs.StepLemmas.{laid-copies}
-use Rattle.m3_heap.proofs.WordLemmas.{kept-total, kept-laid}
+use Rattle.m3_heap.proofs.WordLemmas.{kept-total}
 use Rattle.m3_heap.proofs.SemiLemmas.{words-told}
 use Rattle.m3_heap.proofs.FinalLemmas.{one-to-one, all-kept, reached-kept, done-moved, done-met}
 use Rattle.m3_heap.proofs.FinishLemmas.{IsFinished, done, finished-good, finished-rest}
@@ -25,9 +23,9 @@ use Rattle.m3_generational.specs.Collecting.{stayed, left_of, kept_of, minor_lef
 use Rattle.m3_generational.specs.Inside.{cells_seen, moves_seen, heap_seen, seen, AreResting, AreCollecting, IsGenerations}
 use Rattle.m3_generational.specs.declared.spaces.Spaces.{Spaces}
 use Rattle.m3_generational.specs.declared.generations.Generations.TheInside.{Inside}
-use Rattle.m3_generational.proofs.HeapLemmas.{SamePlaces, still-placed, same-total, closed-sound}
+use Rattle.m3_generational.proofs.HeapLemmas.{still-placed, same-total, closed-sound}
 use Rattle.m3_generational.proofs.FitLemmas.{FitsOld, fits-again}
-use Rattle.m3_generational.proofs.ForwardLemmas.{left-minor, kept-minor, left-full, kept-full, stayed-layout, back-minor, fore-minor}
+use Rattle.m3_generational.proofs.ForwardLemmas.{kept-minor, kept-full, stayed-layout, back-minor, fore-minor}
 use Rattle.m3_generational.proofs.BeginLemmas.{standing-layout}
 use Rattle.m3_generational.proofs.VisitLemmas.{collecting}
 use Rattle.m3_generational.proofs.TenuredLemmas.{starts_of, by-starts, tenured-counted, tenured-starts}
@@ -306,16 +304,16 @@ full-end shapes i v s' here there nursery left e =
       empty = e.empty;
       snapshot = e.snapshot;
       placed = record {
-          bases = ⊎_elim
-              (λ (q : (s'.here.base ≡ first_base) × (s'.there.base ≡ second_base)). inr (hb ∙ q.1, tb ∙ q.0))
-              (λ (q : (s'.here.base ≡ second_base) × (s'.there.base ≡ first_base)). inl (hb ∙ q.1, tb ∙ q.0))
-              p.bases;
-          nursery = e.base ∙ p.nursery;
-          same_size = ts ∙ sym p.same_size ∙ sym hs;
-          quarter = e.size ∙ p.quarter ∙ ap (λ n. n / 4) (sym p.same_size ∙ sym hs);
-          least = omega (arith, hs, p.same_size, p.least);
-          most = omega (arith, hs, p.same_size, p.most);
-        };
+        bases = ⊎_elim
+            (λ (q : (s'.here.base ≡ first_base) × (s'.there.base ≡ second_base)). inr (hb ∙ q.1, tb ∙ q.0))
+            (λ (q : (s'.here.base ≡ second_base) × (s'.there.base ≡ first_base)). inl (hb ∙ q.1, tb ∙ q.0))
+            p.bases;
+        nursery = e.base ∙ p.nursery;
+        same_size = ts ∙ sym p.same_size ∙ sym hs;
+        quarter = e.size ∙ p.quarter ∙ ap (λ n. n / 4) (sym p.same_size ∙ sym hs);
+        least = omega (arith, hs, p.same_size, p.least);
+        most = omega (arith, hs, p.same_size, p.most);
+      };
       size = ap (λ (k : Space). k.size) kept ∙ p.same_size ∙ e.traced.grows.left_size;
     }
 
@@ -359,9 +357,9 @@ full-finishes shapes i v s' here there nursery left marks fulls before after f c
         count ∙ ap (λ (u : Remembering). counted u.heap.fulls) f.view ∙ sym (cond-false (is_minor v.heap) v.heap.fulls (counted v.heap.fulls) f.full),
       );
       halves = record {
-          base = ap (λ (x : Space). x.base) f.filled ∙ other s' f.keeping.placed ∙ ap (λ n. other_base n) (f.traced.grows.left_base ∙ ap (λ (u : Remembering). u.heap.base) f.view) ∙ sym (cond-false (is_minor v.heap) v.heap.base (other_base v.heap.base) f.full);
-          young = ap total_words f.empty;
-        };
+        base = ap (λ (x : Space). x.base) f.filled ∙ other s' f.keeping.placed ∙ ap (λ n. other_base n) (f.traced.grows.left_base ∙ ap (λ (u : Remembering). u.heap.base) f.view) ∙ sym (cond-false (is_minor v.heap) v.heap.base (other_base v.heap.base) f.full);
+        young = ap total_words f.empty;
+      };
       fits = end-fits shapes i v s' s left marks 0 i.minors fulls e;
       cost = omega (arith, cost, was, now, pointers, watched);
     }
@@ -494,14 +492,15 @@ minor-finishes shapes i v s' nursery left marks minors before after f count cost
         ap (λ (u : Remembering). u.heap.fulls) f.view ∙ sym (cond-true (is_minor v.heap) v.heap.fulls (counted v.heap.fulls) f.minor),
       );
       halves = record {
-          base = f.traced.grows.left_base ∙ ap (λ (u : Remembering). u.heap.base) f.view ∙ sym (cond-true (is_minor v.heap) v.heap.base (other_base v.heap.base) f.minor);
-          young = ap total_words f.empty;
-        };
+        base = f.traced.grows.left_base ∙ ap (λ (u : Remembering). u.heap.base) f.view ∙ sym (cond-true (is_minor v.heap) v.heap.base (other_base v.heap.base) f.minor);
+        young = ap total_words f.empty;
+      };
       fits = end-fits shapes i v s' s left marks 0 minors i.fulls e;
       cost = sums after before _ _ _ _ _ _ _ _ _ _ _ cost was now pointers watched here front;
     }
   where
     sums : (after before p h count met2 k2 kw w w2 kp q t : ℕ) → after + p + h ≡ before + count + met2 + k2 → w ≡ t → w2 ≡ k2 → met2 ≡ q + kp → kw ≡ count → t ≡ h → q ≡ p → after + w ≡ before + kw + kp + w2
     sums after before p h count met2 k2 kw w w2 kp q t e a b c d f g = omega arith
+
     kept-few : (l k : Space) (cs : List Cell) → IsTracing l k → old_cells l k ≡ cs → total_words k.cells ≤ total_words cs
     kept-few l k cs t e = let total = kept-total l k t in let le = kept-le (moves l k) (old_cells l k) in omega (arith, total.0, t.counted, le, ap total_words e)

@@ -1,14 +1,14 @@
 -- Which shapes agree with what a heap of generations holds, by its old cells alone.
-use Rattle.std.proofs.Common.{◌≡◌, ◌≢◌, ℕ, zero, suc, ◌+◌, ◌-◌, ◌%◌, ◌<◌, ◌≤◌, Bool, true, false, cond, eqb, ltb, List, [], ◌∷◌, ◌++◌, length, set, get_or, replicate, Option, Some, None, is_some, refl, sym, ap, subst, ◌∙◌, arith, inl, inr, ◌⊎◌, ⊎_elim, length-set}
+use Rattle.std.proofs.Common.{◌≡◌, ◌≢◌, ℕ, zero, suc, ◌+◌, ◌-◌, ◌%◌, ◌<◌, ◌≤◌, Bool, true, false, cond, eqb, ltb, List, [], ◌∷◌, ◌++◌, length, set, get_or, replicate, Some, None, is_some, refl, sym, ap, subst, ◌∙◌, arith, inl, ⊎_elim, length-set}
 use Rattle.std.specs.Prelude.{◌&&◌, ◌||◌, not, slice_get}
 use Rattle.std.proofs.lemmas.Bool.{cases_Bool, cases_eq, cases_lt, cond-true, cond-false, false≢true, and_parts, or_left, or_right, lt-ltb, le-ltb, ltb-true}
 use Rattle.std.proofs.lemmas.List.{get_or-set_same, get_or-set_other}
-use Rattle.m3_heap.specs.Cells.{Cell, heap_base, header, header_of, covers, cell_from, cell_word_at, is_start, is_writable, words_from, with_word, total_words, new_cell}
+use Rattle.m3_heap.specs.Cells.{Cell, heap_base, header, header_of, covers, cell_word_at, is_start, is_writable, words_from, with_word, new_cell}
 use Rattle.m3_heap.specs.CellWords.{word_elsewhere, start_stays}
-use Rattle.m3_heap.specs.Heap.{Heap, nursery_base}
+use Rattle.m3_heap.specs.Heap.{nursery_base}
 use Rattle.m3_heap.specs.Shapes.{Shape, is_pointer_word, is_pointer_of}
 use Rattle.m3_heap.specs.CollectorSpace.{AreLaid}
-use Rattle.m3_heap.proofs.SpaceLemmas.{start-fits, is_start-outside, word_at-outside, word_at-cell, word_at-start}
+use Rattle.m3_heap.proofs.SpaceLemmas.{start-fits, word_at-outside, word_at-cell, word_at-start}
 use Rattle.m3_generational.specs.Remembering.{Remembering, Fits, FitsIn, is_old_word}
 use Rattle.m3_generational.specs.Inside.{heap_seen, AreResting}
 use Rattle.m3_generational.specs.Collecting.{ArePlaced}
@@ -16,7 +16,6 @@ use Rattle.m3_generational.specs.declared.spaces.Spaces.{Spaces}
 use Rattle.m3_generational.specs.Collecting.{IsSplit}
 use Rattle.m3_generational.proofs.PartLemmas.{start-first, start-second, start-either, words-first, words-second, low, high}
 use Rattle.m3_heap.specs.CollectorSpace.{Space}
-use Rattle.m3_generational.specs.Inside.{seen}
 use Rattle.m3_generational.specs.declared.generations.Generations.TheInside.{Inside}
 use Rattle.m3_generational.proofs.HeapLemmas.{split, IsPut, with_here, put-closed, put-resting, put-placed, put-rested, put-inside}
 
@@ -84,11 +83,13 @@ fits-push shapes x x' marks base base' at kind words same is fits =
   where
     c : Cell
     c = new_cell at kind words
+
     old : (word : ℕ) → (ltb word heap_base || is_start x word) ≡ true → (ltb word heap_base || is_start (x ++ new_cell at kind words ∷ []) word) ≡ true
     old word h = ⊎_elim
         (λ (low : ltb word heap_base ≡ true). or_left (ltb word heap_base) (is_start (x ++ new_cell at kind words ∷ []) word) low)
         (λ (no : ltb word heap_base ≡ false). or_right (ltb word heap_base) (is_start (x ++ new_cell at kind words ∷ []) word) (start-either x (new_cell at kind words ∷ []) word (sym (ap (λ b. b || is_start x word) no) ∙ h)))
         (cases_Bool (ltb word heap_base))
+
     pushed : FitsOld shapes (x ++ new_cell at kind words ∷ []) marks base
     pushed start place word starts pointer holds free = ⊎_elim
         (λ (there : is_start x start ≡ true).
@@ -133,23 +134,30 @@ fits-set shapes x x' marks marks' base base' at w laid laid' can inside same is 
   where
     parts : (is_some (cell_word_at x at) ≡ true) × (not (is_start x at) ≡ true)
     parts = and_parts (is_some (cell_word_at x at)) (not (is_start x at)) can
+
     not-true : (b : Bool) → not b ≡ true → b ≡ false
     not-true true h = absurd (cc)
     not-true false h = refl
+
     above : base ≤ at
     above = ⊎_elim
         (λ (below : at < base). absurd (false≢true (sym (ap is_some (word_at-outside base at x laid (inl below))) ∙ parts.0)))
         (λ (ok : base ≤ at). ok)
         (cases_lt at base)
+
     stays : (s : ℕ) → is_start x' s ≡ is_start x s
     stays s = ap (λ l. is_start l s) is ∙ start_stays x at w s
+
     long : (s : ℕ) → length (words_from x' s) ≡ length (words_from x s)
     long s = ap (λ l. length (words_from l s)) is ∙ length-words x at w s
+
     apart : (s : ℕ) → is_start x s ≡ true → s ≢ at
     apart s starts e = false≢true (sym (ap (λ n. is_start x n) e ∙ not-true (is_start x at) parts.1) ∙ starts)
+
     head : (s : ℕ) → is_start x s ≡ true → header (words_from x' s) ≡ header (words_from x s)
     head s starts =
         some-head _ _ (sym (word_at-start base s x' laid' (stays s ∙ starts)) ∙ ap (λ l. cell_word_at l s) is ∙ word_elsewhere x at w s (apart s starts) ∙ word_at-start base s x laid starts)
+
     put : FitsOld shapes x' (set marks (at - base) true) base
     put start place word starts pointer holds free =
         let there : is_start x start ≡ true = sym (stays start) ∙ starts in

@@ -1,22 +1,20 @@
 -- One word that is forwarded.
-use Rattle.std.proofs.Common.{◌≡◌, ℕ, ◌+◌, ◌-◌, ◌/◌, ◌^◌, ◌<◌, ◌≤◌, Bool, true, false, cond, eqb, ltb, leb, List, [], ◌∷◌, ◌++◌, length, map, Option, Some, None, is_some, refl, sym, ap, subst, ◌∙◌, arith, inl, inr, ◌⊎◌, ⊎_elim, append_assoc}
-use Rattle.std.specs.Prelude.{IsNone, IfSome}
-use Rattle.std.proofs.lemmas.Bool.{cases_Bool, cases_lt, cond-true, cond-false, false≢true, eqb-true}
+use Rattle.std.proofs.Common.{◌≡◌, ℕ, ◌+◌, ◌/◌, ◌<◌, ◌≤◌, Bool, true, false, cond, eqb, List, [], ◌∷◌, ◌++◌, length, Option, Some, None, is_some, refl, sym, ap, subst, ◌∙◌, arith, inl, inr, ◌⊎◌, ⊎_elim, append_assoc}
+use Rattle.std.proofs.lemmas.Bool.{cases_Bool, cond-true, cond-false, false≢true, eqb-true}
 use Rattle.std.proofs.lemmas.List.{map-append}
 use Rattle.m3_heap.specs.Cells.{Cell, heap_base, header, cell_from, is_start, words_from, with_word, layout, total_words}
 use Rattle.m3_heap.specs.CellWords.{layout_stays}
-use Rattle.m3_heap.specs.Moves.{forwarded}
 use Rattle.m3_heap.specs.Heap.{nursery_base}
 use Rattle.m3_heap.specs.CollectorSpace.{Space, AreLaid}
 use Rattle.m3_heap.specs.CollectorTracing.{old_cells, copies, moves, IsTracing, marked_words}
-use Rattle.m3_heap.proofs.SpaceLemmas.{start-fits, is_start-outside, with_word-outside}
+use Rattle.m3_heap.proofs.SpaceLemmas.{is_start-outside}
 use Rattle.m3_heap.proofs.TracingLemmas.{total-append}
 use Rattle.m3_heap.proofs.CopyLemmas.{is_start-left, fresh-header, kept-header, copy-room, forwarded-kept, forwarded-low, keeps-kept, keeps-low, keeps-fresh, fresh-start}
 use Rattle.m3_heap.proofs.WordLemmas.{kept-laid}
-use Rattle.m3_generational.specs.Collecting.{stayed, old_left, minor_left, full_left, left_of, kept_of, ArePlaced, IsSplit, HasTenured, IsKeeping, ForwardsIn, Forwards}
+use Rattle.m3_generational.specs.Collecting.{stayed, old_left, minor_left, full_left, left_of, kept_of, IsSplit, IsKeeping, ForwardsIn, Forwards}
 use Rattle.m3_generational.specs.declared.spaces.Spaces.{Spaces}
 use Rattle.m3_generational.proofs.PartLemmas.{start-first, start-second, words-first, words-second, low, high, set-first, set-second}
-use Rattle.m3_generational.proofs.HeapLemmas.{SamePlaces, still-placed, same-total}
+use Rattle.m3_generational.proofs.HeapLemmas.{still-placed, same-total}
 
 -- ---- of any cells that are left and kept
 
@@ -265,10 +263,10 @@ promoted-keeps s here nursery w to k m h hb hs hc nb ns nc =
       split = subst A (sym (old-minor (promoted s here nursery) m)) (record { old = subst B (sym hb) sp.old; below = omega (arith, hb, sp.below); young = laid-same nursery_base s.nursery.cells nursery.cells young sp.young });
       young = omega (arith, same-total s.nursery.cells nursery.cells young, ns, h.young);
       minor = λ _. record {
-            found = subst C (sym hb) ten.found;
-            first = (ten.first.0 ++ f k ∷ [], ap layout hc ∙ map-append f s.here.cells (k ∷ []) ∙ ap (λ l. l ++ f k ∷ []) ten.first.1 ∙ append_assoc (layout s.found.value.cells) ten.first.0 (f k ∷ []));
-            tenured = ten.tenured;
-          };
+        found = subst C (sym hb) ten.found;
+        first = (ten.first.0 ++ f k ∷ [], ap layout hc ∙ map-append f s.here.cells (k ∷ []) ∙ ap (λ l. l ++ f k ∷ []) ten.first.1 ∙ append_assoc (layout s.found.value.cells) ten.first.0 (f k ∷ []));
+        tenured = ten.tenured;
+      };
     }
 
 abbrev pub moved_young : Spaces → Space → Space → Spaces
@@ -354,7 +352,9 @@ young-promoted s here nursery w h start before after m t k up on head short hb h
           (ap (λ l. x ++ l) nc ∙ set-second s.here.base x y w start true sp up)
           (hc ∙ ap (λ ws. s.here.cells ++ record { start = start; words = ws } ∷ []) (sym young.words)) steps);
       keeping = promoted-keeps s here nursery w start (record { start = start; words = words_from y w }) m k hb hs hc nb ns nc;
-      mode = refl; tenured = refl; found = refl;
+      mode = refl;
+      tenured = refl;
+      found = refl;
       young = ap layout nc ∙ layout_stays y w start;
     }
 
@@ -391,7 +391,9 @@ young-moved s there nursery w h start before after m t k up on head short tb ts 
           (ap (λ l. x ++ l) nc ∙ set-second s.here.base x y w start true sp up)
           (tc ∙ ap (λ ws. s.there.cells ++ record { start = start; words = ws } ∷ []) (sym young.words)) steps);
       keeping = moved-young-keeps s there nursery w start m k tb ts nb ns nc;
-      mode = refl; tenured = refl; found = refl;
+      mode = refl;
+      tenured = refl;
+      found = refl;
       young = ap layout nc ∙ layout_stays y w start;
     }
 
@@ -428,7 +430,9 @@ old-moved s here there w h start before after m t k up down on head short tb ts 
           (ap (λ l. l ++ y) hc ∙ set-first s.here.base x y w start true sp down)
           (tc ∙ ap (λ ws. s.there.cells ++ record { start = start; words = ws } ∷ []) (sym (old.words on))) steps);
       keeping = moved-old-keeps s here there w start m k tb ts hb hs hc;
-      mode = refl; tenured = refl; found = refl;
+      mode = refl;
+      tenured = refl;
+      found = refl;
       young = refl;
     }
 
@@ -450,10 +454,10 @@ set-keeps s here at w m k hb hs hc =
       split = subst A (sym (old-minor s' m)) (subst B (sym hb) sp);
       young = k.young;
       minor = λ _. record {
-            found = subst C (sym hb) ten.found;
-            first = (ten.first.0, ap layout hc ∙ layout_stays s.here.cells at w ∙ ten.first.1);
-            tenured = ten.tenured;
-          };
+        found = subst C (sym hb) ten.found;
+        first = (ten.first.0, ap layout hc ∙ layout_stays s.here.cells at w ∙ ten.first.1);
+        tenured = ten.tenured;
+      };
     }
 
 pub minor-in : (s s' : Spaces) (w : ℕ) (r : Option ℕ) (before after : ℕ) → s.is_minor ≡ true → Forwards s s' w r before after → ForwardsIn (minor_left s) s.here (minor_left s') s'.here w r before after

@@ -1,12 +1,12 @@
 -- A heap of generations between its calls.
-use Rattle.std.proofs.Common.{◌≡◌, ℕ, ◌+◌, ◌-◌, ◌*◌, ◌/◌, min, ◌<◌, ◌≤◌, ◌^◌, Bool, true, false, cond, eqb, ltb, leb, List, [], ◌∷◌, ◌++◌, length, get_or, suc, replicate, Some, None, is_some, ◌⊎◌, refl, sym, ap, subst, ◌∙◌, arith, inl, inr, ⊎_elim, append_assoc, append-nil}
+use Rattle.std.proofs.Common.{◌≡◌, ℕ, ◌+◌, ◌-◌, ◌*◌, ◌/◌, min, ◌<◌, ◌≤◌, ◌^◌, Bool, true, false, cond, eqb, ltb, leb, List, [], ◌∷◌, ◌++◌, length, Some, None, is_some, ◌⊎◌, refl, sym, ap, subst, ◌∙◌, arith, inl, inr, ⊎_elim, append_assoc, append-nil}
 use Rattle.std.specs.List.{AllByRecursion}
 use Rattle.std.specs.Prelude.{◌||◌, ◌&&◌, not}
-use Rattle.std.proofs.lemmas.Bool.{cases_Bool, cases_lt, false≢true, cond-true, cond-false, and_parts, and_from, or_left, or_right, le-leb, lt-leb, leb-true, ltb-true, ne_eqb, eqb-true}
+use Rattle.std.proofs.lemmas.Bool.{cases_Bool, cases_lt, false≢true, cond-true, cond-false, and_parts, and_from, or_left, or_right, le-leb, lt-leb, ltb-true, ne_eqb, eqb-true}
 use Rattle.std.proofs.lemmas.List.{map-append}
-use Rattle.m3_heap.specs.Cells.{Cell, heap_base, header_of, covers, cell_word_at, is_start, is_writable, layout, total_words, new_cell, IsHeaded, IsInHeap, AreApart, AllApart, AreSound, with_word}
+use Rattle.m3_heap.specs.Cells.{Cell, heap_base, header_of, cell_word_at, is_start, is_writable, layout, total_words, new_cell, IsHeaded, IsInHeap, AreApart, AllApart, AreSound, with_word}
 use Rattle.m3_heap.specs.CellWords.{layout_after}
-use Rattle.m3_heap.specs.Heap.{Heap, HasOtherWords, IsSoundHeap, KeepsLaws, Allots, first_base, second_base, nursery_base, lies_in, is_placed, old_words, words_free, next_start, is_minor, old_starts, unasked, settled, with_cell}
+use Rattle.m3_heap.specs.Heap.{Heap, HasOtherWords, IsSoundHeap, Allots, first_base, second_base, nursery_base, lies_in, is_placed, old_words, words_free, next_start, old_starts, unasked, settled, with_cell}
 use Rattle.m3_heap.specs.CollectorSpace.{Space, AreLaid}
 use Rattle.m3_heap.specs.CollectorHalves.{AreAtRest}
 use Rattle.m3_heap.proofs.SpaceLemmas.{covers-later, word_at-outside}
@@ -14,7 +14,7 @@ use Rattle.m3_heap.proofs.SemiLemmas.{rest-push, rest-replace, length-new}
 use Rattle.m3_heap.specs.Moves.{Move}
 use Rattle.m3_heap.proofs.TracingLemmas.{all_append, total-append}
 use Rattle.m3_heap.proofs.FinalLemmas.{sound-cells}
-use Rattle.m3_generational.specs.Remembering.{Remembering, watching, marked_count, new_generations}
+use Rattle.m3_generational.specs.Remembering.{Remembering, watching, new_generations}
 use Rattle.m3_heap.specs.CollectorTracing.{moves_from, copies_of}
 use Rattle.m3_generational.specs.Inside.{cells_seen, moves_seen, plain_heap, heap_seen, seen, AreResting, IsAsOpen, IsGenerations}
 use Rattle.m3_generational.specs.Collecting.{left_of, kept_of, ArePlaced}
@@ -140,20 +140,20 @@ parts-sound h x y p =
       cells = subst S (sym p.cells) (record { headed = all_append IsHeaded x y p.old_headed p.young_headed; in_heap = all_append IsInHeap x y one.in_heap two.in_heap; apart = apart });
       free = omega (arith, p.free, free-small h, p.small);
       laws = record {
-          half = p.half;
-          young = omega (arith, p.young, p.fits);
-          some = omega (arith, p.young, total);
-          room = omega (arith, total, p.room);
-          placed = subst Q (sym p.cells) (subst R (sym (map-append (λ (cell : Cell). (cell.start, length cell.words)) x y))
-              (all_append (λ (cell : ℕ × ℕ). is_placed h cell ≡ true) (layout x) (layout y)
-              (lie-old h.base (old_words h) h.young h.base x p.split.old (omega arith) (omega (arith, old)))
-              (lie-young h.base (old_words h) h.young nursery_base y p.split.young (omega arith) (omega (arith, p.young)))));
-          apart = subst T (sym p.cells) apart;
-          free = p.free;
-          tenured = p.tenured;
-          watched = λ e. absurd (omega (arith, e, p.some));
-          minors = λ e. absurd (omega (arith, e, p.some));
-        };
+        half = p.half;
+        young = omega (arith, p.young, p.fits);
+        some = omega (arith, p.young, total);
+        room = omega (arith, total, p.room);
+        placed = subst Q (sym p.cells) (subst R (sym (map-append (λ (cell : Cell). (cell.start, length cell.words)) x y))
+            (all_append (λ (cell : ℕ × ℕ). is_placed h cell ≡ true) (layout x) (layout y)
+            (lie-old h.base (old_words h) h.young h.base x p.split.old (omega arith) (omega (arith, old)))
+            (lie-young h.base (old_words h) h.young nursery_base y p.split.young (omega arith) (omega (arith, p.young)))));
+        apart = subst T (sym p.cells) apart;
+        free = p.free;
+        tenured = p.tenured;
+        watched = λ e. absurd (omega (arith, e, p.some));
+        minors = λ e. absurd (omega (arith, e, p.some));
+      };
     }
   where
     free-small : (h : Heap) → words_free h ≤ h.size
@@ -567,8 +567,7 @@ put-inside i v here at w b p set =
     let x = i.spaces.here in
     let r = (put-resting i v here at w b p).old in
     let some = (and_parts (is_some (cell_word_at x.cells at)) (not (is_start x.cells at)) (sym p.answer ∙ set)).0 in
-    let off : (at < x.base) ⊎ (x.base + total_words x.cells ≤ at) → ⊥ = λ out. false≢true (sym (ap is_some (word_at-outside x.base at x.cells r.laid out)) ∙ some) in
-    (
+    let off : (at < x.base) ⊎ (x.base + total_words x.cells ≤ at) → ⊥ = λ out. false≢true (sym (ap is_some (word_at-outside x.base at x.cells r.laid out)) ∙ some) in (
       ⊎_elim (λ (below : at < x.base). absurd (off (inl below))) (λ (ok : x.base ≤ at). ok) (cases_lt at x.base),
       ⊎_elim (λ (ok : at < x.base + total_words x.cells). omega (arith, r.room)) (λ (past : x.base + total_words x.cells ≤ at). absurd (off (inr past))) (cases_lt at (x.base + total_words x.cells)),
     )

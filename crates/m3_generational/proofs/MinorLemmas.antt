@@ -1,24 +1,24 @@
 -- The old cells of a minor collection: their words are looked at where they are remembered.
-use Rattle.std.proofs.Common.{◌≡◌, ◌≢◌, ℕ, zero, suc, ◌+◌, ◌-◌, ◌<◌, ◌≤◌, Bool, true, false, cond, eqb, ltb, List, [], ◌∷◌, ◌++◌, length, get_or, set, take, map, Option, Some, None, is_some, unwrap_or, refl, sym, ap, subst, ◌∙◌, arith, inl, inr, ◌⊎◌, ⊎_elim}
+use Rattle.std.proofs.Common.{◌≡◌, ◌≢◌, ℕ, zero, suc, ◌+◌, ◌-◌, ◌<◌, ◌≤◌, Bool, true, false, cond, eqb, ltb, List, [], ◌∷◌, ◌++◌, length, get_or, set, take, Option, Some, None, is_some, refl, sym, ap, subst, ◌∙◌, arith, inl, inr, ⊎_elim}
 use Rattle.std.specs.Prelude.{◌&&◌, ◌||◌, slice_get}
 use Rattle.std.specs.List.{AllByRecursion}
 use Rattle.std.proofs.lemmas.Bool.{cases_Bool, cases_eq, cases_lt, cond-true, cond-false, false≢true, and_parts, lt-ltb, le-ltb, ltb-true, eq-eqb, ne_eqb, eqb-true}
-use Rattle.m3_heap.specs.Cells.{Cell, heap_base, header, cell_from, cell_word_at, is_start, words_from, layout, total_words}
+use Rattle.m3_heap.specs.Cells.{Cell, heap_base, header, cell_from, cell_word_at, is_start, words_from, total_words}
 use Rattle.m3_heap.specs.Shapes.{Shape, is_pointer_word}
-use Rattle.m3_heap.specs.Moves.{Move, new_start, is_kept, forwarded}
+use Rattle.m3_heap.specs.Moves.{new_start, forwarded}
 use Rattle.m3_heap.specs.Heap.{nursery_base}
 use Rattle.m3_heap.specs.CollectorSpace.{Space, AreLaid}
 use Rattle.m3_heap.specs.CollectorTracing.{old_cells, copies, moves, moves_from, placed, IsCopy, IsTracing}
 use Rattle.m3_heap.specs.CollectorScanning.{Scans, AreScanned, PointsToKept}
 use Rattle.m3_heap.proofs.SpaceLemmas.{start-fits, rising-fits, word_at-cell}
-use Rattle.m3_heap.proofs.TracingLemmas.{none_or_some, copy-at}
+use Rattle.m3_heap.proofs.TracingLemmas.{copy-at}
 use Rattle.m3_heap.proofs.CopyLemmas.{is_start-left, kept-header, forwarded-kept, forwarded-low}
 use Rattle.m3_heap.proofs.ScanLemmas.{copied_from, put_at}
 use Rattle.m3_heap.proofs.StepLemmas.{step-pointer, step-read}
 use Rattle.m3_heap.proofs.WordLemmas.{scanned_cell, passed-scans, kept-laid, some-within}
 use Rattle.m3_heap.proofs.TraceLemmas.{scans-first}
 use Rattle.m3_generational.specs.Remembering.{FitsIn, marked_count}
-use Rattle.m3_generational.specs.Collecting.{stayed, minor_left, HasTenured, IsKeeping, IsSplit}
+use Rattle.m3_generational.specs.Collecting.{stayed, minor_left, IsKeeping}
 use Rattle.m3_generational.specs.declared.spaces.Spaces.{Spaces}
 use Rattle.m3_generational.proofs.PartLemmas.{start-first, words-first, low}
 use Rattle.m3_generational.proofs.ForwardLemmas.{split-minor, starts-same, starts-front, stayed-layout, stayed-header}

@@ -1,27 +1,26 @@
 -- The tenured cells among the copies of a minor collection, and their pointers.
-use Rattle.std.proofs.Common.{◌≡◌, ◌≢◌, ℕ, ◌+◌, ◌-◌, ◌<◌, ◌≤◌, Bool, true, false, cond, eqb, ltb, List, [], ◌∷◌, ◌++◌, length, map, Option, Some, None, is_some, refl, sym, ap, subst, ◌∙◌, arith, inl, inr, ◌⊎◌, ⊎_elim}
-use Rattle.std.specs.Prelude.{◌||◌}
+use Rattle.std.proofs.Common.{◌≡◌, ◌≢◌, ℕ, ◌+◌, ◌-◌, Bool, true, false, cond, eqb, ltb, List, [], ◌∷◌, ◌++◌, length, map, Option, Some, is_some, refl, sym, ap, subst, ◌∙◌, arith, inl, inr, ◌⊎◌, ⊎_elim}
 use Rattle.std.specs.List.{AllByRecursion}
-use Rattle.std.proofs.lemmas.Bool.{cases_Bool, cases_eq, cond-true, cond-false, false≢true, eq-eqb, ne_eqb, lt-ltb, or_left, or_right, or_from}
+use Rattle.std.proofs.lemmas.Bool.{cond-true, cond-false, eq-eqb, ne_eqb, lt-ltb, or_left, or_right, or_from}
 use Rattle.std.proofs.lemmas.List.{map-append}
 use Rattle.m3_heap.specs.Cells.{Cell, cell_from, is_start, words_from, layout, total_words}
 use Rattle.m3_heap.specs.Shapes.{Shape, is_pointer_word, pointer_words, is_listed}
-use Rattle.m3_heap.specs.Moves.{Move, kept_pointers}
+use Rattle.m3_heap.specs.Moves.{kept_pointers}
 use Rattle.m3_heap.specs.Heap.{nursery_base, old_starts}
-use Rattle.m3_heap.specs.CollectorSpace.{Space, AreLaid}
+use Rattle.m3_heap.specs.CollectorSpace.{AreLaid}
 use Rattle.m3_heap.specs.CollectorTracing.{old_cells, copies, moves, moves_from, placed, IsCopy, AreDistinct, IsTracing}
 use Rattle.m3_heap.specs.CollectorScanning.{IsBoundary, pointers_met, met}
 use Rattle.m3_heap.proofs.SpaceLemmas.{start-fits}
 use Rattle.m3_heap.proofs.ScanLemmas.{copied_from, all-met, met-low}
 use Rattle.m3_heap.proofs.WordLemmas.{kept-laid}
 use Rattle.m3_heap.proofs.FinalLemmas.{done-met}
-use Rattle.m3_generational.specs.Collecting.{stayed, minor_left, HasTenured, IsKeeping, IsSplit, tenured_pointers}
+use Rattle.m3_generational.specs.Collecting.{stayed, minor_left, IsKeeping, IsSplit, tenured_pointers}
 use Rattle.m3_generational.specs.declared.spaces.Spaces.{Spaces}
 use Rattle.m3_generational.proofs.HeapLemmas.{same-olds, same-total}
 use Rattle.m3_generational.proofs.BeginLemmas.{standing-layout, no-old, all-second}
 use Rattle.m3_heap.proofs.TracingLemmas.{all_map, all_zip}
-use Rattle.m3_generational.proofs.ForwardLemmas.{split-minor, stayed-layout, laid-same}
-use Rattle.m3_generational.proofs.MinorLemmas.{tenured, IsTenured}
+use Rattle.m3_generational.proofs.ForwardLemmas.{split-minor, stayed-layout}
+use Rattle.m3_generational.proofs.MinorLemmas.{tenured}
 
 abbrev pub starts_of : List Cell → List ℕ
 starts_of cells = map (λ (cell : Cell). cell.start) cells
@@ -173,6 +172,7 @@ by-starts shapes cs (k ∷ x) (c ∷ f) e =
     head-of : List ℕ → ℕ
     head-of [] = 0
     head-of (n ∷ ns) = n
+
     tail-of : List ℕ → List ℕ
     tail-of [] = []
     tail-of (n ∷ ns) = ns

@@ -1,15 +1,14 @@
 -- A root is visited.
-use Rattle.std.proofs.Common.{◌≡◌, ℕ, ◌+◌, ◌/◌, ◌≤◌, Bool, true, false, List, [], Option, Some, None, refl, sym, ap, subst, ◌∙◌, arith}
+use Rattle.std.proofs.Common.{◌≡◌, ℕ, ◌+◌, ◌/◌, Bool, true, List, Option, Some, None, refl, sym, ap, subst, ◌∙◌, arith}
 use Rattle.std.specs.Prelude.{IsNone, IfSome, ◌↔◌}
 use Rattle.std.specs.Option.{IfNone}
 use Rattle.m3_heap.specs.Cells.{Cell, total_words}
 use Rattle.m3_heap.specs.Moves.{Move, forwarded, with_kept, kept_words}
 use Rattle.m3_heap.specs.Reach.{IsBadPointer}
 use Rattle.m3_heap.specs.Heap.{Heap, settled, is_minor, IsSoundHeap}
-use Rattle.m3_heap.specs.CollectorSpace.{Space}
 use Rattle.m3_heap.specs.CollectorTracing.{old_cells, moves, Keeps}
 use Rattle.m3_heap.proofs.SemiLemmas.{IsVisited, after-visit, with_kept-told, words-told, if-both}
-use Rattle.m3_generational.specs.Remembering.{Remembering, watching, marked_count}
+use Rattle.m3_generational.specs.Remembering.{Remembering, watching}
 use Rattle.m3_generational.specs.Collecting.{left_of, kept_of, ArePlaced, Forwards}
 use Rattle.m3_generational.specs.Inside.{cells_seen, moves_seen, heap_seen, seen, AreCollecting, IsAsOpen, IsGenerations}
 use Rattle.m3_generational.specs.declared.spaces.Spaces.{Spaces}

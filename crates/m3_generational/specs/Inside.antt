@@ -1,9 +1,8 @@
 -- For the heap of generations alone: what its fields show, and what they keep.
-use Rattle.std.specs.Prelude.{◌≡◌, ℕ, ◌+◌, ◌/◌, ◌≤◌, ◌⊎◌, if◌then◌else◌, Bool, true, false, List, [], ◌∷◌, ◌++◌, Some, length}
+use Rattle.std.specs.Prelude.{◌≡◌, ℕ, ◌+◌, ◌≤◌, Bool, true, false, List, [], ◌++◌, length}
 use Rattle.m3_heap.specs.Cells.{Cell, total_words}
 use Rattle.m3_heap.specs.Moves.{Move}
 use Rattle.m3_heap.specs.Heap.{Heap, is_minor, settled}
-use Rattle.m3_heap.specs.CollectorSpace.{Space}
 use Rattle.m3_heap.specs.CollectorTracing.{old_cells, moves}
 use Rattle.m3_heap.specs.CollectorHalves.{AreAtRest, AreMoving}
 use Rattle.m3_generational.specs.Collecting.{left_of, kept_of, ArePlaced, IsKeeping}

@@ -11,7 +11,7 @@ ghost use Rattle.m3_generational.specs.Remembering.{FitsIn, marked_count};
 
 use crate::remembering::scan_remembered;
 use crate::spaces::Spaces;
-use m3_heap::{scan, Maps, Marks, Steps};
+use m3_heap::{Maps, Marks, Steps, scan};
 use std::sync::ledger::Ledger;
 
 /// Copies all that the copies of a full collection lead to, and forwards their pointers. False says that a

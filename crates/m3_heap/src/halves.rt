@@ -6,7 +6,7 @@ ghost use Rattle.m3_heap.specs.Heap.{counted};
 use crate::copying::Copying;
 use crate::half::Half;
 use crate::maps::Maps;
-use crate::pair::{trace, Pair};
+use crate::pair::{Pair, trace};
 use crate::steps::Steps;
 use m3_base::NoMemory;
 use std::alloc::Global;

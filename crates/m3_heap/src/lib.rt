@@ -13,7 +13,7 @@ mod steps;
 mod store;
 
 pub use closed::Closed;
-pub use copying::{scan, Copying};
+pub use copying::{Copying, scan};
 pub use half::Half;
 pub use maps::Maps;
 pub use marks::Marks;

@@ -6,7 +6,7 @@ ghost use Rattle.m3_heap.specs.Reach.{HasBadPointer};
 ghost use Rattle.m3_heap.specs.CollectorScanning.{Scans, Grows, met, ArePlain};
 ghost use Rattle.m3_heap.specs.CollectorTracing.{IsTracing, old_cells, copies, moves, Keeps};
 
-use crate::copying::{scan, Copying};
+use crate::copying::{Copying, scan};
 use crate::half::Half;
 use crate::maps::Maps;
 use crate::steps::Steps;

@@ -1,5 +1,4 @@
-use Rattle.std.proofs.Common.{◌≤◌, ◌+◌, ℕ, sym, ap, subst, ◌∙◌, arith}
-use Rattle.m3_heap.specs.Cells.{total_words}
+use Rattle.std.proofs.Common.{sym, arith}
 use Rattle.m3_generational.proofs.ForwardLemmas.{young-refused, young-kept, young-needs, young-promoted}
 use Rattle.m3_generational.proofs.forwarding.promote.Goals as goal
 

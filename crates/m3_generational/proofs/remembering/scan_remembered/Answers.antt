@@ -1,6 +1,6 @@
-use Rattle.std.proofs.Common.{◌≡◌, ◌+◌, ◌-◌, ◌<◌, ◌≤◌, ℕ, List, min, take, length, refl, sym, ap, subst, ◌∙◌, arith}
+use Rattle.std.proofs.Common.{◌≡◌, ◌+◌, ◌≤◌, ℕ, List, min, take, refl, sym, ap, subst, ◌∙◌, arith}
 use Rattle.m3_heap.specs.Cells.{Cell, total_words}
-use Rattle.m3_heap.specs.CollectorScanning.{Scans, Grows}
+use Rattle.m3_heap.specs.CollectorScanning.{Scans}
 use Rattle.m3_heap.specs.CollectorTracing.{old_cells, IsTracing}
 use Rattle.m3_heap.proofs.WordLemmas.{kept-total}
 use Rattle.m3_generational.specs.declared.spaces.Spaces.{Spaces}

@@ -1,4 +1,4 @@
-use Rattle.std.proofs.Common.{◌≡◌, ◌+◌, ◌-◌, ◌<◌, ◌≤◌, ℕ, List, Bool, true, false, get_or, take, min, length}
+use Rattle.std.proofs.Common.{◌≡◌, ◌+◌, ◌-◌, ◌<◌, ℕ, List, true, false, get_or, take, min, length}
 use Rattle.m3_heap.specs.Cells.{total_words}
 use Rattle.m3_heap.specs.CollectorScanning.{Scans, Grows}
 use Rattle.m3_heap.specs.CollectorTracing.{IsTracing}

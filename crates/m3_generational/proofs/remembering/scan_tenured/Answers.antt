@@ -1,13 +1,13 @@
 use Rattle.std.proofs.Common.{◌≡◌, List, true, ◌+◌, ◌-◌, ◌%◌, ◌<◌, ℕ, Some, is_some, length, refl, sym, ap, subst, ◌∙◌, arith}
 use Rattle.std.proofs.lemmas.Bool.{false≢true}
 use Rattle.std.specs.Prelude.{slice_get}
-use Rattle.m3_heap.specs.Cells.{header, kind_in, is_start, words_from, cell_word_at, with_word, layout, total_words}
+use Rattle.m3_heap.specs.Cells.{header, kind_in, words_from, cell_word_at, with_word, layout}
 use Rattle.m3_heap.specs.CellWords.{layout_stays}
 use Rattle.m3_heap.specs.CollectorSpace.{Space}
 use Rattle.m3_heap.specs.CollectorTracing.{IsTracing, old_cells}
 use Rattle.m3_heap.specs.CollectorScanning.{Scans, Grows}
 use Rattle.m3_heap.specs.Shapes.{Shape, is_pointer_word}
-use Rattle.m3_heap.proofs.WordLemmas.{IsWritten, scanned_cell, written-tracing, written-grows, written-scans, passed-scans, pointer-test, read-word, some-within, bad-found}
+use Rattle.m3_heap.proofs.WordLemmas.{IsWritten, scanned_cell, written-tracing, written-grows, written-scans, passed-scans, pointer-test, read-word, bad-found}
 use Rattle.m3_heap.proofs.TraceLemmas.{read-header, scans-first}
 use Rattle.m3_generational.specs.Collecting.{minor_left}
 use Rattle.m3_generational.specs.declared.spaces.Spaces.{Spaces}

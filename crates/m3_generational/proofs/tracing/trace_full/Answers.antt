@@ -4,10 +4,9 @@ use Rattle.m3_heap.specs.Cells.{total_words}
 use Rattle.m3_heap.specs.Moves.{kept_starts}
 use Rattle.m3_heap.specs.CollectorSpace.{Space}
 use Rattle.m3_heap.specs.CollectorScanning.{Scans, IsBoundary, met}
-use Rattle.m3_heap.specs.CollectorTracing.{old_cells, moves}
+use Rattle.m3_heap.specs.CollectorTracing.{moves}
 use Rattle.m3_heap.proofs.TraceLemmas.{first-boundary, scans-none, met-none, visited-reached, when-true, when-false}
-use Rattle.m3_generational.specs.Collecting.{left_of, kept_of, AreTraced}
-use Rattle.m3_generational.specs.declared.spaces.Spaces.{Spaces}
+use Rattle.m3_generational.specs.Collecting.{left_of, kept_of}
 use Rattle.m3_generational.proofs.ForwardLemmas.{kept-full}
 use Rattle.m3_generational.proofs.tracing.trace_full.Given as given
 use Rattle.m3_generational.proofs.tracing.trace_full.Goals as goal

@@ -1,6 +1,6 @@
 use Rattle.std.specs.Bool.{OnTrue}
-use Rattle.std.proofs.Common.{◌≡◌, ◌+◌, ◌≤◌, ℕ, Bool, true, false, List, take, refl, sym, ap, subst, ◌∙◌, arith}
-use Rattle.m3_heap.specs.Cells.{Cell, total_words}
+use Rattle.std.proofs.Common.{◌≡◌, ◌+◌, ◌≤◌, ℕ, Bool, true, false, List, refl, sym, ap, subst, ◌∙◌, arith}
+use Rattle.m3_heap.specs.Cells.{total_words}
 use Rattle.m3_heap.specs.Moves.{kept_starts}
 use Rattle.m3_heap.specs.Shapes.{Shape}
 use Rattle.m3_heap.specs.Reach.{HasBadPointer}
@@ -10,8 +10,7 @@ use Rattle.m3_heap.specs.CollectorTracing.{old_cells, moves, IsTracing}
 use Rattle.m3_heap.specs.CollectorHalves.{AreMoving}
 use Rattle.m3_heap.proofs.WordLemmas.{kept-total}
 use Rattle.m3_heap.proofs.TraceLemmas.{scans-none, visited-reached, when-true, when-false, grows-on, bad-before}
-use Rattle.m3_generational.specs.Remembering.{marked_count}
-use Rattle.m3_generational.specs.Collecting.{left_of, kept_of, minor_left, AreTraced, tenured_pointers}
+use Rattle.m3_generational.specs.Collecting.{left_of, kept_of, minor_left, tenured_pointers}
 use Rattle.m3_generational.specs.declared.spaces.Spaces.{Spaces}
 use Rattle.m3_generational.proofs.HeapLemmas.{bounded}
 use Rattle.m3_generational.proofs.ForwardLemmas.{back-minor, fore-minor}

@@ -1,4 +1,4 @@
-use Rattle.std.proofs.Common.{◌≡◌, true, false, sym, ap, ◌∙◌, arith}
+use Rattle.std.proofs.Common.{sym, ap, ◌∙◌, arith}
 use Rattle.m3_heap.specs.Heap.{is_minor}
 use Rattle.m3_generational.specs.Remembering.{Remembering}
 use Rattle.m3_generational.proofs.HeapLemmas.{is-closed, resting}

@@ -1,9 +1,8 @@
-use Rattle.std.proofs.Common.{◌≡◌, Bool, List, [], true, false, refl, sym, ap, subst, ◌∙◌, arith, ◌++◌}
-use Rattle.m3_heap.specs.Cells.{Cell, total_words}
-use Rattle.m3_heap.specs.Moves.{staying, Move}
-use Rattle.m3_heap.specs.Heap.{Heap, is_minor, old_starts, IsSoundHeap}
+use Rattle.std.proofs.Common.{◌≡◌, Bool, true, false, refl, sym, ap, ◌∙◌, ◌++◌}
+use Rattle.m3_heap.specs.Moves.{staying}
+use Rattle.m3_heap.specs.Heap.{Heap, is_minor, old_starts}
 use Rattle.m3_generational.specs.Remembering.{Remembering}
-use Rattle.m3_generational.specs.Inside.{heap_seen, cells_seen, moves_seen, AreResting, AreCollecting, IsAsOpen}
+use Rattle.m3_generational.specs.Inside.{heap_seen, cells_seen, moves_seen, AreCollecting}
 use Rattle.m3_generational.specs.declared.spaces.Spaces.{Spaces}
 use Rattle.m3_generational.proofs.HeapLemmas.{is-closed, resting}
 use Rattle.m3_generational.proofs.BeginLemmas.{minor-begins, open-sound, opened-heap, is-minor-told}

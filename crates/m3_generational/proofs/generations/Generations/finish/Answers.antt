@@ -1,4 +1,4 @@
-use Rattle.std.proofs.Common.{◌≡◌, true, false, sym, ◌∙◌, ap}
+use Rattle.std.proofs.Common.{◌∙◌}
 use Rattle.m3_generational.proofs.EndLemmas.{mode-seen}
 use Rattle.m3_generational.proofs.generations.Generations.finish.Goals as goal
 

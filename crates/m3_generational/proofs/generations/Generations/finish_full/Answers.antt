@@ -1,6 +1,5 @@
-use Rattle.std.proofs.Common.{◌≡◌, false, true, sym, ap, ◌∙◌, arith}
+use Rattle.std.proofs.Common.{sym, ◌∙◌}
 use Rattle.std.proofs.lemmas.Bool.{false≢true}
-use Rattle.m3_generational.specs.Remembering.{Remembering}
 use Rattle.m3_generational.proofs.EndLemmas.{IsFullEnd, exchanged, full-end, full-finishes, end-resting, end-sound, end-size}
 use Rattle.m3_generational.proofs.generations.Generations.finish_full.Given as given
 use Rattle.m3_generational.proofs.generations.Generations.finish_full.Goals as goal

@@ -1,6 +1,5 @@
-use Rattle.std.proofs.Common.{◌≡◌, false, true, sym, ap, ◌∙◌, arith}
+use Rattle.std.proofs.Common.{true, sym, ◌∙◌, arith}
 use Rattle.std.proofs.lemmas.Bool.{false≢true}
-use Rattle.m3_generational.specs.Remembering.{Remembering}
 use Rattle.m3_generational.proofs.EndLemmas.{mode-told, collecting-told, IsMinorEnd, emptied, minor-end, minor-finishes, end-resting, end-sound, end-size}
 use Rattle.m3_heap.proofs.WordLemmas.{kept-total}
 use Rattle.m3_generational.specs.Collecting.{minor_left}

@@ -1,14 +1,13 @@
-use Rattle.std.proofs.Common.{◌≡◌, ◌+◌, ◌*◌, ◌-◌, ◌∷◌, ◌++◌, [], ◌<◌, ◌≤◌, List, Bool, Some, replicate, refl, sym, ap, subst, ◌∙◌, arith, false}
+use Rattle.std.proofs.Common.{◌≡◌, ◌+◌, ◌*◌, ◌-◌, ◌∷◌, ◌++◌, [], ◌≤◌, Bool, Some, replicate, refl, sym, ap, subst, ◌∙◌, arith, false}
 use Rattle.m3_heap.specs.Cells.{header_of, total_words, new_cell}
-use Rattle.m3_heap.specs.Heap.{Heap, Allots}
-use Rattle.m3_heap.specs.Shapes.{Shape}
+use Rattle.m3_heap.specs.Heap.{Allots}
 use Rattle.m3_generational.specs.Remembering.{Remembering, Fits}
-use Rattle.m3_generational.specs.Inside.{heap_seen, AreResting, IsAsOpen, IsGenerations}
+use Rattle.m3_generational.specs.Inside.{heap_seen, AreResting, IsAsOpen}
 use Rattle.m3_generational.specs.Collecting.{ArePlaced}
 use Rattle.m3_generational.specs.declared.spaces.Spaces.{Spaces}
 use Rattle.std.proofs.lemmas.Bool.{false≢true}
 use Rattle.m3_generational.proofs.HeapLemmas.{is-closed, resting, SamePlaces, still-placed, made-young, room-left, room-young, rest-young, closed-sound}
-use Rattle.m3_generational.proofs.FitLemmas.{fits-told, fits-again, fits-push}
+use Rattle.m3_generational.proofs.FitLemmas.{fits-told, fits-again}
 use Rattle.m3_generational.proofs.generations.Generations.make_young.Goals as goal
 
 closed : (c : goal.After-append_zeroed) → c.self.inside.is_open ≡ false

@@ -1,8 +1,7 @@
 use Rattle.std.proofs.Common.{◌≡◌, Bool, List, true, false, refl, sym, subst, ◌∙◌, arith, length, length-set, ap, set, ◌-◌}
-use Rattle.m3_generational.specs.Remembering.{Remembering, Fits}
 use Rattle.m3_generational.specs.Inside.{IsAsOpen}
 use Rattle.std.proofs.lemmas.Bool.{false≢true}
-use Rattle.m3_generational.proofs.HeapLemmas.{IsPut, with_here, put-closed, put-resting, put-placed, put-rested, put-value, put-cells, put-rest, put-sound, put-inside}
+use Rattle.m3_generational.proofs.HeapLemmas.{IsPut, with_here, put-closed, put-placed, put-rested, put-value, put-cells, put-rest, put-sound, put-inside}
 use Rattle.m3_generational.proofs.FitLemmas.{put-off, put-on}
 use Rattle.m3_generational.proofs.generations.Generations.set_old.Goals as goal
 

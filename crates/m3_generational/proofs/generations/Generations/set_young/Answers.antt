@@ -1,16 +1,15 @@
-use Rattle.std.proofs.Common.{◌≡◌, Bool, true, false, cond, refl, sym, ap, subst, ◌∙◌, ◌-◌, arith, length, length-set}
-use Rattle.m3_heap.specs.Cells.{is_writable, with_word, total_words}
+use Rattle.std.proofs.Common.{◌≡◌, Bool, false, cond, refl, sym, subst, ◌∙◌}
+use Rattle.m3_heap.specs.Cells.{is_writable, with_word}
 use Rattle.m3_heap.specs.CellWords.{layout_after}
 use Rattle.m3_heap.specs.Heap.{HasOtherWords}
 use Rattle.m3_generational.specs.Remembering.{Remembering, Fits}
 use Rattle.m3_generational.specs.Inside.{heap_seen, cells_seen, AreResting, IsAsOpen}
 use Rattle.m3_generational.specs.Collecting.{ArePlaced}
 use Rattle.m3_generational.specs.declared.spaces.Spaces.{Spaces}
-use Rattle.m3_heap.specs.CollectorHalves.{AreAtRest}
 use Rattle.m3_heap.proofs.SemiLemmas.{rest-replace}
 use Rattle.std.proofs.lemmas.Bool.{false≢true}
 use Rattle.m3_generational.proofs.HeapLemmas.{is-closed, resting, SamePlaces, still-placed, stored, rest-stored, closed-sound, set-young-told}
-use Rattle.m3_generational.proofs.FitLemmas.{fits-told, fits-again, fits-set}
+use Rattle.m3_generational.proofs.FitLemmas.{fits-told, fits-again}
 use Rattle.m3_generational.proofs.generations.Generations.set_young.Goals as goal
 
 closed : (c : goal.After-replace) → c.self.inside.is_open ≡ false

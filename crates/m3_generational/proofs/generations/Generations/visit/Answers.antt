@@ -1,5 +1,5 @@
-use Rattle.std.proofs.Common.{◌≡◌, Bool, true, sym, subst, ap, ◌∙◌, arith}
-use Rattle.m3_generational.specs.Inside.{IsAsOpen, AreCollecting}
+use Rattle.std.proofs.Common.{Bool, sym, subst, ap, ◌∙◌, arith}
+use Rattle.m3_generational.specs.Inside.{IsAsOpen}
 use Rattle.m3_generational.proofs.VisitLemmas.{IsVisit, collecting, visit-open, visit-collecting, visit-mode, visit-sizes, visit-none, visit-value, visit-kept, visit-refused, visit-cost, visit-sound}
 use Rattle.m3_generational.specs.Remembering.{Remembering}
 use Rattle.m3_generational.proofs.generations.Generations.visit.Given as given

@@ -15,8 +15,7 @@ inside half h space is at some =
     let laid = laid-used half h in
     let total = total-used half h in
     let there : is_some (cell_word_at cells at) ≡ true = ap (λ (s : Space). is_some (cell_word_at s.cells at)) is ∙ some in
-    let off : (at < half.base) ⊎ (half.base + total_words cells ≤ at) → ⊥ = λ out. false≢true (sym (ap is_some (word_at-outside half.base at cells laid out)) ∙ there) in
-    (
+    let off : (at < half.base) ⊎ (half.base + total_words cells ≤ at) → ⊥ = λ out. false≢true (sym (ap is_some (word_at-outside half.base at cells laid out)) ∙ there) in (
       ⊎_elim (λ (below : at < half.base). absurd (off (inl below))) (λ (ok : half.base ≤ at). ok) (cases_lt at half.base),
       ⊎_elim (λ (ok : at < half.base + half.used). ok) (λ (past : half.base + half.used ≤ at). absurd (off (inr (omega (arith, total, past))))) (cases_lt at (half.base + half.used)),
     )
