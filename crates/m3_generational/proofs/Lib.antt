@@ -1,0 +1,9 @@
+pub mod PartLemmas
+pub mod HeapLemmas
+pub mod FitLemmas
+pub mod ForwardLemmas
+pub mod BeginLemmas
+pub mod VisitLemmas
+pub mod EndLemmas
+pub mod MinorLemmas
+pub mod TenuredLemmas

@@ -1,0 +1,118 @@
+ghost use Rattle.std.specs.Prelude.{◌≡◌, ◌<◌, ◌≤◌, true, false};
+ghost use Rattle.m3_heap.specs.CollectorTracing.{IsTracing};
+ghost use Rattle.m3_generational.specs.Collecting.{left_of, kept_of, IsKeeping, Forwards};
+
+use crate::spaces::Spaces;
+use m3_heap::{Copying, Steps};
+use std::sync::ledger::Ledger;
+
+/// The first address of heaps: a word from here on is a reference or nothing.
+const HEAP_BASE: u64 = 1 << 60;
+
+/// Where the nursery begins.
+const NURSERY_BASE: u64 = 1 << 62;
+
+// An old cell in a minor collection stays where it is.
+fn keep_tenured<L: Ledger>(spaces: &mut Spaces, word: u64, steps: &mut Steps<L>) -> Option<u64>
+    requires tracing { IsTracing (left_of spaces.old) (kept_of spaces.old) }
+    requires keeping { IsKeeping spaces.old }
+    requires minor { spaces.old.is_minor ≡ true }
+    requires high { 1152921504606846976 ≤ word }
+    requires low { word < 4611686018427387904 }
+    ensures { Forwards spaces.old spaces.new word result steps.old steps.new }
+{
+    let base = spaces.here.base();
+    if word < base {
+        return None;
+    }
+    if word - base >= spaces.tenured {
+        return None;
+    }
+    match spaces.here.header(word) {
+        Some(_) => Some(word),
+        None => None,
+    }
+}
+
+// A young cell in a minor collection is copied behind the old ones.
+fn promote<L: Ledger>(spaces: &mut Spaces, word: u64, steps: &mut Steps<L>) -> Option<u64>
+    requires tracing { IsTracing (left_of spaces.old) (kept_of spaces.old) }
+    requires keeping { IsKeeping spaces.old }
+    requires minor { spaces.old.is_minor ≡ true }
+    requires high { 4611686018427387904 ≤ word }
+    ensures { Forwards spaces.old spaces.new word result steps.old steps.new }
+{
+    let Some(header) = spaces.nursery.header(word) else {
+        return None;
+    };
+    if header >= HEAP_BASE {
+        return Some(header);
+    }
+    let words = header >> 32;
+    let start = spaces.here.append_copy(&spaces.nursery, word, words);
+    spaces.nursery.put(word, start);
+    steps.add(words);
+    Some(start)
+}
+
+// A young cell in a full collection is copied to the other half.
+fn move_young<L: Ledger>(spaces: &mut Spaces, word: u64, steps: &mut Steps<L>) -> Option<u64>
+    requires tracing { IsTracing (left_of spaces.old) (kept_of spaces.old) }
+    requires keeping { IsKeeping spaces.old }
+    requires full { spaces.old.is_minor ≡ false }
+    requires high { 4611686018427387904 ≤ word }
+    ensures { Forwards spaces.old spaces.new word result steps.old steps.new }
+{
+    let Some(header) = spaces.nursery.header(word) else {
+        return None;
+    };
+    if header >= HEAP_BASE {
+        return Some(header);
+    }
+    let words = header >> 32;
+    let start = spaces.there.append_copy(&spaces.nursery, word, words);
+    spaces.nursery.put(word, start);
+    steps.add(words);
+    Some(start)
+}
+
+// An old cell in a full collection is copied to the other half.
+fn move_old<L: Ledger>(spaces: &mut Spaces, word: u64, steps: &mut Steps<L>) -> Option<u64>
+    requires tracing { IsTracing (left_of spaces.old) (kept_of spaces.old) }
+    requires keeping { IsKeeping spaces.old }
+    requires full { spaces.old.is_minor ≡ false }
+    requires high { 1152921504606846976 ≤ word }
+    requires low { word < 4611686018427387904 }
+    ensures { Forwards spaces.old spaces.new word result steps.old steps.new }
+{
+    let Some(header) = spaces.here.header(word) else {
+        return None;
+    };
+    if header >= HEAP_BASE {
+        return Some(header);
+    }
+    let words = header >> 32;
+    let start = spaces.there.append_copy(&spaces.here, word, words);
+    spaces.here.put(word, start);
+    steps.add(words);
+    Some(start)
+}
+
+/// The new value of a word in the collection that is open: in a minor one an old cell stays and a young one
+/// is copied behind the old ones, in a full one every cell is copied to the other half, unless it was. None
+/// comes exactly where the word lies where heaps lie and is no cell's start.
+pub fn forward_word<L: Ledger>(spaces: &mut Spaces, word: u64, steps: &mut Steps<L>) -> Option<u64>
+    requires tracing { IsTracing (left_of spaces.old) (kept_of spaces.old) }
+    requires keeping { IsKeeping spaces.old }
+    ensures { Forwards spaces.old spaces.new word result steps.old steps.new }
+{
+    if word < HEAP_BASE {
+        return Some(word);
+    }
+    match (spaces.is_minor, word < NURSERY_BASE) {
+        (true, true) => keep_tenured(spaces, word, steps),
+        (true, false) => promote(spaces, word, steps),
+        (false, true) => move_old(spaces, word, steps),
+        (false, false) => move_young(spaces, word, steps),
+    }
+}
