@@ -1,6 +1,2 @@
 pub mod Trees
 pub mod Example
-pub mod Laws
-pub mod Growing
-pub mod Limits
-pub mod Own

@@ -28,42 +28,42 @@ use Rattle.m3_source_typing.proofs.Operands.{number_of}
 use Rattle.m3_source_typing.proofs.Operating.{Typed, typed_given}
 
 -- single elements of a set
-pub data TypedElements (p : Program) (member : ℕ) : List Adding → Type 0 where
-  no_elements : TypedElements p member []
-  one_element : (e : Expression) (es : List Adding) → IsOfType p e member → TypedElements p member es → TypedElements p member (meaning.with_one e ∷ es)
+pub data TypedElements (p : Program) (own : ℕ → Option ℕ) (member : ℕ) : List Adding → Type 0 where
+  no_elements : TypedElements p own member []
+  one_element : (e : Expression) (es : List Adding) → IsOfType p own e member → TypedElements p own member es → TypedElements p own member (meaning.with_one e ∷ es)
 
 -- an expression of a field's type, where there is such a field
-abbrev pub IsForField : Program → Expression → Option Field → Type 0
-IsForField p e None = ⊥
-IsForField p e (Some f) = IsOfType p e f.kind.0
+abbrev pub IsForField : Program → (ℕ → Option ℕ) → Expression → Option Field → Type 0
+IsForField p own e None = ⊥
+IsForField p own e (Some f) = IsOfType p own e f.kind.0
 
-pub data TypedFields (p : Program) (fields : List Field) : List Valued → Type 0 where
-  no_fields : TypedFields p fields []
-  one_field : (v : Valued) (vs : List Valued) → IsForField p v.value (slice_get fields v.field) → TypedFields p fields vs → TypedFields p fields (v ∷ vs)
+pub data TypedFields (p : Program) (own : ℕ → Option ℕ) (fields : List Field) : List Valued → Type 0 where
+  no_fields : TypedFields p own fields []
+  one_field : (v : Valued) (vs : List Valued) → IsForField p own v.value (slice_get fields v.field) → TypedFields p own fields vs → TypedFields p own fields (v ∷ vs)
 
 abbrev pub field_of : Valued → ℕ
 field_of v = v.field
 
-module _ (p : Program) where
+module _ (p : Program) (own : ℕ → Option ℕ) where
   -- ---- sets
 
-  set_given : (s : Store) (kind member : ℕ) (ms : List ℤ) → member_in (node_of p kind) ≡ Some member → AreMembersOf ms (bounds p member) → Gives p s (Typed p kind) (given (value.Members ms))
+  set_given : (s : Store) (kind member : ℕ) (ms : List ℤ) → member_in (node_of p kind) ≡ Some member → AreMembersOf ms (bounds p member) → Gives p own s (Typed p kind) (given (value.Members ms))
   set_given s kind member ms is h =
-      typed_given p s kind (value.Members ms)
+      typed_given p own s kind (value.Members ms)
       (operand.set_class (node_of p kind) member is, subst (AreMembersOf ms) (sym (ap (λ o. option_and_then (bounds p) o) is)) h)
 
-  one_sound : (e : Expression) (member : ℕ) (s : Store) (ms : List ℤ) → IsOfType p e member → rule.is_ordinal p member ≡ true → AreMembersOf ms (bounds p member) → Gives p s (λ t ns. AreMembersOf ns (bounds p member)) (meaning.with_one e ms)
+  one_sound : (e : Expression) (member : ℕ) (s : Store) (ms : List ℤ) → IsOfType p own e member → rule.is_ordinal p member ≡ true → AreMembersOf ms (bounds p member) → Gives p own s (λ t ns. AreMembersOf ns (bounds p member)) (meaning.with_one e ms)
   one_sound e member s ms is numbers h =
-      bind_sound p s (Typed p member) _ _ _ (is.value s)
+      bind_sound p own s (Typed p member) _ _ _ (is.value s)
       (λ v t l q. let z = number_of p t v member numbers q in
-      subst (λ w. Gives p t (λ u ns. AreMembersOf ns (bounds p member)) (meaning.one_member ms w)) (sym z.1)
-      (given_sound p t _ (sets.with_member z.0 ms) (λ u m. operand.with_member_in (bounds p member) z.0 ms z.2 h)))
+      subst (λ w. Gives p own t (λ u ns. AreMembersOf ns (bounds p member)) (meaning.one_member ms w)) (sym z.1)
+      (given_sound p own t _ (sets.with_member z.0 ms) (λ u m. operand.with_member_in (bounds p member) z.0 ms z.2 h)))
 
-  pub set_form : (kind member : ℕ) → member_in (node_of p kind) ≡ Some member → rule.is_ordinal p member ≡ true → (es : List Adding) → TypedElements p member es → (s : Store) (ms : List ℤ) → AreMembersOf ms (bounds p member) → Gives p s (Typed p kind) (meaning.set_of es ms)
+  pub set_form : (kind member : ℕ) → member_in (node_of p kind) ≡ Some member → rule.is_ordinal p member ≡ true → (es : List Adding) → TypedElements p own member es → (s : Store) (ms : List ℤ) → AreMembersOf ms (bounds p member) → Gives p own s (Typed p kind) (meaning.set_of es ms)
   set_form kind member is numbers _ no_elements s ms h = set_given s kind member ms is h
   set_form kind member is numbers _ (one_element e es typed more) s ms h =
-      bind_sound p s (λ t ns. AreMembersOf ns (bounds p member)) (Typed p kind) _ _
-      (holding_sound p s _ (Is (value.Members ms)) (meaning.with_one e ms) (one_sound e member s ms typed numbers h))
+      bind_sound p own s (λ t ns. AreMembersOf ns (bounds p member)) (Typed p kind) _ _
+      (holding_sound p own s _ (Is (value.Members ms)) (meaning.with_one e ms) (one_sound e member s ms typed numbers h))
       (λ ns t l q. set_form kind member is numbers es more t ns q)
 
   -- ---- records
@@ -104,16 +104,16 @@ module _ (p : Program) where
   abbrev Given : List Field → List ℕ → Store → List (ℕ × Value) → Type 0
   Given fs ns s xs = AreOfFields s fs xs × (map place_of xs ≡ ns)
 
-  field_value : (s : Store) (e : Expression) (o : Option Field) → IsForField p e o → Gives p s (λ t v. IsOfField t v o) e.value
+  field_value : (s : Store) (e : Expression) (o : Option Field) → IsForField p own e o → Gives p own s (λ t v. IsOfField t v o) e.value
   field_value s e None h = absurd h
   field_value s e (Some f) h = h.value s
 
-  each_sound : (fs : List Field) (vs : List Valued) → TypedFields p fs vs → (s : Store) (before : List (ℕ × Value)) → AreOfFields s fs before → Gives p s (Given fs (map place_of before ++ map field_of vs)) (meaning.each_field before vs)
-  each_sound fs _ no_fields s before h = given_sound p s _ before (λ t l. (all_stay s t l fs before h, sym (none_behind before)))
+  each_sound : (fs : List Field) (vs : List Valued) → TypedFields p own fs vs → (s : Store) (before : List (ℕ × Value)) → AreOfFields s fs before → Gives p own s (Given fs (map place_of before ++ map field_of vs)) (meaning.each_field before vs)
+  each_sound fs _ no_fields s before h = given_sound p own s _ before (λ t l. (all_stay s t l fs before h, sym (none_behind before)))
   each_sound fs _ (one_field v vs is more) s before h =
-      bind_sound p s (λ t w. IsOfField t w (slice_get fs v.field)) (Given fs (map place_of before ++ v.field ∷ map field_of vs)) _ _
-      (holding_all_sound p s _ _ v.value.value (field_value s v.value (slice_get fs v.field) is))
-      (λ w t l q. subst (λ ns. Gives p t (Given fs ns) (meaning.each_field (before ++ (v.field, w) ∷ []) vs)) (places_and before (v.field, w) (map field_of vs))
+      bind_sound p own s (λ t w. IsOfField t w (slice_get fs v.field)) (Given fs (map place_of before ++ v.field ∷ map field_of vs)) _ _
+      (holding_all_sound p own s _ _ v.value.value (field_value s v.value (slice_get fs v.field) is))
+      (λ w t l q. subst (λ ns. Gives p own t (Given fs ns) (meaning.each_field (before ++ (v.field, w) ∷ []) vs)) (places_and before (v.field, w) (map field_of vs))
       (each_sound fs vs more t (before ++ (v.field, w) ∷ []) (and_one t fs before (v.field, w) (all_stay s t l fs before h) q)))
 
   -- the value with a number
@@ -171,8 +171,8 @@ module _ (p : Program) where
             subst (λ n. There s n xs (Some f)) (sym same) (subst (There s i xs) e (there s fs i xs h.0 named)))),
       )
 
-  pub record_form : (kind : ℕ) (vs : List Valued) → class_of p kind ≡ OfRecords → TypedFields p (record_fields (node_of p kind)) vs → HasEachField (record_fields (node_of p kind)) (map field_of vs) → (s : Store) → Gives p s (Typed p kind) (meaning.record_of vs)
+  pub record_form : (kind : ℕ) (vs : List Valued) → class_of p kind ≡ OfRecords → TypedFields p own (record_fields (node_of p kind)) vs → HasEachField (record_fields (node_of p kind)) (map field_of vs) → (s : Store) → Gives p own s (Typed p kind) (meaning.record_of vs)
   record_form kind vs is typed all s =
-      bind_sound p s (Given (record_fields (node_of p kind)) (map field_of vs)) (Typed p kind) _ _
+      bind_sound p own s (Given (record_fields (node_of p kind)) (map field_of vs)) (Typed p kind) _ _
       (each_sound (record_fields (node_of p kind)) vs typed s [] tt)
-      (λ xs t l q. typed_given p t kind (value.Record (row_of (meaning.in_order xs))) (record_typed t kind vs is all xs q))
+      (λ xs t l q. typed_given p own t kind (value.Record (row_of (meaning.in_order xs))) (record_typed t kind vs is all xs q))

@@ -4,4 +4,5 @@ pub mod Operands
 pub mod Operating
 pub mod Rows
 pub mod Constructing
+pub mod Places
 pub mod Expressions

@@ -30,13 +30,13 @@ use Rattle.m3_source_typing.proofs.Operands.{left_true, right_true, number_of}
 use Rattle.m3_source_typing.proofs.Operating.{Typed, typed_given, truth_given, identical_sound, operated_sound, prefixed_sound}
 
 -- operators in a row, from an operand of a type on to a result
-pub data TypedRow (p : Program) : ℕ → List Operated → ℕ → Type 0 where
-  none : (t : ℕ) → TypedRow p t [] t
-  more : (t right kind result : ℕ) (o : Operated) (os : List Operated) → IsOfType p o.right right → rule.operator_fits p o.operator t right kind ≡ true → TypedRow p kind os result → TypedRow p t (o ∷ os) result
+pub data TypedRow (p : Program) (own : ℕ → Option ℕ) : ℕ → List Operated → ℕ → Type 0 where
+  none : (t : ℕ) → TypedRow p own t [] t
+  more : (t right kind result : ℕ) (o : Operated) (os : List Operated) → IsOfType p own o.right right → rule.operator_fits p o.operator t right kind ≡ true → TypedRow p own kind os result → TypedRow p own t (o ∷ os) result
 
-module _ (p : Program) where
-  structures : (o : Operator) (to : Pos) (e : Expression) (kind : Option ℕ) (t r u : ℕ) (s : Store) (v w : Value) → rule.operator_fits p o t r u ≡ true → meaning.is_structural o ≡ true → Gives p s (Typed p u) (meaning.compared_by (meaning.relation_of o) compared.Structures v w)
-  structures (operator.Compare x compared.Structures) to e kind t r u s v w fits so = identical_sound p x u s v w (right_true _ _ (left_true _ (rule.is_boolean p u) fits)) (right_true _ (rule.is_boolean p u) fits)
+module _ (p : Program) (own : ℕ → Option ℕ) where
+  structures : (o : Operator) (to : Pos) (e : Expression) (kind : Option ℕ) (t r u : ℕ) (s : Store) (v w : Value) → rule.operator_fits p o t r u ≡ true → meaning.is_structural o ≡ true → Gives p own s (Typed p u) (meaning.compared_by (meaning.relation_of o) compared.Structures v w)
+  structures (operator.Compare x compared.Structures) to e kind t r u s v w fits so = identical_sound p own x u s v w (right_true _ _ (left_true _ (rule.is_boolean p u) fits)) (right_true _ (rule.is_boolean p u) fits)
   structures (operator.Compare x compared.Ordinals) to e kind t r u s v w fits so = absurd (let bad : false ≡ true = so in cc)
   structures (operator.Compare x compared.Sets) to e kind t r u s v w fits so = absurd (let bad : false ≡ true = so in cc)
   structures (operator.Compare x compared.References) to e kind t r u s v w fits so = absurd (let bad : false ≡ true = so in cc)
@@ -44,30 +44,30 @@ module _ (p : Program) where
   structures _ to e kind t r u s v w fits so = absurd (let bad : false ≡ true = so in cc)
 
   -- a comparison of structures reads both operands once both are evaluated
-  read_both : (o : Operator) (to : Pos) (e : Expression) (kind : Option ℕ) (first : Expression) (t r u : ℕ) (s : Store) → rule.operator_fits p o t r u ≡ true → IsOfType p first t → IsOfType p e r → (b : Bool) → meaning.is_structural o ≡ b →
-      Gives p s (Typed p u) (meaning.first_operated b first (record { operator = o; pos = to; right = e; kind = kind }))
+  read_both : (o : Operator) (to : Pos) (e : Expression) (kind : Option ℕ) (first : Expression) (t r u : ℕ) (s : Store) → rule.operator_fits p o t r u ≡ true → IsOfType p own first t → IsOfType p own e r → (b : Bool) → meaning.is_structural o ≡ b →
+      Gives p own s (Typed p u) (meaning.first_operated b first (record { operator = o; pos = to; right = e; kind = kind }))
   read_both o to e kind first t r u s fits is right false not_so =
-      bind_sound p s (Typed p t) (Typed p u) _ _ (is.value s) (λ v k l q. operated_sound p first.pos (record { operator = o; pos = to; right = e; kind = kind }) v t r u k fits q right)
+      bind_sound p own s (Typed p t) (Typed p u) _ _ (is.value s) (λ v k l q. operated_sound p own first.pos (record { operator = o; pos = to; right = e; kind = kind }) v t r u k fits q right)
   read_both o to e kind first t r u s fits is right true so =
-      bind_sound p s (IsReadable p) (Typed p u) _ _ (is.unread s)
-      (λ a k l q. bind_sound p k (IsReadable p) (Typed p u) _ _ (holding_sound p k (IsReadable p) a e.unread (right.unread k))
-      (λ b m g f. bind_sound p m _ (Typed p u) _ _ (valued_sound p m a (record { reads = λ n d typed. q.reads n (and_later k m n.store g d) typed }))
-      (λ v n d c. bind_sound p n _ (Typed p u) _ _ (valued_sound p n b (record { reads = λ x y typed. f.reads x (and_later m n x.store d y) typed }))
+      bind_sound p own s (IsReadable p own) (Typed p u) _ _ (is.unread s)
+      (λ a k l q. bind_sound p own k (IsReadable p own) (Typed p u) _ _ (holding_sound p own k (IsReadable p own) a e.unread (right.unread k))
+      (λ b m g f. bind_sound p own m _ (Typed p u) _ _ (valued_sound p own m a (record { reads = λ n d typed. q.reads n (and_later k m n.store g d) typed }))
+      (λ v n d c. bind_sound p own n _ (Typed p u) _ _ (valued_sound p own n b (record { reads = λ x y typed. f.reads x (and_later m n x.store d y) typed }))
       (λ w x y z. structures o to e kind t r u x v w fits so))))
 
-  first_sound : (o : Operated) (first : Expression) (t r u : ℕ) (s : Store) → rule.operator_fits p o.operator t r u ≡ true → IsOfType p first t → IsOfType p o.right r → Gives p s (Typed p u) (meaning.first_operated (meaning.is_structural o.operator) first o)
+  first_sound : (o : Operated) (first : Expression) (t r u : ℕ) (s : Store) → rule.operator_fits p o.operator t r u ≡ true → IsOfType p own first t → IsOfType p own o.right r → Gives p own s (Typed p u) (meaning.first_operated (meaning.is_structural o.operator) first o)
   first_sound o first t r u s fits is right = read_both o.operator o.pos o.right o.kind first t r u s fits is right (meaning.is_structural o.operator) refl
 
-  further_sound : (at : Pos) (t u : ℕ) (os : List Operated) → TypedRow p t os u → (s : Store) (v : Value) → HasType p s v t → Gives p s (Typed p u) (meaning.operated_further at os v)
-  further_sound at _ _ _ (none t) s v h = typed_given p s t v h
+  further_sound : (at : Pos) (t u : ℕ) (os : List Operated) → TypedRow p own t os u → (s : Store) (v : Value) → HasType p s v t → Gives p own s (Typed p u) (meaning.operated_further at os v)
+  further_sound at _ _ _ (none t) s v h = typed_given p own s t v h
   further_sound at _ _ _ (more t right kind result o os is fits row) s v h =
-      bind_sound p s (Typed p kind) (Typed p result) _ _ (operated_sound p at o v t right kind s fits h is)
+      bind_sound p own s (Typed p kind) (Typed p result) _ _ (operated_sound p own at o v t right kind s fits h is)
       (λ w k l q. further_sound at kind result os row k w q)
 
-  pub row_sound : (first : Expression) (t u : ℕ) (os : List Operated) → TypedRow p t os u → (s : Store) → IsOfType p first t → Gives p s (Typed p u) (meaning.operations first os)
+  pub row_sound : (first : Expression) (t u : ℕ) (os : List Operated) → TypedRow p own t os u → (s : Store) → IsOfType p own first t → Gives p own s (Typed p u) (meaning.operations first os)
   row_sound first _ _ _ (none t) s is = is.value s
   row_sound first _ _ _ (more t right kind result o os r fits row) s is =
-      bind_sound p s (Typed p kind) (Typed p result) _ _ (first_sound o first t right kind s fits is r)
+      bind_sound p own s (Typed p kind) (Typed p result) _ _ (first_sound o first t right kind s fits is r)
       (λ w k l q. further_sound first.pos kind result os row k w q)
 
   -- ---- conversions
@@ -94,16 +94,16 @@ module _ (p : Program) where
   number_class OfArrays h = absurd (let bad : false ≡ true = h in cc)
   number_class NoType h = absurd (let bad : false ≡ true = h in cc)
 
-  in_bounds : (at : Pos) (o : Option Bounds) (b : Bounds) (z : ℤ) (s : Store) → o ≡ Some b → Gives p s (λ k u. IsNumberOf z o) (meaning.within at o z)
+  in_bounds : (at : Pos) (o : Option Bounds) (b : Bounds) (z : ℤ) (s : Store) → o ≡ Some b → Gives p own s (λ k u. IsNumberOf z o) (meaning.within at o z)
   in_bounds at None b z s e = absurd (let bad : None ≡ Some b = e in cc)
-  in_bounds at (Some c) b z s e = bind_sound p s (λ k u. not (is_between c.first c.last z) ≡ false) _ _ given (unless_sound p s fault_kind.Range at (not (is_between c.first c.last z)))
-      (λ u k l q. given_sound p k _ u (λ m g. not_not _ q))
+  in_bounds at (Some c) b z s e = bind_sound p own s (λ k u. not (is_between c.first c.last z) ≡ false) _ _ given (unless_sound p own s fault_kind.Range at (not (is_between c.first c.last z)))
+      (λ u k l q. given_sound p own k _ u (λ m g. not_not _ q))
 
-  pub range_sound : (at : Pos) (kind : ℕ) (z : ℤ) (s : Store) → rule.is_ordinal p kind ≡ true → Gives p s (Typed p kind) (meaning.in_range p at kind z)
+  pub range_sound : (at : Pos) (kind : ℕ) (z : ℤ) (s : Store) → rule.is_ordinal p kind ≡ true → Gives p own s (Typed p kind) (meaning.in_range p at kind z)
   range_sound at kind z s h =
       let b = ordinal_bounds (node_of p kind) h in
-      bind_sound p s (λ k u. IsNumberOf z (bounds p kind)) (Typed p kind) _ _ (in_bounds at (bounds p kind) b.0 z s b.1)
-      (λ u k l q. typed_given p k kind (value.Ordinal z) (number_class (class_of p kind) h, q))
+      bind_sound p own s (λ k u. IsNumberOf z (bounds p kind)) (Typed p kind) _ _ (in_bounds at (bounds p kind) b.0 z s b.1)
+      (λ u k l q. typed_given p own k kind (value.Ordinal z) (number_class (class_of p kind) h, q))
 
   -- ---- references
 
@@ -150,31 +150,31 @@ module _ (p : Program) where
   narrowed s (value.Record vs) t k n m h e = absurd (wrong_class _ _ n h.0 refl)
   narrowed s (value.Array below vs) t k n m h e = absurd (wrong_class _ _ n h.0 refl)
 
-  tested : (s : Store) (v : Value) (t k : ℕ) → is_references (class_of p t) ≡ true → HasType p s v t → Gives p s (λ u b. (has_type p u k v ≡ Some b) × HasType p u v t) (seeing (λ m. has_type p m.store k v))
-  tested s v t k n h = seeing_sound p s _ (λ m. has_type p m.store k v)
+  tested : (s : Store) (v : Value) (t k : ℕ) → is_references (class_of p t) ≡ true → HasType p s v t → Gives p own s (λ u b. (has_type p u k v ≡ Some b) × HasType p u v t) (seeing (λ m. has_type p m.store k v))
+  tested s v t k n h = seeing_sound p own s _ (λ m. has_type p m.store k v)
       (λ m l typed. let g = type_stays p s m.store l v t h in let b = tells m.store v t k n g in (b.0, b.1, (b.1, g)))
 
   -- ---- forms
 
-  pub prefix_form : (os : List Prefix) (operand : Expression) (t result : ℕ) → IsOfType p operand t → rule.prefixes_fit p os t result ≡ true → (s : Store) → Gives p s (Typed p result) (operand.value >>= meaning.prefixed os)
+  pub prefix_form : (os : List Prefix) (operand : Expression) (t result : ℕ) → IsOfType p own operand t → rule.prefixes_fit p os t result ≡ true → (s : Store) → Gives p own s (Typed p result) (operand.value >>= meaning.prefixed os)
   prefix_form os operand t result is fits s =
-      bind_sound p s (Typed p t) (Typed p result) _ _ (is.value s) (λ v k l q. prefixed_sound p os t result k v fits q)
+      bind_sound p own s (Typed p t) (Typed p result) _ _ (is.value s) (λ v k l q. prefixed_sound p own os t result k v fits q)
 
-  pub range_form : (at : Pos) (operand : Expression) (t kind : ℕ) → IsOfType p operand t → rule.is_ordinal p t ≡ true → rule.is_ordinal p kind ≡ true → (s : Store) → Gives p s (Typed p kind) (operand.value >>= meaning.converted p conversion.Range at kind)
+  pub range_form : (at : Pos) (operand : Expression) (t kind : ℕ) → IsOfType p own operand t → rule.is_ordinal p t ≡ true → rule.is_ordinal p kind ≡ true → (s : Store) → Gives p own s (Typed p kind) (operand.value >>= meaning.converted p conversion.Range at kind)
   range_form at operand t kind is from to s =
-      bind_sound p s (Typed p t) (Typed p kind) _ _ (is.value s)
+      bind_sound p own s (Typed p t) (Typed p kind) _ _ (is.value s)
       (λ v k l q. let z = number_of p k v t from q in
-      subst (λ w. Gives p k (Typed p kind) (meaning.converted p conversion.Range at kind w)) (sym z.1) (range_sound at kind z.0 k to))
+      subst (λ w. Gives p own k (Typed p kind) (meaning.converted p conversion.Range at kind w)) (sym z.1) (range_sound at kind z.0 k to))
 
-  pub narrow_form : (at : Pos) (operand : Expression) (t kind : ℕ) → IsOfType p operand t → is_references (class_of p t) ≡ true → is_references (class_of p kind) ≡ true → (s : Store) → Gives p s (Typed p kind) (operand.value >>= meaning.converted p conversion.Narrow at kind)
+  pub narrow_form : (at : Pos) (operand : Expression) (t kind : ℕ) → IsOfType p own operand t → is_references (class_of p t) ≡ true → is_references (class_of p kind) ≡ true → (s : Store) → Gives p own s (Typed p kind) (operand.value >>= meaning.converted p conversion.Narrow at kind)
   narrow_form at operand t kind is from to s =
-      bind_sound p s (Typed p t) (Typed p kind) _ _ (is.value s)
-      (λ v k l q. bind_sound p k (λ u b. (has_type p u kind v ≡ Some b) × HasType p u v t) (Typed p kind) _ _ (tested k v t kind from q)
-      (λ b m g f. bind_sound p m (λ u w. not b ≡ false) (Typed p kind) _ _ (unless_sound p m fault_kind.Narrow at (not b))
-      (λ w n d c. typed_given p n kind v (type_stays p m n d v kind (narrowed m v t kind from to f.1 (f.0 ∙ ap Some (not_not b c)))))))
+      bind_sound p own s (Typed p t) (Typed p kind) _ _ (is.value s)
+      (λ v k l q. bind_sound p own k (λ u b. (has_type p u kind v ≡ Some b) × HasType p u v t) (Typed p kind) _ _ (tested k v t kind from q)
+      (λ b m g f. bind_sound p own m (λ u w. not b ≡ false) (Typed p kind) _ _ (unless_sound p own m fault_kind.Narrow at (not b))
+      (λ w n d c. typed_given p own n kind v (type_stays p m n d v kind (narrowed m v t kind from to f.1 (f.0 ∙ ap Some (not_not b c)))))))
 
-  pub test_form : (operand : Expression) (t kind truth : ℕ) → IsOfType p operand t → is_references (class_of p t) ≡ true → rule.is_boolean p truth ≡ true → (s : Store) → Gives p s (Typed p truth) (operand.value >>= meaning.type_test p kind)
+  pub test_form : (operand : Expression) (t kind truth : ℕ) → IsOfType p own operand t → is_references (class_of p t) ≡ true → rule.is_boolean p truth ≡ true → (s : Store) → Gives p own s (Typed p truth) (operand.value >>= meaning.type_test p kind)
   test_form operand t kind truth is from boolean s =
-      bind_sound p s (Typed p t) (Typed p truth) _ _ (is.value s)
-      (λ v k l q. bind_sound p k (λ u b. (has_type p u kind v ≡ Some b) × HasType p u v t) (Typed p truth) _ _ (tested k v t kind from q)
-      (λ b m g f. truth_given p m b truth boolean))
+      bind_sound p own s (Typed p t) (Typed p truth) _ _ (is.value s)
+      (λ v k l q. bind_sound p own k (λ u b. (has_type p u kind v ≡ Some b) × HasType p u v t) (Typed p truth) _ _ (tested k v t kind from q)
+      (λ b m g f. truth_given p own m b truth boolean))

@@ -1,5 +1,5 @@
 -- What is well typed is defined.
-use Rattle.std.specs.Prelude.{ℕ}
+use Rattle.std.specs.Prelude.{ℕ, Option}
 use Rattle.m3_core.specs.declared.exprs.CoreExpr.{CoreExpr}
 use Rattle.m3_values.specs.Values.{Value}
 use Rattle.m3_values.specs.Programs.{Program}
@@ -21,5 +21,5 @@ TypesStay =
 -- type.
 abbrev pub ExpressionsAreSound : Type 0
 ExpressionsAreSound =
-    (p : Program) (here : Here) (e : CoreExpr) (t : ℕ) → IsExpression p e t →
-    IsOfType p (expression p here e) t
+    (p : Program) (here : Here) (own : ℕ → Option ℕ) (e : CoreExpr) (t : ℕ) →
+    IsExpression p here own e t → IsOfType p own (expression p here e) t

@@ -1,10 +1,10 @@
 -- WHAT IS WELL TYPED IS DEFINED: what this says of a phrase.
-use Rattle.std.specs.Prelude.{◌≡◌, ℕ, List, ◌∷◌, ◌++◌, Some, None}
+use Rattle.std.specs.Prelude.{◌≡◌, ℕ, List, ◌∷◌, ◌++◌, Option, Some, None}
 use Rattle.m3_runs.specs.Languages.{Action}
 use Rattle.m3_values.specs.Values.{Value}
 use Rattle.m3_values.specs.Programs.{Program}
-use Rattle.m3_values.specs.Places.{Thing}
-use Rattle.m3_values.specs.Store.{Store, Memory, value_now}
+use Rattle.m3_values.specs.Places.{Thing, Is}
+use Rattle.m3_values.specs.Store.{Store, Memory, thing_in, value_now}
 use Rattle.m3_source_meaning.specs.Meanings.{Told, Raised, Around, Standing, Now, Exits, End, Waits, Left, Faulted, Undefined, Evaluates}
 use Rattle.m3_source_meaning.specs.Phrases.{Expression}
 use Rattle.m3_source_meaning.specs.Travelling.{argument_type}
@@ -31,27 +31,40 @@ module _ (p : Program) where
   abbrev pub IsSound : (course : Now → End) → Now → Type 0
   IsSound course now = AllFit course now → IsDefined (course now)
 
+  -- what an own variable holds
+  pub record HasOwn (m : Memory) (x t : ℕ) : Type 0 where
+    pub value : Value
+    pub is : thing_in m.own x ≡ Some (Is value)
+    pub typed : HasType p m.store value t
+
+module _ (p : Program) (own : ℕ → Option ℕ) where
+  -- Memory is well typed: the store is, and the own variables of the activation that are known to
+  -- be made hold values of their types.
+  pub record IsGood (m : Memory) : Type 0 where
+    pub store : IsTyped p None m.store
+    pub variables : (x t : ℕ) → own x ≡ Some t → HasOwn p m x t
+
   -- what follows a phrase that gives such things is sound, in every later well typed store
   pub record AreSound {A : Type 0} (s : Store) (P : Store → A → Type 0) (exits : Exits A)
       : Type 0 where
     pub gives : (x : A) (later : Now) → IsLater s later.memory.store
-        → IsTyped p None later.memory.store → P later.memory.store x → IsSound (exits.gives x) later
+        → IsGood later.memory → P later.memory.store x → IsSound p (exits.gives x) later
     pub raised : (r : Raised) (later : Now) → IsLater s later.memory.store
-        → IsTyped p None later.memory.store
+        → IsGood later.memory
         → IsArgument p later.memory.store r.argument (argument_type p r.exception)
-        → IsSound (exits.raised r) later
+        → IsSound p (exits.raised r) later
 
   -- A PHRASE IS SOUND and gives such things, from a store on: wherever what follows it is sound, so
   -- is the whole.
   pub record Gives {A : Type 0} (s : Store) (P : Store → A → Type 0) (e : Evaluates A)
       : Type 0 where
     pub ends : (around : Around) (now : Now) (exits : Exits A) → IsLater s now.memory.store
-        → IsTyped p None now.memory.store → AreSound s P exits
-        → IsSound (λ later. e around later exits) now
+        → IsGood now.memory → AreSound s P exits
+        → IsSound p (λ later. e around later exits) now
 
   -- a thing that can be read from now on
   pub record IsReadable (s : Store) (thing : Thing) : Type 0 where
-    pub reads : (m : Memory) → IsLater s m.store → IsTyped p None m.store
+    pub reads : (m : Memory) → IsLater s m.store → IsGood m
         → (v : Value) × (value_now m thing ≡ Some v)
 
   -- AN EXPRESSION HAS A TYPE: from every store on it is sound and gives values of the type, and the

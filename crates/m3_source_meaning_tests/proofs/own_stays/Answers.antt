@@ -1,5 +1,0 @@
-use Rattle.m3_source_meaning_tests.proofs.OwnStays.{own_stays}
-use Rattle.m3_source_meaning_tests.proofs.own_stays.Goals as goal
-
-pub returns : goal.returns
-returns d = own_stays
