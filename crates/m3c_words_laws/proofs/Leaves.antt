@@ -27,10 +27,10 @@ every P a b c d e f o (inr (inr (inr (inr (inl h))))) = subst P (sym h) e
 every P a b c d e f o (inr (inr (inr (inr (inr (inl h)))))) = subst P (sym h) f
 every P a b c d e f o (inr (inr (inr (inr (inr (inr h)))))) = absurd h
 
-some_option : (o : Text) → IsOneOf o options_of_runs → o ≡ [] → ⊥
+pub some_option : (o : Text) → IsOneOf o options_of_runs → o ≡ [] → ⊥
 some_option = every (λ o. o ≡ [] → ⊥) (λ e. cc) (λ e. cc) (λ e. cc) (λ e. cc) (λ e. cc) (λ e. cc)
 
-lacks_option : (o : Text) → IsOneOf o options_of_runs → Lacks 61 o
+pub lacks_option : (o : Text) → IsOneOf o options_of_runs → Lacks 61 o
 lacks_option = every (Lacks 61) (lacks_equals (codes "switches") refl) (lacks_equals (codes "points") refl) (lacks_equals (codes "heap") refl) (lacks_equals (codes "stack") refl) (lacks_equals (codes "threads") refl) (lacks_equals (codes "input") refl)
 
 pub knows_exec : Knows (rules_of exec_command) options_of_runs

@@ -7,3 +7,5 @@ pub mod Meanings
 pub mod Levels
 pub mod Leaves
 pub mod Laws
+pub mod Moving
+pub mod Once

@@ -38,16 +38,16 @@ view (b ∷ bytes) = go (b == 45) refl
     go true e = subst (λ (x : ℕ). View (x ∷ bytes)) (sym (eqb-true b 45 e)) (behind_minus bytes)
     go false e = no_minus b bytes e
 
-false_true : false ≡ true → ⊥
+pub false_true : false ≡ true → ⊥
 false_true e = cc
 
-some_bytes : (b : ℕ) (bytes : Text) → is_empty (b ∷ bytes) ≡ true → ⊥
+pub some_bytes : (b : ℕ) (bytes : Text) → is_empty (b ∷ bytes) ≡ true → ⊥
 some_bytes b bytes e = grind (arith, nat_tests)
 
 long_free : (x : ℕ) (text : Text) → is_free (45 ∷ 45 ∷ x ∷ text) ≡ true → ⊥
 long_free x text e = some_bytes 45 (x ∷ text) e
 
-flags_free : (b : ℕ) (bytes : Text) → is_free (45 ∷ b ∷ bytes) ≡ true → ⊥
+pub flags_free : (b : ℕ) (bytes : Text) → is_free (45 ∷ b ∷ bytes) ≡ true → ⊥
 flags_free b bytes e = some_bytes b bytes e
 
 -- what a free word is to clap
