@@ -19,7 +19,7 @@ use Rattle.m3c_image_commands.specs.Statuses.{CountRose, Tells, Took}
 use Rattle.m3c_image_commands.specs.Reports.{end_status}
 use Rattle.m3c_source_commands.specs.Orders.{Commands, Fulfils}
 use Rattle.m3c_source_commands.proofs.UsageLemmas.{never_usage}
-use Rattle.m3c.specs.Command.{Call, IsSilent, IsRead, Ran, Answers, AnswersOther, IsComplete, NotPlainText, of_words, of_text, IsOther, file_of, Promises, file_cap}
+use Rattle.m3c.specs.Command.{Call, IsSilent, IsRead, Ran, Answers, AnswersOther, IsComplete, NotPlainText, PutFailed, of_words, of_text, IsOther, file_of, Promises, file_cap}
 use Rattle.m3c.proofs.Rows.{row_no_memory, row_write_fault}
 use Rattle.m3c.proofs.Builds.{build_of}
 use Rattle.m3c_words_laws.specs.Reads.{AreTexts}
@@ -71,8 +71,8 @@ module _ (call : Call) (status : ℕ) (table : Answers call status) (files : Fil
   at_4 : status ≡ 4 → Complete
   at_4 e = absurd (no_rise (table.write_fault e))
     where
-      no_rise : CountRose call.out.faults ⊎ CountRose call.err.faults → ⊥
-      no_rise (inl r) = no_out r
+      no_rise : PutFailed call ⊎ CountRose call.err.faults → ⊥
+      no_rise (inl r) = no_out r.rose
       no_rise (inr r) = no_err r
 
   at_6 : status ≡ 6 → Complete

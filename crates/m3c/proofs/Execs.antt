@@ -1,5 +1,5 @@
 -- `exec FILE` without options: what its file holds decides which rows say what it answers.
-use Rattle.std.proofs.Common.{◌≡◌, ◌∙◌, ◌⊎◌, ℕ, false, List, [], ◌∷◌, Option, None, Some, refl, sym, ap, subst, inl, inr, map}
+use Rattle.std.proofs.Common.{◌≡◌, ◌∙◌, ◌⊎◌, ℕ, false, List, [], ◌∷◌, ◌++◌, Option, None, Some, refl, sym, ap, subst, inl, inr, map, codes}
 use Rattle.std.specs.Prelude.{Result, Ok, Err}
 use Rattle.m3_base.specs.Schedules.{IsSchedule, lines_of}
 use Rattle.m3_base.specs.declared.outcomes.Entry.{Entry}
@@ -17,14 +17,14 @@ use Rattle.m3c_image_commands.specs.declared.answers.Answer.{Answer}
 use Rattle.m3c_image_commands.specs.declared.answers.Refusal.{Refusal}
 use Rattle.m3c_image_commands.specs.Statuses.{Shelving, Putting, StoresNothing, Only, Refuses, Unfetched, read_fault, no_memory, absent, too_long, Says, Tells}
 use Rattle.m3c_image_commands.specs.ImageCommands.{by_schedule, on_input}
-use Rattle.m3c_image_commands.specs.Reports.{Ended}
+use Rattle.m3c_image_commands.specs.Reports.{Ended, RanAsFar}
 use Rattle.m3c_source_commands.specs.Orders.{Commands, usage, no_words, carried_out, Fulfils, usual_setting}
 use Rattle.m3c_image_commands.specs.Refusals.{IsScheduleLine}
-use Rattle.m3c_source_commands.specs.SourceCommands.{AreTextsOf, ExecAnswer, not_run, no_schedule, run_ended, IsNotPlain, IsPlainImage, OfExec}
+use Rattle.m3c_source_commands.specs.SourceCommands.{AreTextsOf, ExecAnswer, not_run, no_schedule, run_ended, IsImageOf, IsNotPlain, IsPlainImage, OfExec, TextsRanAsFar}
 use Rattle.m3c_source_commands.proofs.OrderLemmas.{is_schedule}
-use Rattle.m3c.specs.Command.{Call, IsRead, Answers, NotPlainText, Promises, file_of, file_cap}
+use Rattle.m3c.specs.Command.{Call, CountRose, IsRead, Answers, NotPlainText, PutFailed, Promises, file_of, file_cap}
 use Rattle.m3c.proofs.Texts.{HasText, head_same, one_text, only_file}
-use Rattle.m3c.proofs.Rows.{row_run, row_refused}
+use Rattle.m3c.proofs.Rows.{row_fetch, row_memory, row_put, row_run}
 use Rattle.m3c.proofs.ByWords.{exec_words, some_same, some_none}
 use Rattle.m3c.proofs.Completes.{memory_promised, promised, text_promised_by, words_promised}
 
@@ -90,9 +90,41 @@ unfetched_only shelf name status front back no_memory = no_memory
 unfetched_only shelf name status front back (absent n c of rose free) = absent n c (only_file shelf.held.0 name n c of) rose free
 unfetched_only shelf name status front back (too_long n c of rose over) = too_long n c (only_file shelf.held.0 name n c of) rose over
 
-refuses_only : (shelf : Shelving) (name : List ℕ) (out : Putting) (r : Refusal) → Refuses shelf (OfExec shelf.held.0 (name ∷ []) None None) out r → Refuses shelf (Only name file_cap) out r
-refuses_only shelf name out r (inl u) = inl (unfetched_only shelf name r.status r.front.now r.name.now u.0, u.1)
-refuses_only shelf name out r (inr h) = inr h
+-- a put of the run failed
+module _ (call : Call) (name : List ℕ) (named : call.file ≡ Some name) where
+  plain_failed : (texts : List (List ℕ)) (text : List ℕ) → texts ≡ text ∷ [] → HasText call.shelf.held.0 name text → IsPlainImage (name ∷ []) texts call.image
+      → (i : Image) → read_of call.image ≡ Ok i → RanAsFar i usual_setting call.out → CountRose call.out.faults → PutFailed call
+  plain_failed texts text is has image i read far rose =
+      let p = image.program in
+      let same : name ≡ image.name = head_same name image.name p.file in
+      let t : text ≡ p.text = head_same text p.text (sym is ∙ p.source) in
+      let h : HasText call.shelf.held.0 image.name p.text = text_as call.shelf.held.0 name image.name text p.text same t has in
+      record {
+        rose = rose;
+        name = image.name;
+        text = p.text;
+        read = record { named = named ∙ ap Some same; short = h.short; held = h.told };
+        puts = image.puts;
+        plain = p.plain;
+        image = image.bytes;
+        far = subst (λ (x : Image). RanAsFar x usual_setting call.out) (same_image i (plain_image image.name image.puts) call.image read image.bytes) far;
+      }
+
+  far_as_usual : (i : Image) (schedule : List Entry) (input : List ℕ) → schedule ≡ [] → input ≡ [] → RanAsFar i (by_schedule (on_input usual_setting input) schedule) call.out → RanAsFar i usual_setting call.out
+  far_as_usual i schedule input s b h =
+      subst (λ (xs : List Entry). RanAsFar i (by_schedule usual_setting xs) call.out) s
+      (subst (λ (x : List ℕ). RanAsFar i (by_schedule (on_input usual_setting x) schedule) call.out) b h)
+
+  failed_row : (texts : List (List ℕ)) (switches bytes : List ℕ) → AreTextsOf call.shelf.held.0 (name ∷ []) texts → switches ≡ [] → bytes ≡ []
+      → TextsRanAsFar (name ∷ []) texts call.image (IsSchedule switches) (on_input usual_setting bytes) call.out → CountRose call.out.faults → PutFailed call ⊎ NotPlainText call.file call.shelf.held.0
+  failed_row texts switches bytes read s b far rose = go far.1
+    where
+      one : (text : List ℕ) × (texts ≡ text ∷ []) × HasText call.shelf.held.0 name text
+      one = one_text call.shelf.held.0 name texts read
+
+      go : IsImageOf (name ∷ []) texts call.image → PutFailed call ⊎ NotPlainText call.file call.shelf.held.0
+      go (inl image) = inl (plain_failed texts one.0 one.1 one.2 image far.3.0 far.3.1 (far_as_usual far.3.0 far.0 bytes (no_entries switches far.0 s far.2) b far.3.2) rose)
+      go (inr others) = inr (not_plain call.file call.shelf.held.0 name one.0 texts named one.1 one.2 others.0)
 
 -- ---- the command
 
@@ -104,7 +136,17 @@ module _ (call : Call) (name : List ℕ) (words : file_of call.words ≡ Some na
         | inl table ↦ promised call status name texts words table
         | inr text ↦ text_promised_by call status name (Ok a) texts words named text h told
       ]
-  exec_promised (Err r) h told = promised call status name texts words (row_refused call name r status named (refuses_only call.shelf name call.out r h.refusal) told)
+  exec_promised (Err r) h told = go h.refusal
+    where
+      go : Refuses call.shelf (OfExec call.shelf.held.0 (name ∷ []) None None) call.out r → Promises call status
+      go (inl u) = promised call status name texts words (row_fetch call name r status named u.1 (unfetched_only call.shelf name r.status r.front.now r.name.now u.0) told)
+      go (inr (inl lacks)) = promised call status name texts words (row_memory call r status lacks.0 lacks.1 told)
+      go (inr (inr failed)) =
+          let f = h.cut failed.0.status in
+          elim (failed_row call name named f.0 f.2.0 f.2.1 f.1 f.2.2 f.2.3 f.2.4 failed.1) [
+            | inl put ↦ promised call status name texts words (row_put call r.status status (r.front.now ++ r.name.now ++ codes "\n") failed.0.status put told)
+            | inr text ↦ text_promised_by call status name (Err r) texts words named text h told
+          ]
 
   commanded : Commands call.words call.shelf call.out call.err call.image status → Promises call status
   commanded (usage told none s p says) = absurd (some_none (exec (name ∷ []) usual_options) (sym (exec_words call.words name words) ∙ none))

@@ -10,15 +10,15 @@ use Rattle.m3_plain.specs.Terms.{Term, outcome_of}
 use Rattle.m3_plain.specs.PlainForm.{IsPlain}
 use Rattle.m3_plain_image.specs.Image.{plain_image}
 use Rattle.m3c_image_commands.specs.declared.answers.Refusal.{Refusal}
-use Rattle.m3c_image_commands.specs.Statuses.{CountRose, Took, Only, Unfetched, read_fault, no_memory, absent, too_long, Refuses as Refuses', Says as SaysLine}
+use Rattle.m3c_image_commands.specs.Statuses.{CountRose, Took, Only, Unfetched, read_fault, no_memory, absent, too_long, LacksMemory, Says as SaysLine}
 use Rattle.m3c_image_commands.specs.Reports.{Ended, end_status}
 use Rattle.m3c_source_commands.specs.Orders.{usual_setting}
-use Rattle.m3c.specs.Command.{Call, IsSilent, Says, IsRead, Ran, Refuses, Answers, file_cap}
+use Rattle.m3c.specs.Command.{Call, IsSilent, Says, IsRead, PutFailed, Ran, Refuses, Answers, file_cap}
 use Rattle.m3c.proofs.PlainRuns.{Whole, plain_end, whole_run}
 
 -- ---- one row
 
-pub row_write_fault : (call : Call) → CountRose call.out.faults ⊎ CountRose call.err.faults → Answers call 4
+pub row_write_fault : (call : Call) → PutFailed call ⊎ CountRose call.err.faults → Answers call 4
 row_write_fault call row = record {
   known = refl;
   done = λ e. absurd (omega arith);
@@ -157,13 +157,19 @@ module _ (call : Call) (name text : List ℕ) (puts : List Term) (read : IsRead 
 
 -- ---- a refusal
 
--- no file can be read, or memory ran out, or a put failed
-pub row_refused : (call : Call) (file : List ℕ) (r : Refusal) (told : ℕ) → call.file ≡ Some file → Refuses' call.shelf (Only file file_cap) call.out r → SaysLine call.err r.status (r.front.now ++ r.name.now ++ codes "\n") told → Answers call told
-row_refused call file r told named (inl u) says = fetch_refused call file r.status told r.front.now r.name.now named u.1 u.0 says
-row_refused call file r told named (inr h) (inr t) = subst (λ (s : ℕ). Answers call s) (sym t.0) (row_write_fault call (inr t.1))
-row_refused call file r told named (inr (inl lacks)) (inl t) =
-    subst (λ (s : ℕ). Answers call s) (sym (t.0 ∙ lacks.0.status)) (row_no_memory call (lacks.1, said (lacks.0.front) (lacks.0.name) t.1))
+-- no file can be read
+pub row_fetch : (call : Call) (file : List ℕ) (r : Refusal) (told : ℕ) → call.file ≡ Some file → IsSilent call → Unfetched call.shelf (Only file file_cap) r.status r.front.now r.name.now → SaysLine call.err r.status (r.front.now ++ r.name.now ++ codes "\n") told → Answers call told
+row_fetch call file r told named silent u says = fetch_refused call file r.status told r.front.now r.name.now named silent u says
+
+-- memory ran out
+pub row_memory : (call : Call) (r : Refusal) (told : ℕ) → LacksMemory r → IsSilent call → SaysLine call.err r.status (r.front.now ++ r.name.now ++ codes "\n") told → Answers call told
+row_memory call r told lacks silent (inr t) = subst (λ (s : ℕ). Answers call s) (sym t.0) (row_write_fault call (inr t.1))
+row_memory call r told lacks silent (inl t) = subst (λ (s : ℕ). Answers call s) (sym (t.0 ∙ lacks.status)) (row_no_memory call (silent, said lacks.front lacks.name t.1))
   where
     said : r.front.now ≡ codes "out of memory" → r.name.now ≡ [] → Took call.err.taken (r.front.now ++ r.name.now ++ codes "\n") → Took call.err.taken (codes "out of memory" ++ codes "\n")
     said f n took = subst (λ (l : List ℕ). Took call.err.taken (codes "out of memory" ++ l ++ codes "\n")) n (subst (λ (l : List ℕ). Took call.err.taken (l ++ r.name.now ++ codes "\n")) f took)
-row_refused call file r told named (inr (inr lacks)) (inl t) = subst (λ (s : ℕ). Answers call s) (sym (t.0 ∙ lacks.0.status)) (row_write_fault call (inl lacks.1))
+
+-- a put failed
+pub row_put : (call : Call) (status told : ℕ) (line : List ℕ) → status ≡ 4 → PutFailed call → SaysLine call.err status line told → Answers call told
+row_put call status told line four failed (inl t) = subst (λ (s : ℕ). Answers call s) (sym (t.0 ∙ four)) (row_write_fault call (inl failed))
+row_put call status told line four failed (inr t) = subst (λ (s : ℕ). Answers call s) (sym t.0) (row_write_fault call (inr t.1))

@@ -22,7 +22,7 @@ use Rattle.m3c_image_commands.specs.declared.answers.Answer.{Answer}
 use Rattle.m3c_image_commands.specs.declared.answers.Refusal.{Refusal}
 use Rattle.m3c_image_commands.specs.Statuses.{Shelving, Putting, StoresNothing, StoresUnder, Tells, image_cap}
 pub use Rattle.m3c_image_commands.specs.Statuses.{CountRose, Took}
-use Rattle.m3c_image_commands.specs.Reports.{Setting, Ended, within, end_status, report}
+use Rattle.m3c_image_commands.specs.Reports.{Setting, Ended, RanAsFar, within, end_status, report}
 use Rattle.m3c_image_commands.specs.ImageCommands.{by_schedule, on_input}
 use Rattle.m3c_image_commands.specs.Complete.{IsHeld, HoldsAll}
 use Rattle.m3c_words.specs.Orders.{Options, Order, build, run, exec, dump}
@@ -101,6 +101,17 @@ pub record Ran (call : Call) (outcome : Outcome) : Type 0 where
   pub output : Took call.out.taken (output_of puts)
   pub says : Took call.err.taken (report (plain_image name puts) false outcome last.points last.instructions last.collections)
 
+-- a put of the run of the image of a file in the plain form failed: out has a front of this run's output
+pub record PutFailed (call : Call) : Type 0 where
+  pub rose : CountRose call.out.faults
+  pub name : List ℕ
+  pub text : List ℕ
+  pub read : IsRead call name text
+  pub puts : List Term
+  pub plain : IsPlain text puts
+  pub image : read_of call.image ≡ Ok (plain_image name puts)
+  pub far : RanAsFar (plain_image name puts) usual_setting call.out
+
 -- ---- the table
 
 -- the file can't be fetched, for a cause: err names it
@@ -129,7 +140,7 @@ pub record Answers (call : Call) (status : ℕ) : Type 0 where
   pub known : IsTrue (list_any (λ s. s == status) (0 ∷ 3 ∷ 4 ∷ 5 ∷ 6 ∷ 7 ∷ 10 ∷ []))
   pub done : status ≡ 0 → Ran call Done
   pub read_fault : status ≡ 3 → Refuses call (codes "read fault") (λ name. CountRose call.shelf.faults)
-  pub write_fault : status ≡ 4 → CountRose call.out.faults ⊎ CountRose call.err.faults
+  pub write_fault : status ≡ 4 → PutFailed call ⊎ CountRose call.err.faults
   pub no_memory : status ≡ 5 → IsSilent call × Says call (codes "out of memory")
   pub absent : status ≡ 6 → Refuses call (codes "absent") (λ name. CountRose call.shelf.absences × IfSome call.shelf.held.0 (λ files. IsNotHeld files name))
   pub too_long : status ≡ 7 → Refuses call (codes "too long") (λ name. CountRose call.shelf.excesses × IfSome call.shelf.held.0 (λ files. IsHeldOver files name file_cap))

@@ -19,6 +19,7 @@ use Rattle.m3c_image_commands.specs.Refusals.{IsScheduleLine, of_bad_line, of_to
 use Rattle.m3_image_sections.specs.Parts.{Image}
 use Rattle.m3_image_sections.specs.declared.refusal.ImageRefusal.{ImageRefusal}
 use Rattle.m3c_image_commands.proofs.FetchLemmas.{Follows, Rises, Among, joined, options_before}
+use Rattle.m3c_image_commands.proofs.RunLemmas.{memory_alone, unfetched_alone}
 use Rattle.m3c_image_commands.specs.ImageCommands.{ImageAnswer, image_refused, ended, RunsImage, by_schedule, on_input}
 use Rattle.m3c_words.specs.declared.limits.Limits.{Limits}
 use Rattle.m3c_words.specs.Ranges.{AreOfBench}
@@ -157,7 +158,7 @@ module _ (files texts : List (List ℕ)) (image switches : List ℕ) (MayRunBy :
   pub execs_refused : (result : Result Answer Refusal) → RefusesFiles files texts switches result → PutsNothing out → ExecsTexts files texts image switches MayRunBy setting tells out result
   execs_refused (Ok a) (inl one) p = subst (λ x. ExecAnswer files texts image switches MayRunBy setting tells out x a.line.items) (sym one.0) (not_run a.line.items one.1 one.2 p)
   execs_refused (Ok a) (inr nine) p = no_schedule a.status a.line.items (nine.0, nine.1, p)
-  execs_refused (Err r) h p = inl (h, p)
+  execs_refused (Err r) h p = (inl (h, p), λ status. absurd (memory_alone r h status))
 
   never_image : (refusal : ImageRefusal) → IsOk (read_of image) → read_of image ≡ Err refusal → ⊥
   never_image refusal ok e = never_both (read_of image) ok (subst (λ (r : Result Image ImageRefusal). IsErr r) (sym e) refl)
@@ -170,7 +171,7 @@ module _ (files texts : List (List ℕ)) (image switches : List ℕ) (MayRunBy :
 
     runs_answer : (result : Result Answer Refusal) → IsImageOf files texts image → RunsImage image (by_schedule setting schedule) tells out result → ExecsTexts files texts image switches MayRunBy setting tells out result
     runs_answer (Ok a) ok h = answer_ran a.status a.line.items ok h
-    runs_answer (Err r) ok h = h.0
+    runs_answer (Err r) ok h = (h.0, λ status. (schedule, ok, may, h.1 status))
 
     pub execs_ran : (bytes : List ℕ) (told : Bool) (done : Setting) (result : Result Answer Refusal) → bytes ≡ image → told ≡ tells → done ≡ by_schedule setting schedule → IsImageOf files texts image → RunsImage bytes done told out result
         → ExecsTexts files texts image switches MayRunBy setting tells out result
@@ -198,8 +199,13 @@ module _ (shelf : Shelving) (out : Putting) (files : List (List ℕ)) (switches 
   pub execs_fetched : (texts : List (List ℕ)) (result : Result Answer Refusal) (held : Option Files) (text bytes : List ℕ) → held ≡ shelf.held.0 → StoresNothing shelf → AreTextsOf shelf.held.0 files texts → IsGiven held switches text → IsGiven held input bytes
       → ExecsTexts files texts image text (IsSchedule text) (on_input limits bytes) (is_some switches) out result → Execs shelf out files switches input limits image result
   execs_fetched texts (Ok a) held text bytes e s r g k h =
-      record { held = s; answer = (texts, r, (text, bytes, given_now held shelf.held.0 switches text e g, given_now held shelf.held.0 input bytes e k, h)); refusal = tt }
-  execs_fetched texts (Err x) held text bytes e s r g k h = record { held = s; answer = tt; refusal = inr h }
+      record { held = s; answer = (texts, r, (text, bytes, given_now held shelf.held.0 switches text e g, given_now held shelf.held.0 input bytes e k, h)); refusal = tt; cut = tt }
+  execs_fetched texts (Err x) held text bytes e s r g k h = record {
+    held = s;
+    answer = tt;
+    refusal = inr h.0;
+    cut = λ status. (texts, r, (text, bytes, given_now held shelf.held.0 switches text e g, given_now held shelf.held.0 input bytes e k, h.1 status));
+  }
 
   pub execs_told : (texts : List (List ℕ)) (result : Result Answer Refusal) (held : Option Files) (names : List (List ℕ)) (text bytes : List ℕ) (told : Bool) → names ≡ files → told ≡ is_some switches → held ≡ shelf.held.0 → StoresNothing shelf → AreTextsOf shelf.held.0 files texts
       → IsGiven held switches text → IsGiven held input bytes → ExecsTexts names texts image text (IsSchedule text) (on_input limits bytes) told out result → Execs shelf out files switches input limits image result
@@ -209,7 +215,7 @@ module _ (shelf : Shelving) (out : Putting) (files : List (List ℕ)) (switches 
       (subst (λ (x : List (List ℕ)). ExecsTexts x texts image text (IsSchedule text) (on_input limits bytes) told out result) n h))
 
   pub execs_unfetched : {A : Type 0} (r : Refusal) → PutsNothing out → Fetches {A = A} shelf (OfExec shelf.held.0 files switches input) (Err r) → Execs shelf out files switches input limits image (Err r)
-  execs_unfetched r p f = record { held = f.held; answer = tt; refusal = inl (f.unfetched, p) }
+  execs_unfetched r p f = record { held = f.held; answer = tt; refusal = inl (f.unfetched, p); cut = λ status. absurd (unfetched_alone shelf (OfExec shelf.held.0 files switches input) r.status r.front.now r.name.now f.unfetched status) }
 
 -- the options, once the FILEs were read
 pub among_exec : (a b : Option Files) (files : List (List ℕ)) (switches input : Option (List ℕ)) → a ≡ b → AreAllRead b files → Among (OfOptions a switches input) (OfExec b files switches input)

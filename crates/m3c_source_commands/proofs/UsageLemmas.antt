@@ -103,7 +103,7 @@ fulfilled_other (exec files options) shelf out image (Err r) h e = refused_other
 fulfilled_other (dump name) shelf out image (Ok a) h e = dump_other image out a.status a.line.items h.answer.1 e
 fulfilled_other (dump name) shelf out image (Err r) h e = not_dumped_other shelf name image out r h.refusal e
 fulfilled_other (bench number) shelf out image (Ok a) h e = exec_other [] [] image [] (IsOfNumber number) bench_setting false out a.status a.line.items h.0 e
-fulfilled_other (bench number) shelf out image (Err r) h e = cut_other out r h.0 e
+fulfilled_other (bench number) shelf out image (Err r) h e = cut_other out r h.0.0 e
 
 told_other : (err : Putting) (result : Result Answer Refusal) → Tells err result 2 → result_status result ≡ 2
 told_other err (Ok a) (inl h) = sym h.0

@@ -15,7 +15,7 @@ use Rattle.m3_plain_image.specs.Image.{plain_image}
 use Rattle.m3_workload.specs.Schedules.{schedule_of}
 use Rattle.m3c_image_commands.specs.Refusals.{IsScheduleLine}
 use Rattle.m3c_image_commands.specs.Reports.{Setting, Ended}
-use Rattle.m3c_image_commands.specs.ImageCommands.{RefusesSwitches, by_schedule, on_input}
+use Rattle.m3c_image_commands.specs.ImageCommands.{ImageRanAsFar, RefusesSwitches, by_schedule, on_input}
 
 -- ---- the FILEs
 
@@ -142,19 +142,29 @@ pub data ExecAnswer (files texts : List (List ℕ)) (image switches : List ℕ) 
   run_ended : (i : Image) (schedule : List Entry) (status : ℕ) (line : List ℕ) → IsImageOf files texts image → read_of image ≡ Ok i → MayRunBy schedule
       → Ended i (by_schedule setting schedule) tells out status line → ExecAnswer files texts image switches MayRunBy setting tells out status line
 
+-- a put of the run of the sources' image failed: out has a front of this run's output
+abbrev pub TextsRanAsFar : List (List ℕ) → List (List ℕ) → List ℕ → (List Entry → Type 0) → Setting → Putting → Type 0
+TextsRanAsFar files texts image MayRunBy setting out =
+    (schedule : List Entry) × IsImageOf files texts image × MayRunBy schedule × ImageRanAsFar image (by_schedule setting schedule) out
+
 -- what comes of sources and switches that are there
 abbrev pub ExecsTexts : List (List ℕ) → List (List ℕ) → List ℕ → List ℕ → (List Entry → Type 0) → Setting → Bool → Putting → Result Answer Refusal → Type 0
 ExecsTexts files texts image switches MayRunBy setting tells out result =
-    MatchResult result (λ a. ExecAnswer files texts image switches MayRunBy setting tells out a.status a.line.items) (Cuts out)
+    MatchResult result (λ a. ExecAnswer files texts image switches MayRunBy setting tells out a.status a.line.items)
+    (λ r. Cuts out r × (r.status ≡ 4 → TextsRanAsFar files texts image MayRunBy setting out))
 
 -- the files that `exec` reads, in this order: the FILEs, and once all of them were read, those of the options
 abbrev pub OfExec : Option Files → List (List ℕ) → Option (List ℕ) → Option (List ℕ) → List ℕ → ℕ → Type 0
 OfExec held files switches input n c = OfFiles held files n c ⊎ (AreAllRead held files × OfOptions held switches input n c)
 
--- `exec`: the switches and the input are those that are named, and the line tells collections where switches are named
+-- `exec`: the switches and the input are those that are named, and the line tells collections where switches are named.
+-- So too where a put failed: out has a front of this run's output.
 pub record Execs (shelf : Shelving) (out : Putting) (files : List (List ℕ)) (switches input : Option (List ℕ)) (limits : Setting) (image : List ℕ) (result : Result Answer Refusal) : Type 0 where
   pub held : StoresNothing shelf
   pub answer : IfOk result (λ a. (texts : List (List ℕ)) × AreTextsOf shelf.held.0 files texts
       × ((text : List ℕ) × (bytes : List ℕ) × IsGiven shelf.held.0 switches text × IsGiven shelf.held.0 input bytes
       × ExecAnswer files texts image text (IsSchedule text) (on_input limits bytes) (is_some switches) out a.status a.line.items))
   pub refusal : IfErr result (Refuses shelf (OfExec shelf.held.0 files switches input) out)
+  pub cut : IfErr result (λ r. r.status ≡ 4 → (texts : List (List ℕ)) × AreTextsOf shelf.held.0 files texts
+      × ((text : List ℕ) × (bytes : List ℕ) × IsGiven shelf.held.0 switches text × IsGiven shelf.held.0 input bytes
+      × TextsRanAsFar files texts image (IsSchedule text) (on_input limits bytes) out))
