@@ -1,5 +1,5 @@
-//! The walk through a block: what each operation makes of the left procedure's temporaries, and what
-//! is known. It goes as the check of the proof will go (m3_same_run).
+//! The walk through a block: what each operation makes of the left procedure's temporaries, and
+//! what is known. It goes as the check of the proof will go (m3_same_run).
 use crate::facts::{Answer, Facts, Held, MANY_ANSWERS, is_one, same_question};
 use crate::places::Places;
 use m3_base::NoMemory;
