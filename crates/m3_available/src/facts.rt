@@ -21,6 +21,8 @@ pub struct Answer {
     pub from: Option<u32>,
     /// Whether no call was passed since.
     pub is_near: bool,
+    /// Whether it is worth to be told to the next block.
+    pub is_told: bool,
 }
 
 /// A sum that a temporary holds.
@@ -90,6 +92,7 @@ impl Answer {
             value: self.value.copy(alloc)?,
             from: Some(number),
             is_near: self.is_near,
+            is_told: true,
         })
     }
 }

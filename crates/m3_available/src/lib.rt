@@ -1,5 +1,5 @@
-//! What is known in the blocks of a procedure: which answers to questions are there on every way to a
-//! place, and which temporaries hold sums of others.
+//! What is known in the blocks of a procedure: which answers to questions are there on every way
+//! to a place, and which temporaries hold sums of others.
 #![tactic(auto)]
 
 mod facts;

@@ -130,6 +130,7 @@ impl<'l> Edge<'l> {
                 value,
                 from: answer.from,
                 is_near: answer.is_near,
+                is_told: true,
             })),
             None => Ok(None),
         }
@@ -153,6 +154,7 @@ impl<'l> Edge<'l> {
                 return Ok(());
             };
             if let Some(answer) = walk.answers.get(place)
+                && answer.is_told
                 && facts.answers.len() < MANY_ANSWERS as usize
                 && !is_hidden(walk, place, &answer.query)
                 && let Some(answer) = self.answer(walk, answer)?

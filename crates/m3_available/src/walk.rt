@@ -1,5 +1,5 @@
-//! The walk through a block: what each operation makes of the left procedure's temporaries, and what
-//! is known. It goes as the check of the proof will go (m3_same_run).
+//! The walk through a block: what each operation makes of the left procedure's temporaries, and
+//! what is known. It goes as the check of the proof will go (m3_same_run).
 use crate::facts::{Answer, Facts, Held, MANY_ANSWERS, is_one, same_question};
 use crate::places::Places;
 use m3_base::NoMemory;
@@ -118,14 +118,19 @@ impl<'a> Walk<'a> {
         Ok(form)
     }
 
-    pub(crate) fn learn(&mut self, query: Query, value: Form) -> Result<(), NoMemory> {
+    fn add(&mut self, query: Query, value: Form, is_told: bool) -> Result<(), NoMemory> {
         self.answers.push(Answer {
             query,
             value,
             from: None,
             is_near: true,
+            is_told,
         })?;
         Ok(())
+    }
+
+    fn learn(&mut self, query: Query, value: Form) -> Result<(), NoMemory> {
+        self.add(query, value, true)
     }
 
     fn find(&self, query: &Query) -> Option<&Answer> {
@@ -181,7 +186,8 @@ impl<'a> Walk<'a> {
         }
     }
 
-    /// Learns whether the relation at the end of a block holds.
+    /// Learns whether the relation at the end of a block holds. Only that two words differ is told
+    /// to the next block: that one of them isn't NIL may be asked there.
     pub(crate) fn learn_test(
         &mut self,
         relation: Relation,
@@ -197,7 +203,8 @@ impl<'a> Walk<'a> {
         } else {
             Form::none(self.alloc)
         };
-        self.learn(query, value)
+        let is_told = holds && relation == Relation::NotEqual;
+        self.add(query, value, is_told)
     }
 
     fn operand(&mut self, operand: Operand) -> Result<Form, NoMemory> {

@@ -202,8 +202,8 @@ impl<'a> Names<'a> {
         }
     }
 
-    /// A sum or another operator.
-    fn arithmetic(&self, op: MidOp<'a>) -> MidOp<'a> {
+    /// A sum, or an operator that gives a word for all words.
+    fn sum(&self, op: MidOp<'a>) -> MidOp<'a> {
         match op {
             MidOp::Move { to, from } => MidOp::Move {
                 to,
@@ -220,6 +220,26 @@ impl<'a> Names<'a> {
                 left: self.operand(left),
                 right: self.operand(right),
             },
+            MidOp::Index {
+                to,
+                array,
+                index,
+                words,
+                offset,
+            } => MidOp::Index {
+                to,
+                array: self.temp(array),
+                index: self.operand(index),
+                words,
+                offset,
+            },
+            _ => op,
+        }
+    }
+
+    /// A checked operator, or a comparison.
+    fn operator(&self, op: MidOp<'a>) -> MidOp<'a> {
+        match op {
             MidOp::Checked {
                 to,
                 operator,
@@ -243,19 +263,6 @@ impl<'a> Names<'a> {
                 relation,
                 left: self.operand(left),
                 right: self.operand(right),
-            },
-            MidOp::Index {
-                to,
-                array,
-                index,
-                words,
-                offset,
-            } => MidOp::Index {
-                to,
-                array: self.temp(array),
-                index: self.operand(index),
-                words,
-                offset,
             },
             _ => op,
         }
@@ -303,9 +310,9 @@ impl<'a> Names<'a> {
         }
     }
 
-    /// An operation. Each kind of them is renamed by one of the four, and left alone by the others.
+    /// An operation. Each kind of them is renamed by one of the five, and left alone by the others.
     pub(crate) fn op(&self, op: MidOp<'a>) -> Result<MidOp<'a>, NoMemory> {
-        self.point(self.effect(self.arithmetic(self.reading(op))))
+        self.point(self.effect(self.operator(self.sum(self.reading(op)))))
     }
 
     pub(crate) fn end(&self, end: End) -> End {

@@ -75,7 +75,8 @@ fn unchanged<'a>(p: &Proc<'a>) -> Shared<'a>
     }
 }
 
-/// What was written, where the check finds that it follows the procedure, which else stays as it is.
+/// What was written, where the check finds that it follows the procedure; else the procedure stays
+/// as it is.
 fn judged<'a>(
     alloc: Global,
     p: &Proc<'a>,

@@ -131,21 +131,24 @@ fn remains(slot: Option<u32>, tag: Tag) -> bool
     }
 }
 
+fn is_kept(slot: Option<u32>, known: &Known) -> bool
+    ensures { result ≡ stays slot known.now.query.tag }
+{
+    remains(slot, known.query.tag)
+}
+
 /// What is still known when memory has changed, or a slot of the activation's own.
 pub fn remaining(
     alloc: Global,
     slot: Option<u32>,
-    knowns: &[Known],
+    knowns: Vec<Known>,
 ) -> Result<Vec<Known>, AllocError>
-    ensures { IfOk result (λ v. v.items ≡ kept (stays slot) knowns.now) }
+    ensures { IfOk result (λ v. v.items ≡ kept (stays slot) knowns.items) }
 {
     let mut left = Vec::new(alloc);
     for known in knowns {
-        if remains(slot, known.query.tag) {
-            left.push(Known {
-                query: copied(alloc, &known.query)?,
-                value: known.value.copy(alloc)?,
-            })?;
+        if is_kept(slot, &known) {
+            left.push(known)?;
         }
     }
     Ok(left)

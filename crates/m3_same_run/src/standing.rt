@@ -15,6 +15,7 @@ use m3_mid::{Block, End, MidOp, Proc, Raised, Relation, Slot};
 use m3_same_forms::{Form, Known, Query, Setting, Symbol, Tag, asks, known, remaining};
 use std::alloc::{AllocError, Global};
 use std::marker::Model;
+use std::mem;
 
 /// What stays the same during a check: the slots of both frames, which temporaries the two have in
 /// common, and the right procedure.
@@ -93,7 +94,8 @@ impl<'a> Standing<'a> {
     pub(crate) fn forget(&mut self, alloc: Global, slot: Option<u32>) -> Result<(), AllocError>
         ensures { IfOk result (λ u. self.new ≡ check.forget (stays slot) self.old) }
     {
-        self.knowns = remaining(alloc, slot, &self.knowns)?;
+        let before = mem::replace(&mut self.knowns, Vec::new(alloc));
+        self.knowns = remaining(alloc, slot, before)?;
         Ok(())
     }
 
