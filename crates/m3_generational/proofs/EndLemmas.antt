@@ -18,7 +18,7 @@ use Rattle.m3_heap.proofs.WordLemmas.{kept-total}
 use Rattle.m3_heap.proofs.SemiLemmas.{words-told}
 use Rattle.m3_heap.proofs.FinalLemmas.{one-to-one, all-kept, reached-kept, done-moved, done-met}
 use Rattle.m3_heap.proofs.FinishLemmas.{IsFinished, done, finished-good, finished-rest}
-use Rattle.m3_generational.specs.Remembering.{Remembering, Fits, Finishes, marked_count}
+use Rattle.m3_generational.specs.Remembering.{Remembering, Fits, Finishes, AreForgotten, marked_count}
 use Rattle.m3_generational.specs.Collecting.{stayed, left_of, kept_of, minor_left, ArePlaced, IsKeeping, AreTraced, tenured_pointers}
 use Rattle.m3_generational.specs.Inside.{cells_seen, moves_seen, heap_seen, seen, AreResting, AreCollecting, IsGenerations}
 use Rattle.m3_generational.specs.declared.spaces.Spaces.{Spaces}
@@ -320,10 +320,10 @@ full-end shapes i v s' here there nursery left e =
 no-tenured : (h : Heap) → h.tenured ≡ unasked h → is_minor h ≡ false → h.tenured ≡ []
 no-tenured h is full = is ∙ ap (λ b. cond b (old_starts h.cells) []) full
 
-pub full-finishes : (shapes : List Shape) (i : Inside) (v : Remembering) (s' : Spaces) (here there nursery : Space) (left : Spaces) (marks : List Bool) (fulls before after : ℕ) → IsFullEnd shapes i v s' here there nursery left → fulls ≡ counted i.fulls
+pub full-finishes : (shapes : List Shape) (i : Inside) (v : Remembering) (s' : Spaces) (here there nursery : Space) (left : Spaces) (marks : List Bool) (fulls before after : ℕ) → IsFullEnd shapes i v s' here there nursery left → fulls ≡ counted i.fulls → AreForgotten marks
     → after + total_words (kept_of i.spaces).cells ≡ before + met shapes (left_of s') (kept_of s') ((kept_of s').base + total_words (kept_of s').cells) + total_words (kept_of s').cells
     → Finishes shapes v (record { heap = heap_seen false (exchanged s' here there nursery) left marks 0 i.minors fulls; remembered = marks }) before after
-full-finishes shapes i v s' here there nursery left marks fulls before after f count cost =
+full-finishes shapes i v s' here there nursery left marks fulls before after f count clear cost =
     let e = full-end shapes i v s' here there nursery left f in
     let s = exchanged s' here there nursery in
     let l = left_of i.spaces in
@@ -361,6 +361,7 @@ full-finishes shapes i v s' here there nursery left marks fulls before after f c
         young = ap total_words f.empty;
       };
       fits = end-fits shapes i v s' s left marks 0 i.minors fulls e;
+      forgotten = clear;
       cost = omega (arith, cost, was, now, pointers, watched);
     }
   where
@@ -439,11 +440,11 @@ all-tenured h is minor = is ∙ ap (λ b. cond b (old_starts h.cells) []) minor
 fits-then : (h : Heap) → is_minor h ≡ true → h.asked + total_words h.cells ≤ h.size
 fits-then h minor = leb-true (h.asked + total_words h.cells) h.size (and_parts (ltb 0 h.nursery) (leb (h.asked + total_words h.cells) h.size) minor).1
 
-pub minor-finishes : (shapes : List Shape) (i : Inside) (v : Remembering) (s' : Spaces) (nursery : Space) (left : Spaces) (marks : List Bool) (minors before after : ℕ) → IsMinorEnd shapes i v s' nursery left → minors ≡ counted i.minors
+pub minor-finishes : (shapes : List Shape) (i : Inside) (v : Remembering) (s' : Spaces) (nursery : Space) (left : Spaces) (marks : List Bool) (minors before after : ℕ) → IsMinorEnd shapes i v s' nursery left → minors ≡ counted i.minors → AreForgotten marks
     → after + tenured_pointers shapes (old_cells (minor_left i.spaces) i.spaces.here) i.spaces.found.value.cells + total_words i.spaces.here.cells
     ≡ before + marked_count (take i.spaces.tenured i.remembered) + met shapes (left_of s') (kept_of s') ((kept_of s').base + total_words (kept_of s').cells) + total_words (kept_of s').cells
     → Finishes shapes v (record { heap = heap_seen false (emptied s' nursery) left marks 0 minors i.fulls; remembered = marks }) before after
-minor-finishes shapes i v s' nursery left marks minors before after f count cost =
+minor-finishes shapes i v s' nursery left marks minors before after f count clear cost =
     let e = minor-end shapes i v s' nursery left f in
     let s = emptied s' nursery in
     let l = left_of i.spaces in
@@ -496,6 +497,7 @@ minor-finishes shapes i v s' nursery left marks minors before after f count cost
         young = ap total_words f.empty;
       };
       fits = end-fits shapes i v s' s left marks 0 minors i.fulls e;
+      forgotten = clear;
       cost = sums after before _ _ _ _ _ _ _ _ _ _ _ cost was now pointers watched here front;
     }
   where

@@ -1,5 +1,5 @@
 -- A heap with a nursery, as contracts see it.
-use Rattle.std.specs.Prelude.{◌≡◌, ℕ, ◌+◌, ◌-◌, ◌/◌, ◌≤◌, Bool, true, false, ◌&&◌, ◌||◌, nat_lt, if◌then◌else◌, List, [], ◌∷◌, take, slice_get, slice_index_or, Some}
+use Rattle.std.specs.Prelude.{◌≡◌, ℕ, ◌+◌, ◌-◌, ◌/◌, ◌≤◌, Bool, true, false, ◌&&◌, ◌||◌, nat_lt, if◌then◌else◌, List, [], ◌∷◌, take, slice_get, slice_index_or, slice_set, Some}
 use Rattle.std.proofs.Common.{sym, ap, ◌∙◌}
 use Rattle.std.proofs.Props.{props}
 use Rattle.std.proofs.lemmas.Bool.{false≢true}
@@ -58,6 +58,14 @@ FitsIn shapes cells remembered base = (start place word : ℕ) → nat_lt start 
 abbrev pub Fits : List Shape → Remembering → Type 0
 Fits shapes held = FitsIn shapes held.heap.cells held.remembered held.heap.base
 
+-- no word is remembered
+abbrev pub AreForgotten : List Bool → Type 0
+AreForgotten remembered = (place : ℕ) → slice_index_or remembered place false ≡ false
+
+-- what is remembered after a word was set, or couldn't be: a word of an old cell, and nothing else
+abbrev pub remembered_after : Remembering → ℕ → Bool → List Bool
+remembered_after held at is_set = if is_set && nat_lt at nursery_base then slice_set held.remembered (at - held.heap.base) true else held.remembered
+
 -- what a collection makes of it, where it ends well, with the steps before its end and behind it
 pub record Finishes (shapes : List Shape) (old new : Remembering) (before after : ℕ) : Type 0 where
   pub good : HasBadPointer shapes old.heap.cells (kept_starts old.heap.moves) → ⊥
@@ -67,6 +75,7 @@ pub record Finishes (shapes : List Shape) (old new : Remembering) (before after 
   pub counted : CountsOne old.heap new.heap
   pub halves : ChangesHalves old.heap new.heap
   pub fits : Fits shapes new
+  pub forgotten : AreForgotten new.remembered
   pub cost : CostsTrace shapes old.heap new.heap before after
 
 -- ---- facts with one proof at most, so that a store may keep them beside its fields

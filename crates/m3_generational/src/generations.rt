@@ -47,13 +47,14 @@ impl Model for Generations {
 }
 
 impl Generations {
-    ghost use Rattle.m3_generational.specs.Remembering.{new_generations};
+    ghost use Rattle.m3_generational.specs.Remembering.{new_generations, AreForgotten};
 
     /// No cells yet. Both halves have so many words, and the nursery has a quarter of that.
     pub fn new(alloc: Global, words: u64) -> Result<Generations, NoMemory>
         requires at_least { 64 ≤ words }
         requires at_most { words ≤ 67108864 }
-        ensures { IfOk result (λ generations. generations.heap ≡ new_generations words) }
+        ensures heap { IfOk result (λ generations. generations.heap ≡ new_generations words) }
+        ensures remembered { IfOk result (λ generations. AreForgotten generations.remembered) }
     {
         let here = Half::new(alloc, FIRST_BASE, words as usize)?;
         let there = Half::new(alloc, SECOND_BASE, words as usize)?;
@@ -94,7 +95,7 @@ impl Generations {
     ghost use Rattle.m3_heap.specs.Moves.{staying, forwarded, with_kept, kept_words, kept_starts};
     ghost use Rattle.m3_heap.specs.Reach.{IsBadPointer, HasBadPointer};
     ghost use Rattle.m3_heap.specs.Shapes.{Shape};
-    ghost use Rattle.m3_generational.specs.Remembering.{HasNursery, Fits, Finishes};
+    ghost use Rattle.m3_generational.specs.Remembering.{HasNursery, Fits, Finishes, remembered_after};
 
     /// As `free_words` of a store.
     pub fn free_words(&self) -> u64
@@ -131,6 +132,7 @@ impl Generations {
         requires high { 4611686018427387904 ≤ at }
         ensures value { result ≡ is_writable self.old.heap.cells at }
         ensures cells { self.new.heap.cells ≡ (if result then with_word self.old.heap.cells at word else self.old.heap.cells) }
+        ensures remembered { self.new.remembered ≡ remembered_after self.old at result }
         ensures rest { HasOtherWords self.old.heap self.new.heap }
         ensures fitting { (shapes : List Shape) → Fits shapes self.old → Fits shapes self.new }
         ensures sound { IsSoundHeap self.new.heap }
@@ -146,6 +148,7 @@ impl Generations {
         requires low { at < 4611686018427387904 }
         ensures value { result ≡ is_writable self.old.heap.cells at }
         ensures cells { self.new.heap.cells ≡ (if result then with_word self.old.heap.cells at word else self.old.heap.cells) }
+        ensures remembered { self.new.remembered ≡ remembered_after self.old at result }
         ensures rest { HasOtherWords self.old.heap self.new.heap }
         ensures fitting { (shapes : List Shape) → Fits shapes self.old → Fits shapes self.new }
         ensures sound { IsSoundHeap self.new.heap }
@@ -164,6 +167,7 @@ impl Generations {
         requires closed { self.old.heap.is_open ≡ false }
         ensures value { result ≡ is_writable self.old.heap.cells at }
         ensures cells { self.new.heap.cells ≡ (if result then with_word self.old.heap.cells at word else self.old.heap.cells) }
+        ensures remembered { self.new.remembered ≡ remembered_after self.old at result }
         ensures rest { HasOtherWords self.old.heap self.new.heap }
         ensures fitting { (shapes : List Shape) → Fits shapes self.old → Fits shapes self.new }
         ensures sound { IsSoundHeap self.new.heap }
@@ -260,7 +264,8 @@ impl Generations {
         self.left = Snapshot::of(&self.spaces);
         mem::swap(&mut self.spaces.here, &mut self.spaces.there);
         self.spaces.nursery.clear();
-        self.remembered.clear(self.spaces.here.size() as usize);
+        let size = self.spaces.here.size() as usize;
+        self.remembered.clear(size);
         self.fulls = one_more(self.fulls);
         true
     }
@@ -334,6 +339,7 @@ impl Generations {
         requires small { words ≤ 67108864 }
         requires fits { words ≤ self.old.heap.nursery }
         ensures allots { Allots self.old.heap kind words (Some result) self.new.heap }
+        ensures remembered { self.new.remembered ≡ self.old.remembered }
         ensures fitting { (shapes : List Shape) → Fits shapes self.old → Fits shapes self.new }
         ensures sound { IsSoundHeap self.new.heap }
         ensures nursery { HasNursery self.new.heap }
@@ -350,6 +356,7 @@ impl Generations {
         requires small { words ≤ 67108864 }
         requires large { self.old.heap.nursery < words }
         ensures allots { Allots self.old.heap kind words (Some result) self.new.heap }
+        ensures remembered { self.new.remembered ≡ self.old.remembered }
         ensures fitting { (shapes : List Shape) → Fits shapes self.old → Fits shapes self.new }
         ensures sound { IsSoundHeap self.new.heap }
         ensures nursery { HasNursery self.new.heap }
@@ -363,6 +370,7 @@ impl Generations {
         requires closed { self.old.heap.is_open ≡ false }
         requires full { self.old.heap.free < words }
         ensures allots { (kind : ℕ) → Allots self.old.heap kind words None self.new.heap }
+        ensures remembered { self.new.remembered ≡ self.old.remembered }
         ensures fitting { (shapes : List Shape) → Fits shapes self.old → Fits shapes self.new }
         ensures sound { IsSoundHeap self.new.heap }
         ensures nursery { HasNursery self.new.heap }
@@ -375,6 +383,7 @@ impl Generations {
         requires closed { self.old.heap.is_open ≡ false }
         requires some { 1 ≤ words }
         ensures allots { Allots self.old.heap kind words result self.new.heap }
+        ensures remembered { self.new.remembered ≡ self.old.remembered }
         ensures fitting { (shapes : List Shape) → Fits shapes self.old → Fits shapes self.new }
         ensures sound { IsSoundHeap self.new.heap }
         ensures nursery { HasNursery self.new.heap }

@@ -43,7 +43,7 @@ invariant_of-self-2 g c =
 
 pub returns-clause-done : goal.returns-clause-done
 returns-clause-done g c =
-    minor-finishes (g.M.Maps.shapes c.args.maps.now) c.self.inside c.args.self.now c.trace_minor-is_traced.new.spaces c.clear-2.new.self c.of.result.value c.clear-3.new.self c.one_more-self-inside.result c.args.steps.now c.trace_minor-is_traced.new.steps (ends g c) c.one_more-self-inside.ensures c.if-not-is_traced.ensures.cost
+    minor-finishes (g.M.Maps.shapes c.args.maps.now) c.self.inside c.args.self.now c.trace_minor-is_traced.new.spaces c.clear-2.new.self c.of.result.value c.clear-3.new.self c.one_more-self-inside.result c.args.steps.now c.trace_minor-is_traced.new.steps (ends g c) c.one_more-self-inside.ensures c.clear-3.ensures.clear c.if-not-is_traced.ensures.cost
 
 pub returns-clause-sound : goal.returns-clause-sound
 returns-clause-sound g c = end-sound (g.M.Maps.shapes c.args.maps.now) c.self.inside c.args.self.now c.trace_minor-is_traced.new.spaces (emptied c.trace_minor-is_traced.new.spaces c.clear-2.new.self) c.of.result.value c.clear-3.new.self 0 c.one_more-self-inside.result c.self.inside.fulls (minor-end (g.M.Maps.shapes c.args.maps.now) c.self.inside c.args.self.now c.trace_minor-is_traced.new.spaces c.clear-2.new.self c.of.result.value (ends g c))
