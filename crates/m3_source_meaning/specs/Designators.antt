@@ -22,6 +22,11 @@ abbrev pub stands_for : Name → Thing → Thing
 stands_for name (Is v) = At (whole name)
 stands_for name (At place) = At place
 
+-- the place that a name stands for, if it does
+abbrev pub place_in : Thing → Option Thing
+place_in (At place) = Some (At place)
+place_in (Is v) = None
+
 -- so many activations outwards
 abbrev pub outwards : (steps : ℕ) → Store → ℕ → Option ℕ
 outwards zero store activation = Some activation
@@ -44,13 +49,26 @@ module _ (p : Program) (here : Here) where
   abbrev pub own_name : ℕ → Evaluates Thing
   own_name x = seeing (λ m. option_map (stands_for (Own x)) (thing_in m.own x))
 
+  -- it is the variable of the activation that speaks, which shares it with nobody
+  abbrev pub is_own : (level variable : ℕ) → Bool
+  is_own level x = (level == here.level) && not (is_shared_here x)
+
   abbrev pub named_by : (is_own : Bool) → (level variable : ℕ) → Evaluates Thing
   named_by true level x = own_name x
   named_by false level x = activation_at level >>= shared_name x
 
   -- THE VARIABLE of a procedure at a level around this place: that activation's
   abbrev pub named : (level variable : ℕ) → Evaluates Thing
-  named level x = named_by ((level == here.level) && not (is_shared_here x)) level x
+  named level x = named_by (is_own level x) level x
+
+  abbrev pub alias_by : (is_own : Bool) → (level variable : ℕ) → Evaluates Thing
+  alias_by true level x = seeing (λ m. option_and_then place_in (thing_in m.own x))
+  alias_by false level x = activation_at level
+      >>= (λ a. seeing (λ m. option_and_then place_in (shared_thing m.store a x)))
+
+  -- THE PLACE that a name of WITH, a VAR or a READONLY formal stands for
+  abbrev pub alias : (level variable : ℕ) → Evaluates Thing
+  alias level x = alias_by (is_own level x) level x
 
   -- ---- steps
 

@@ -16,7 +16,7 @@ use Rattle.m3_values.specs.Constants.{constant_at}
 use Rattle.m3_values.specs.Places.{Global, Thing, Is, At, whole}
 use Rattle.m3_source_meaning.specs.Meanings.{Evaluates, given, undefined, there, ◌>>=◌}
 use Rattle.m3_source_meaning.specs.Phrases.{Here, Expression, Chained, Based, Before, Stepped, Operated, Adding, Valued, Passing, By_value, By_place, Served}
-use Rattle.m3_source_meaning.specs.Designators.{named, subarray, read_step, keep_step, dereferenced, field_step, object_field_of, element_step, by_value, chained, activation_at}
+use Rattle.m3_source_meaning.specs.Designators.{named, alias, subarray, read_step, keep_step, dereferenced, field_step, object_field_of, element_step, by_value, chained, activation_at}
 use Rattle.m3_source_meaning.specs.Operators.{prefixed, operations, converted, type_test, array_limit}
 use Rattle.m3_source_meaning.specs.Constructors.{with_one, with_all, set_of, array_value, record_of, new_cell}
 use Rattle.m3_source_meaning.specs.Calls.{call_of, method_call}
@@ -76,7 +76,7 @@ module _ (p : Program) (here : Here) where
   abbrev pub base_of : Over layer.Base-F → Based
   base_of (layer.Global x kind) = based (Some kind.0) (λ at. given (At (whole (Global x))))
   base_of (layer.Local level x kind) = based (Some kind.0) (λ at. named p here level x)
-  base_of (layer.Alias level x kind) = based (Some kind.0) (λ at. named p here level x)
+  base_of (layer.Alias level x kind) = based (Some kind.0) (λ at. alias p here level x)
   base_of (layer.Inner chain) = record {
     kind = chain.now.kind;
     thing = λ at. chain.now.thing;

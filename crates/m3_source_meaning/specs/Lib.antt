@@ -20,3 +20,4 @@ pub mod Programs
 pub mod Reach
 pub mod Trees
 pub mod Room
+pub mod Laws

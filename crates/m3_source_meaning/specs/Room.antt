@@ -1,10 +1,10 @@
 -- WHERE THE MACHINE MAY LACK ROOM: what is known of the thread that goes, where a heap of so many
 -- words has no room for a cell, or a stack of so many words none for a frame.
-use Rattle.std.specs.Prelude.{◌≡◌, ℕ, zero, suc, pos, ◌+◌, ◌*◌, ◌<◌, List, [], ◌∷◌, length, map, Option, Some, None}
+use Rattle.std.specs.Prelude.{◌≡◌, ℕ, zero, suc, pos, ◌+◌, ◌*◌, ◌<◌, List, length, map, Option, Some}
 use Rattle.std.specs.Option.{option_map_or}
 use Rattle.m3_types.specs.declared.nodes.TypeNode.{TypeNode}
 use Rattle.m3_types.specs.declared.nodes.TypeNode.TheVariants as node
-use Rattle.m3_runs.specs.Languages.{New, Cell, ThreadCell, Action, Calls, Thread, Parts}
+use Rattle.m3_runs.specs.Languages.{New, Cell, Calls, Thread, Parts}
 use Rattle.m3_runs.specs.States.{thread_at}
 use Rattle.m3_runs.specs.Follows.{Needs}
 use Rattle.m3_values.specs.Values.{Ordinal, Nil}
