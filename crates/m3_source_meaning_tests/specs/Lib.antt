@@ -1,4 +1,2 @@
 pub mod Trees
 pub mod Example
-pub mod Laws
-pub mod Growing

@@ -1,78 +1,9 @@
-//! Small programs whose meaning is computed, and laws of the meaning of checked programs.
+//! A small program whose meaning is computed.
 #![tactic(auto)]
 
 ghost use Rattle.m3_source_meaning_tests.specs.Example.{ExamplePutsThree};
-ghost use Rattle.m3_source_meaning_tests.specs.Growing.{StoreGrows};
-ghost use Rattle.m3_source_meaning_tests.specs.Laws.{HasOneRun, GoesOn, OutputGrows, BudgetEnds, EveryTurnEnds, LeftFaultsFirst};
-ghost use Rattle.m3_source_meaning_tests.specs.Laws.{IsAssociative, FinallyNothing, FinallyReplaces, NothingHandled, ElseHandlesAll, ExitEndsLoop};
 
 /// A program that puts `1 + 2` and then divides by 0 puts 3 and ends with the fault of that line.
 pub fn example_puts_three()
     ensures { ExamplePutsThree }
-{}
-
-/// A program has one run under each schedule.
-pub fn one_run()
-    ensures { HasOneRun }
-{}
-
-/// A run of more turns goes on from where a run of fewer came, and an outcome is final.
-pub fn goes_further()
-    ensures { GoesOn }
-{}
-
-/// The output only grows, at its end.
-pub fn output_grows()
-    ensures { OutputGrows }
-{}
-
-/// Each turn passes one point, and no run passes more than it may.
-pub fn budget_ends()
-    ensures { BudgetEnds }
-{}
-
-/// An activation has a next move, whatever it is told.
-pub fn every_turn_ends()
-    ensures { EveryTurnEnds }
-{}
-
-/// The fault of a left operand comes before anything of the right one.
-pub fn left_faults_first()
-    ensures { LeftFaultsFirst }
-{}
-
-/// Statements are in order, however they are put together.
-pub fn associative()
-    ensures { IsAssociative }
-{}
-
-/// TRY FINALLY without a last part is its body.
-pub fn finally_nothing()
-    ensures { FinallyNothing }
-{}
-
-/// A RETURN in the last part replaces every way in which the body was left.
-pub fn finally_replaces()
-    ensures { FinallyReplaces }
-{}
-
-/// TRY EXCEPT without handlers is its body.
-pub fn nothing_handled()
-    ensures { NothingHandled }
-{}
-
-/// The ELSE of a TRY EXCEPT handles RETURN and EXIT too.
-pub fn else_handles_all()
-    ensures { ElseHandlesAll }
-{}
-
-/// A loop whose body is EXIT does nothing.
-pub fn exit_ends_loop()
-    ensures { ExitEndsLoop }
-{}
-
-/// An activation only lets the store grow: cells and activations stay, a cell keeps its type and an
-/// activation the one around it.
-pub fn store_grows()
-    ensures { StoreGrows }
 {}

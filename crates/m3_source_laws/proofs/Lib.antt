@@ -1,0 +1,12 @@
+pub mod Laws
+pub mod Uses
+pub mod Safe
+pub mod SafeExpressions
+pub mod SafeRoutines
+pub mod SafeTrees
+pub mod SafeStatements
+pub mod SafeProcedures
+pub mod Everywhere
+pub mod GrowingStores
+pub mod Turns
+pub mod OwnStays

@@ -1,5 +1,0 @@
-use Rattle.m3_source_meaning_tests.proofs.Laws.{associative}
-use Rattle.m3_source_meaning_tests.proofs.associative.Goals as goal
-
-pub returns : goal.returns
-returns d = associative

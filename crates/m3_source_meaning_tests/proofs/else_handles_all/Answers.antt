@@ -1,5 +1,0 @@
-use Rattle.m3_source_meaning_tests.proofs.Laws.{else_handles_all}
-use Rattle.m3_source_meaning_tests.proofs.else_handles_all.Goals as goal
-
-pub returns : goal.returns
-returns d = else_handles_all

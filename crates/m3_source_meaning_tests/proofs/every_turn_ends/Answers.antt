@@ -1,5 +1,0 @@
-use Rattle.m3_source_meaning_tests.proofs.Laws.{every_turn_ends}
-use Rattle.m3_source_meaning_tests.proofs.every_turn_ends.Goals as goal
-
-pub returns : goal.returns
-returns d = every_turn_ends

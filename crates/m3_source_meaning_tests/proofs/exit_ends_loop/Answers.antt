@@ -1,5 +1,0 @@
-use Rattle.m3_source_meaning_tests.proofs.Laws.{exit_ends_loop}
-use Rattle.m3_source_meaning_tests.proofs.exit_ends_loop.Goals as goal
-
-pub returns : goal.returns
-returns d = exit_ends_loop

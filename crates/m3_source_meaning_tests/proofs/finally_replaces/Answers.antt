@@ -1,5 +1,0 @@
-use Rattle.m3_source_meaning_tests.proofs.Laws.{finally_replaces}
-use Rattle.m3_source_meaning_tests.proofs.finally_replaces.Goals as goal
-
-pub returns : goal.returns
-returns d = finally_replaces

@@ -1,5 +1,0 @@
-use Rattle.m3_source_meaning_tests.proofs.Laws.{left_faults_first}
-use Rattle.m3_source_meaning_tests.proofs.left_faults_first.Goals as goal
-
-pub returns : goal.returns
-returns d = left_faults_first

@@ -1,5 +1,0 @@
-use Rattle.m3_source_meaning_tests.proofs.Laws.{nothing_handled}
-use Rattle.m3_source_meaning_tests.proofs.nothing_handled.Goals as goal
-
-pub returns : goal.returns
-returns d = nothing_handled

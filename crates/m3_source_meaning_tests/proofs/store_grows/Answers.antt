@@ -1,5 +1,0 @@
-use Rattle.m3_source_meaning_tests.proofs.SafeProcedures.{store_grows}
-use Rattle.m3_source_meaning_tests.proofs.store_grows.Goals as goal
-
-pub returns : goal.returns
-returns d = store_grows
