@@ -1,0 +1,190 @@
+-- Well typed expressions are defined.
+use Rattle.std.proofs.Common.{◌≡◌, ℕ, true, List, [], ◌∷◌, map, Option, Some, None, refl, sym, ap, ◌∙◌, subst}
+use Rattle.m3_base.specs.declared.places.Pos.{Pos}
+use Rattle.m3_types.specs.declared.nodes.Field.{Field}
+use Rattle.m3_types.specs.declared.nodes.TypeId.{TypeId}
+use Rattle.m3_core.specs.declared.calls.Actual.TheOpen as layer
+use Rattle.m3_core.specs.declared.chains.Base.{Base}
+use Rattle.m3_core.specs.declared.chains.Chain.{Chain}
+use Rattle.m3_core.specs.declared.chains.Step.{Step}
+use Rattle.m3_core.specs.declared.exprs.Conversion.TheVariants as conversion
+use Rattle.m3_core.specs.declared.exprs.CoreExpr.{CoreExpr}
+use Rattle.m3_core.specs.declared.exprs.FieldValue.{FieldValue}
+use Rattle.m3_core.specs.declared.exprs.Operation.{Operation}
+use Rattle.m3_core.specs.declared.exprs.SetElement.{SetElement}
+use Rattle.m3_values.specs.Values as value
+use Rattle.m3_values.specs.Values.{Value}
+use Rattle.m3_values.specs.Programs.{Program}
+use Rattle.m3_values.specs.Types.{node_of, unveiled, unveiled_in}
+use Rattle.m3_values.specs.Places.{Global, Is, At, whole}
+use Rattle.m3_values.specs.Store.{Store, has_type, is_text_type}
+use Rattle.m3_source_meaning.specs.Meanings.{Evaluates, given, there, ◌>>=◌}
+use Rattle.m3_source_meaning.specs.Phrases.{Here, Expression, Operated, Valued}
+use Rattle.m3_source_meaning.specs.Assignment.{type_of_variable}
+use Rattle.m3_source_meaning.specs.Expressions.{expression, chain, plain, of_operations, type_of}
+use Rattle.m3_source_meaning.proofs.Trees as trees
+use Rattle.m3_source_typing.specs.ValueTypes.{class_in, class_of, HasType}
+use Rattle.m3_source_typing.specs.Sound.{Gives, IsReadable, IsOfType}
+use Rattle.m3_source_typing.specs.Operators as rule
+use Rattle.m3_source_typing.specs.Operators.{is_text_in}
+use Rattle.m3_source_typing.specs.Expressions as typed
+use Rattle.m3_source_typing.specs.Expressions.{Given, PlaceOf, ValueOf, IsExpression, IsRow, AreSetElements, AreFieldValues, IsChain, IsBase, AreSteps, IsStep}
+use Rattle.m3_source_typing.specs.Laws.{TypesStay, ExpressionsAreSound}
+use Rattle.m3_source_typing.proofs.Staying.{type_stays}
+use Rattle.m3_source_typing.proofs.Combining.{given_sound, bind_sound}
+use Rattle.m3_source_typing.proofs.Operands as operand
+use Rattle.m3_source_typing.proofs.Operating.{Typed, typed_given, text_node}
+use Rattle.m3_source_typing.proofs.Places as places
+use Rattle.m3_source_typing.proofs.Places.{IsGiven, TypedStep, TypedSteps, TypedBase, TypedChain, thing_given, readable, global_place, read_sound, keep_sound, field_sound, element_sound, chain_sound, of_chain_sound, own_sound, given_stays}
+use Rattle.m3_source_typing.proofs.Rows as rows
+use Rattle.m3_source_typing.proofs.Rows.{TypedRow, row_sound, prefix_form, range_form, narrow_form, test_form}
+use Rattle.m3_source_typing.proofs.Constructing as parts
+use Rattle.m3_source_typing.proofs.Constructing.{TypedElements, TypedFields, field_of, set_form, record_form}
+
+pub types_stay : TypesStay
+types_stay p s t v kind l h = type_stays p s t l v kind h
+
+module _ (p : Program) (own : ℕ → Option ℕ) (here : Here) where
+  -- what is no place can be read
+  unread_sound : (e : Evaluates Value) (t : ℕ) → ((s : Store) → Gives p own s (Typed p t) e) → (s : Store) → Gives p own s (IsReadable p own) (e >>= (λ v. given (Is v)))
+  unread_sound e t h s = bind_sound p own s (Typed p t) (IsReadable p own) _ _ (h s) (λ v k l q. given_sound p own k (IsReadable p own) (Is v) (λ m g. record { reads = λ n d typed. (v, refl) }))
+
+  plain_typed : (at : Pos) (kind : TypeId) (e : Evaluates Value) → ((s : Store) → Gives p own s (Typed p kind.0) e) → IsOfType p own (plain at kind e) kind.0
+  plain_typed at kind e h = record { value = h; unread = unread_sound e kind.0 h }
+
+  operations_typed : (at : Pos) (first : Expression) (os : List Operated) (t result : ℕ) → IsOfType p own first t → TypedRow p own t os result → IsOfType p own (of_operations at first os) result
+  operations_typed at first os t result is row = record {
+    value = λ s. row_sound p own first t result os row s is;
+    unread = unread_sound _ result (λ s. row_sound p own first t result os row s is);
+  }
+
+  literal : (s : Store) (v : Value) (t : ℕ) → HasType p s v t → Gives p own s (Typed p t) (given v)
+  literal s v t h = typed_given p own s t v h
+
+  text_is : (s : Store) (n t : ℕ) → is_text_in (node_of p t) ≡ true → has_type p s t (value.Text n) ≡ Some true
+  text_is s n t h =
+      let is = text_node p own (node_of p t) h in
+      let bare : unveiled p t ≡ t = ap (unveiled_in p t) is in
+      ap (λ k. Some (is_text_type p (node_of p k))) bare ∙ ap (λ o. Some (is_text_type p o)) is
+
+  widen : (e : Expression) (t u : ℕ) → IsOfType p own e t → rule.is_ordinal p t ≡ true → rule.is_ordinal p u ≡ true → rule.is_part p t u ≡ true → IsOfType p own e u
+  widen e t u is from to part = record {
+    value = λ s. bind_sound p own s (Typed p t) (Typed p u) e.value given (is.value s)
+        (λ v k l q. let z = operand.number_of p k v t from q in typed_given p own k u v (subst (λ w. HasType p k w u) (sym z.1) (operand.part_typed p k z.0 t u to part z.2)));
+    unread = is.unread;
+  }
+
+  mutual
+    pub expression_sound : (e : CoreExpr) (t : ℕ) → IsExpression p here own e t → IsOfType p own (expression p here e) t
+    expression_sound _ _ (typed.number at kind z numbers within) =
+        subst (λ e. IsOfType p own e kind.0) (sym (trees.expression_is p here (layer.Number at kind z)))
+        (plain_typed at kind _ (λ s. literal s (value.Ordinal z) kind.0 (rows.number_class p own (class_of p kind.0) numbers, within)))
+    expression_sound _ _ (typed.text at kind n is there) =
+        subst (λ e. IsOfType p own e kind.0) (sym (trees.expression_is p here (layer.Text at kind n)))
+        (plain_typed at kind _ (λ s. literal s (value.Text n) kind.0 (ap class_in (text_node p own (node_of p kind.0) is), text_is s n kind.0 is, there)))
+    expression_sound _ _ (typed.nil at kind is) =
+        subst (λ e. IsOfType p own e kind.0) (sym (trees.expression_is p here (layer.Nil at kind)))
+        (plain_typed at kind _ (λ s. literal s value.Nil kind.0 is))
+    expression_sound _ _ (typed.procedure at kind n is of) =
+        subst (λ e. IsOfType p own e kind.0) (sym (trees.expression_is p here (layer.Procedure at kind n)))
+        (plain_typed at kind _ (λ s. literal s (value.Procedure n None) kind.0 (is, of)))
+    expression_sound _ _ (typed.constant at kind n v is of) =
+        subst (λ e. IsOfType p own e kind.0) (sym (trees.expression_is p here (layer.Constant at kind n)))
+        (plain_typed at kind _ (λ s. subst (λ o. Gives p own s (Typed p kind.0) (there o)) (sym is) (literal s v kind.0 (of s))))
+    expression_sound _ _ (typed.chain c t is) =
+        subst (λ e. IsOfType p own e t) (sym (trees.expression_is p here (layer.Chain c)))
+        (of_chain_sound p own here (chain p here c.now) t (chain_typed c.now (ValueOf t) is))
+    expression_sound _ _ (typed.prefixed at kind os e t is fits) =
+        subst (λ e. IsOfType p own e kind.0) (sym (trees.expression_is p here (layer.Prefixed at kind os e)))
+        (plain_typed at kind _ (prefix_form p own os.now (expression p here e.now) t kind.0 (expression_sound e.now t is) fits))
+    expression_sound _ _ (typed.operations at first rest t result is row) =
+        subst (λ e. IsOfType p own e result) (sym (trees.expression_is p here (layer.Operations at first rest)))
+        (operations_typed at (expression p here first.now) (map (trees.operation p here) rest.now) t result (expression_sound first.now t is) (row_typed t rest.now result row))
+    expression_sound _ _ (typed.set_of at kind elements member is numbers all) =
+        subst (λ e. IsOfType p own e kind.0) (sym (trees.expression_is p here (layer.SetOf at kind elements)))
+        (plain_typed at kind _ (λ s. set_form p own kind.0 member is numbers (map (trees.set_element p here) elements.now) (elements_typed member elements.now all) s [] tt))
+    expression_sound _ _ (typed.record_of at kind fields ns is all each) =
+        let f = fields_typed _ fields.now ns all in
+        subst (λ e. IsOfType p own e kind.0) (sym (trees.expression_is p here (layer.RecordOf at kind fields)))
+        (plain_typed at kind _ (record_form p own kind.0 (map (trees.field p here) fields.now) is f.0 (subst (typed.HasEachField _) (sym f.1) each)))
+    expression_sound _ _ (typed.ranged at kind e t is from to) =
+        subst (λ e. IsOfType p own e kind.0) (sym (trees.expression_is p here (layer.Convert at kind conversion.Range e)))
+        (plain_typed at kind _ (range_form p own at (expression p here e.now) t kind.0 (expression_sound e.now t is) from to))
+    expression_sound _ _ (typed.narrowed at kind e t is from to) =
+        subst (λ e. IsOfType p own e kind.0) (sym (trees.expression_is p here (layer.Convert at kind conversion.Narrow e)))
+        (plain_typed at kind _ (narrow_form p own at (expression p here e.now) t kind.0 (expression_sound e.now t is) from to))
+    expression_sound _ _ (typed.tested at kind e other t is from boolean) =
+        subst (λ e. IsOfType p own e kind.0) (sym (trees.expression_is p here (layer.TypeTest at kind e other)))
+        (plain_typed at kind _ (test_form p own (expression p here e.now) t other.0 kind.0 (expression_sound e.now t is) from boolean))
+    expression_sound _ _ (typed.widened e t wider is from to part) = widen (expression p here e) t wider (expression_sound e t is) from to part
+
+    row_typed : (t : ℕ) (os : List Operation) (result : ℕ) → IsRow p here own t os result → TypedRow p own t (map (trees.operation p here) os) result
+    row_typed _ _ _ (typed.last t) = rows.none t
+    row_typed _ _ _ (typed.next t right result o at e kind os is fits row) =
+        subst (λ x. TypedRow p own t (x ∷ map (trees.operation p here) os) result) (sym (trees.operation_is p here (record { operator = o; pos = at; right = e; kind = kind })))
+        (rows.more t right kind.0 result (record { operator = o; pos = at; right = expression p here e.now; kind = Some kind.0 }) (map (trees.operation p here) os) (expression_sound e.now right is) fits (row_typed kind.0 os result row))
+
+    elements_typed : (member : ℕ) (es : List SetElement) → AreSetElements p here own member es → TypedElements p own member (map (trees.set_element p here) es)
+    elements_typed _ _ (typed.no_elements member) = parts.no_elements
+    elements_typed _ _ (typed.one_element member e es is more) =
+        subst (λ x. TypedElements p own member (x ∷ map (trees.set_element p here) es)) (sym (trees.set_element_is p here (layer.One e)))
+        (parts.one_element (expression p here e.now) (map (trees.set_element p here) es) (expression_sound e.now member is) (elements_typed member es more))
+
+    fields_typed : (fields : List Field) (vs : List FieldValue) (ns : List ℕ) → AreFieldValues p here own fields vs ns → TypedFields p own fields (map (trees.field p here) vs) × (map field_of (map (trees.field p here) vs) ≡ ns)
+    fields_typed _ _ _ (typed.no_fields fields) = (parts.no_fields, refl)
+    fields_typed _ _ _ (typed.one_field fields n f e vs ns there is more) =
+        let rest = fields_typed fields vs ns more in
+        let v : Valued = record { owner = None; field = n; value = expression p here e.now } in
+        subst (λ x. TypedFields p own fields (x ∷ map (trees.field p here) vs) × (map field_of (x ∷ map (trees.field p here) vs) ≡ n ∷ ns)) (sym (trees.field_is p here (record { field = n; value = e })))
+        (parts.one_field v (map (trees.field p here) vs) (subst (parts.IsForField p own (expression p here e.now)) (sym there) (expression_sound e.now f.kind.0 is)) rest.0, ap (λ ms. n ∷ ms) rest.1)
+
+    chain_typed : (c : Chain) (g : Given) → IsChain p here own c g → TypedChain p own here (chain p here c) g
+    chain_typed _ _ (typed.steps at base row kind g h is all) =
+        subst (λ c. TypedChain p own here c h) (sym (trees.chain_is p here (record { pos = at; base = base; steps = row; kind = kind })))
+        (chain_sound p own here at (trees.base p here base) g h (map (trees.step p here) row.now) (type_of kind) (base_typed base g is) (steps_typed g row.now h all))
+
+    base_typed : (b : Base) (g : Given) → IsBase p here own b g → TypedBase p own here (trees.base p here b) g
+    base_typed _ _ (typed.global x kind v is) =
+        subst (λ b. TypedBase p own here b (PlaceOf (type_of_variable v.kind))) (sym (trees.base_is p here (layer.Global x kind)))
+        (record {
+          thing = λ at s. thing_given p own (PlaceOf (type_of_variable v.kind)) s (At (whole (Global x))) (global_place p own s x v is);
+          unread = λ at s. given_sound p own s (IsReadable p own) (At (whole (Global x))) (λ u l. readable p own (PlaceOf (type_of_variable v.kind)) u (At (whole (Global x))) (global_place p own u x v is));
+        })
+    base_typed _ _ (typed.own_variable level x kind t mine is) =
+        subst (λ b. TypedBase p own here b (PlaceOf t)) (sym (trees.base_is p here (layer.Local level x kind)))
+        (record {
+          thing = λ at s. own_sound p own here level x t mine is s;
+          unread = λ at s. bind_sound p own s (IsGiven p own (PlaceOf t)) (IsReadable p own) _ given (own_sound p own here level x t mine is s) (λ thing u l q. given_sound p own u (IsReadable p own) thing (λ w k. readable p own (PlaceOf t) w thing (given_stays p own (PlaceOf t) u w thing k q)));
+        })
+    base_typed _ _ (typed.inner c g is) =
+        let known = chain_typed c.now g is in
+        subst (λ b. TypedBase p own here b g) (sym (trees.base_is p here (layer.Inner c)))
+        (record { thing = λ at s. known.thing s; unread = λ at s. known.unread s })
+    base_typed _ _ (typed.value e t is) =
+        let known = expression_sound e.now t is in
+        subst (λ b. TypedBase p own here b (ValueOf t)) (sym (trees.base_is p here (layer.Base::Value e)))
+        (record {
+          thing = λ at s. bind_sound p own s (Typed p t) (IsGiven p own (ValueOf t)) _ _ (known.value s) (λ v u l q. thing_given p own (ValueOf t) u (Is v) q);
+          unread = λ at s. known.unread s;
+        })
+
+    steps_typed : (g : Given) (row : List Step) (h : Given) → AreSteps p here own g row h → TypedSteps p own here g (map (trees.step p here) row) h
+    steps_typed _ _ _ (typed.no_steps g) = places.none g
+    steps_typed _ _ _ (typed.one_step g h k s row is more) = places.next g h k (trees.step p here s) (map (trees.step p here) row) (step_typed g s h is) (steps_typed h row k more)
+
+    step_typed : (g : Given) (s : Step) (h : Given) → IsStep p here own g s h → TypedStep p own here g (trees.step p here s) h
+    step_typed _ _ _ (typed.read kind t) =
+        subst (λ x. TypedStep p own here (PlaceOf t) x (ValueOf t)) (sym (trees.step_is p here (layer.Read kind)))
+        (record { goes = λ before s thing f. read_sound p own here t s thing f })
+    step_typed _ _ _ (typed.keep kind t) =
+        subst (λ x. TypedStep p own here (ValueOf t) x (PlaceOf t)) (sym (trees.step_is p here (layer.Keep kind)))
+        (record { goes = λ before s thing f. keep_sound p own here t s thing f })
+    step_typed _ _ _ (typed.field n kind t f is there) =
+        subst (λ x. TypedStep p own here (PlaceOf t) x (PlaceOf f.kind.0)) (sym (trees.step_is p here (layer.Field n kind)))
+        (record { goes = λ before s thing g. field_sound p own here n t f is there s thing g })
+    step_typed _ _ _ (typed.fixed_element index kind t e i size below is of sizes indexed numbers) =
+        subst (λ x. TypedStep p own here (PlaceOf t) x (PlaceOf e)) (sym (trees.step_is p here (layer.Element index kind)))
+        (record { goes = λ before s thing g. element_sound p own here (expression p here index.now) t e i size below is of sizes (expression_sound index.now i indexed) numbers before.kind s thing g })
+
+pub expressions_are_sound : ExpressionsAreSound
+expressions_are_sound p here own e t is = expression_sound p own here e t is

@@ -1,0 +1,12 @@
+pub mod Staying
+pub mod Combining
+pub mod Operands
+pub mod Operating
+pub mod Rows
+pub mod Constructing
+pub mod Places
+pub mod Expressions
+pub mod Leaving
+pub mod Repeating
+pub mod Variables
+pub mod Statements

@@ -1,0 +1,163 @@
+-- WELL TYPED EXPRESSIONS: one rule for each form of the checked tree. The forms without a rule are
+-- named in docs/PROOFS.md.
+use Rattle.std.specs.Prelude.{◌≡◌, ℕ, ℤ, ◌==◌, ◌<◌, true, List, [], ◌∷◌, length, Option, Some, slice_get}
+use Rattle.std.specs.Borrow.{Bor}
+use Rattle.std.specs.List.{list_any}
+use Rattle.m3_base.specs.declared.places.Pos.{Pos}
+use Rattle.m3_types.specs.declared.nodes.Field.{Field}
+use Rattle.m3_types.specs.declared.nodes.TypeId.{TypeId}
+use Rattle.m3_core.specs.declared.calls.Actual.TheOpen as layer
+use Rattle.m3_core.specs.declared.chains.Base.{Base, roll-Base}
+use Rattle.m3_core.specs.declared.chains.Chain.{Chain, roll-Chain}
+use Rattle.m3_core.specs.declared.chains.Step.{Step, roll-Step}
+use Rattle.m3_core.specs.declared.exprs.Conversion.TheVariants as conversion
+use Rattle.m3_core.specs.declared.exprs.CoreExpr.{CoreExpr, roll-CoreExpr}
+use Rattle.m3_core.specs.declared.exprs.FieldValue.{FieldValue, roll-FieldValue}
+use Rattle.m3_core.specs.declared.exprs.Operation.{Operation, roll-Operation}
+use Rattle.m3_core.specs.declared.exprs.Operator.{Operator}
+use Rattle.m3_core.specs.declared.exprs.Prefix.{Prefix}
+use Rattle.m3_core.specs.declared.exprs.SetElement.{SetElement, roll-SetElement}
+use Rattle.m3_core.specs.declared.program.VarDef.{VarDef}
+use Rattle.m3_core.specs.declared.values.ValueId.{ValueId}
+use Rattle.m3_values.specs.Values.{Value}
+use Rattle.m3_values.specs.Programs.{Program, procedure_at}
+use Rattle.m3_values.specs.Constants.{constant_at}
+use Rattle.m3_values.specs.Store.{Store}
+use Rattle.m3_source_meaning.specs.Phrases.{Here}
+use Rattle.m3_source_meaning.specs.Designators.{is_own}
+use Rattle.m3_source_meaning.specs.Assignment.{type_of_variable}
+use Rattle.m3_values.specs.Types.{bounds, node_of, element, type_sizes}
+use Rattle.m3_source_typing.specs.ValueTypes.{OfProcedures, OfRecords, OfArrays, HasType, class_of, member_in, record_fields, IsOfNil, IsNumberOf, IsProcedureOf}
+use Rattle.m3_source_typing.specs.Operators.{is_ordinal, is_boolean, is_text_in, is_part, is_references, prefixes_fit, operator_fits}
+
+-- what a chain gives up to a step: a place of a variable of a type, or a value of one
+pub data Given : Type 0 where
+  PlaceOf : ℕ → Given
+  ValueOf : ℕ → Given
+
+-- the places of the fields that have values, each once
+abbrev pub HasEachField : List Field → List ℕ → Type 0
+HasEachField fields ns =
+    (length ns ≡ length fields)
+    × ((n : ℕ) → n < length fields → list_any (λ m. m == n) ns ≡ true)
+
+-- in an activation of whose own variables these are made, and have these types
+module _ (p : Program) (here : Here) (own : ℕ → Option ℕ) where
+  mutual
+    -- THE EXPRESSION IS WELL TYPED, and of this type
+    pub data IsExpression : CoreExpr → ℕ → Type 0 where
+      -- literals
+      number : (at : Pos) (kind : TypeId) (z : ℤ) → is_ordinal p kind.0 ≡ true
+          → IsNumberOf z (bounds p kind.0)
+          → IsExpression (roll-CoreExpr (layer.Number at kind z)) kind.0
+      text : (at : Pos) (kind : TypeId) (n : ℕ) → is_text_in (node_of p kind.0) ≡ true
+          → n < length p.texts
+          → IsExpression (roll-CoreExpr (layer.Text at kind n)) kind.0
+      nil : (at : Pos) (kind : TypeId) → IsOfNil (class_of p kind.0)
+          → IsExpression (roll-CoreExpr (layer.Nil at kind)) kind.0
+      -- a procedure of the outermost scope of a unit
+      procedure : (at : Pos) (kind : TypeId) (n : ℕ) → class_of p kind.0 ≡ OfProcedures
+          → IsProcedureOf p (procedure_at p n) kind.0
+          → IsExpression (roll-CoreExpr (layer.Procedure at kind n)) kind.0
+      -- a constant set, record or array
+      constant : (at : Pos) (kind : TypeId) (n : ValueId) (v : Value)
+          → constant_at p kind.0 n.0 ≡ Some v → ((s : Store) → HasType p s v kind.0)
+          → IsExpression (roll-CoreExpr (layer.Constant at kind n)) kind.0
+      -- what a chain gives
+      chain : (c : Bor Chain) (t : ℕ) → IsChain c.now (ValueOf t)
+          → IsExpression (roll-CoreExpr (layer.Chain c)) t
+      -- operators
+      prefixed : (at : Pos) (kind : TypeId) (os : Bor (List Prefix)) (operand : Bor CoreExpr)
+          (t : ℕ) → IsExpression operand.now t → prefixes_fit p os.now t kind.0 ≡ true
+          → IsExpression (roll-CoreExpr (layer.Prefixed at kind os operand)) kind.0
+      operations : (at : Pos) (first : Bor CoreExpr) (rest : Bor (List Operation)) (t result : ℕ)
+          → IsExpression first.now t → IsRow t rest.now result
+          → IsExpression (roll-CoreExpr (layer.Operations at first rest)) result
+      -- constructors
+      set_of : (at : Pos) (kind : TypeId) (elements : Bor (List SetElement)) (member : ℕ)
+          → member_in (node_of p kind.0) ≡ Some member → is_ordinal p member ≡ true
+          → AreSetElements member elements.now
+          → IsExpression (roll-CoreExpr (layer.SetOf at kind elements)) kind.0
+      record_of : (at : Pos) (kind : TypeId) (fields : Bor (List FieldValue)) (ns : List ℕ)
+          → class_of p kind.0 ≡ OfRecords
+          → AreFieldValues (record_fields (node_of p kind.0)) fields.now ns
+          → HasEachField (record_fields (node_of p kind.0)) ns
+          → IsExpression (roll-CoreExpr (layer.RecordOf at kind fields)) kind.0
+      -- conversions and type tests
+      ranged : (at : Pos) (kind : TypeId) (operand : Bor CoreExpr) (t : ℕ)
+          → IsExpression operand.now t → is_ordinal p t ≡ true → is_ordinal p kind.0 ≡ true
+          → IsExpression (roll-CoreExpr (layer.Convert at kind conversion.Range operand)) kind.0
+      narrowed : (at : Pos) (kind : TypeId) (operand : Bor CoreExpr) (t : ℕ)
+          → IsExpression operand.now t → is_references (class_of p t) ≡ true
+          → is_references (class_of p kind.0) ≡ true
+          → IsExpression (roll-CoreExpr (layer.Convert at kind conversion.Narrow operand)) kind.0
+      tested : (at : Pos) (kind : TypeId) (operand : Bor CoreExpr) (other : TypeId) (t : ℕ)
+          → IsExpression operand.now t → is_references (class_of p t) ≡ true
+          → is_boolean p kind.0 ≡ true
+          → IsExpression (roll-CoreExpr (layer.TypeTest at kind operand other)) kind.0
+      -- a number of a type is one of each type that has all numbers of that one
+      widened : (e : CoreExpr) (t wider : ℕ) → IsExpression e t → is_ordinal p t ≡ true
+          → is_ordinal p wider ≡ true → is_part p t wider ≡ true → IsExpression e wider
+
+    -- operators in a row with their right operands, from a left operand of a type to a result
+    pub data IsRow : ℕ → List Operation → ℕ → Type 0 where
+      last : (t : ℕ) → IsRow t [] t
+      next : (t right result : ℕ) (o : Operator) (at : Pos) (e : Bor CoreExpr) (kind : TypeId)
+          (os : List Operation) → IsExpression e.now right → operator_fits p o t right kind.0 ≡ true
+          → IsRow kind.0 os result
+          → IsRow t
+          (roll-Operation (record { operator = o; pos = at; right = e; kind = kind }) ∷ os) result
+
+    -- the elements of a set, which are of the type of its members
+    pub data AreSetElements : ℕ → List SetElement → Type 0 where
+      no_elements : (member : ℕ) → AreSetElements member []
+      one_element : (member : ℕ) (e : Bor CoreExpr) (es : List SetElement)
+          → IsExpression e.now member → AreSetElements member es
+          → AreSetElements member (roll-SetElement (layer.One e) ∷ es)
+
+    -- the values of the fields of a record, each of the type of its field, by the places of these
+    pub data AreFieldValues : List Field → List FieldValue → List ℕ → Type 0 where
+      no_fields : (fields : List Field) → AreFieldValues fields [] []
+      one_field : (fields : List Field) (n : ℕ) (f : Field) (e : Bor CoreExpr)
+          (vs : List FieldValue) (ns : List ℕ) → slice_get fields n ≡ Some f
+          → IsExpression e.now f.kind.0 → AreFieldValues fields vs ns
+          → AreFieldValues fields (roll-FieldValue (record { field = n; value = e }) ∷ vs) (n ∷ ns)
+
+    -- ---- chains
+
+    pub data IsChain : Chain → Given → Type 0 where
+      steps : (at : Pos) (base : Base) (row : Bor (List Step)) (kind : Option TypeId) (g h : Given)
+          → IsBase base g → AreSteps g row.now h
+          → IsChain
+          (roll-Chain (record { pos = at; base = base; steps = row; kind = kind })) h
+
+    -- what a chain begins with
+    pub data IsBase : Base → Given → Type 0 where
+      global : (x : ℕ) (kind : TypeId) (v : VarDef) → slice_get p.globals x ≡ Some v
+          → IsBase (roll-Base (layer.Global x kind)) (PlaceOf (type_of_variable v.kind))
+      -- a variable of the activation that is made and that nobody else can reach
+      own_variable : (level x : ℕ) (kind : TypeId) (t : ℕ) → is_own p here level x ≡ true
+          → own x ≡ Some t → IsBase (roll-Base (layer.Local level x kind)) (PlaceOf t)
+      inner : (c : Bor Chain) (g : Given) → IsChain c.now g
+          → IsBase (roll-Base (layer.Inner c)) g
+      value : (e : Bor CoreExpr) (t : ℕ) → IsExpression e.now t
+          → IsBase (roll-Base (layer.Base::Value e)) (ValueOf t)
+
+    pub data AreSteps : Given → List Step → Given → Type 0 where
+      no_steps : (g : Given) → AreSteps g [] g
+      one_step : (g h k : Given) (s : Step) (row : List Step) → IsStep g s h → AreSteps h row k
+          → AreSteps g (s ∷ row) k
+
+    pub data IsStep : Given → Step → Given → Type 0 where
+      read : (kind : TypeId) (t : ℕ)
+          → IsStep (PlaceOf t) (roll-Step (layer.Read kind)) (ValueOf t)
+      keep : (kind : TypeId) (t : ℕ)
+          → IsStep (ValueOf t) (roll-Step (layer.Keep kind)) (PlaceOf t)
+      field : (n : ℕ) (kind : TypeId) (t : ℕ) (f : Field) → class_of p t ≡ OfRecords
+          → slice_get (record_fields (node_of p t)) n ≡ Some f
+          → IsStep (PlaceOf t) (roll-Step (layer.Field n kind)) (PlaceOf f.kind.0)
+      -- an element of an array whose type says how many there are
+      fixed_element : (index : Bor CoreExpr) (kind : TypeId) (t e i size : ℕ)
+          (below : List (Option ℕ)) → class_of p t ≡ OfArrays → element p t ≡ Some e
+          → type_sizes p t ≡ Some size ∷ below → IsExpression index.now i → is_ordinal p i ≡ true
+          → IsStep (PlaceOf t) (roll-Step (layer.Element index kind)) (PlaceOf e)

@@ -1,0 +1,66 @@
+-- WELL TYPED STORES, and what stays of a store.
+use Rattle.std.specs.Prelude.{◌≡◌, ℕ, Bool, List, [], ◌∷◌, Option, Some}
+use Rattle.m3_core.specs.declared.program.VarDef.{VarDef}
+use Rattle.m3_types.specs.declared.nodes.TypeNode.{TypeNode}
+use Rattle.m3_types.specs.declared.nodes.TypeNode.TheVariants as node
+use Rattle.m3_values.specs.Values.{Value, Values, End, More, Nil, Record, Array}
+use Rattle.m3_values.specs.Programs.{Program}
+use Rattle.m3_values.specs.Types.{node_of, object_fields}
+use Rattle.m3_values.specs.Store.{Cell, Made, Bytes, Forked, Store, cell_at}
+use Rattle.m3_source_meaning.specs.Assignment.{type_of_variable}
+use Rattle.m3_source_typing.specs.ValueTypes.{HasType, AreFields}
+
+-- The outline of a value: NIL for each part that has no parts. It is all of a variable that no
+-- write changes: fields stay fields, and an array keeps its sizes.
+abbrev mutual
+  pub outline : Value → Value
+  outline (Record vs) = Record (outlines vs)
+  outline (Array below vs) = Array below (outlines vs)
+  outline v = Nil
+
+  pub outlines : Values → Values
+  outlines End = End
+  outlines (More v vs) = More (outline v) (outlines vs)
+
+-- ---- what stays
+
+-- what a cell may become: it keeps its type and its outline, a text its bytes, and the cell of a
+-- thread its number
+pub data Becomes : Cell → Cell → Type 0 where
+  made : (kind : ℕ) (v u : Value) (m n : ℕ) → outline v ≡ outline u
+      → Becomes (Made kind v m) (Made kind u n)
+  text : (bytes : List ℕ) → Becomes (Bytes bytes) (Bytes bytes)
+  thread : (number : ℕ) (v u : Option Value) (a b : Bool)
+      → Becomes (Forked number v a) (Forked number u b)
+
+pub record HasStill (t : Store) (c : ℕ) (cell : Cell) : Type 0 where
+  pub now : Cell
+  pub there : cell_at t c ≡ Some now
+  pub becomes : Becomes cell now
+
+-- a store from which the run has gone on: all its cells are there still
+pub record IsLater (s t : Store) : Type 0 where
+  pub cells : (c : ℕ) (cell : Cell) → cell_at s c ≡ Some cell → HasStill t c cell
+
+-- ---- well typed stores
+
+module _ (p : Program) where
+  -- what a cell of a type holds: the referent of a REF, the array that was copied for a formal, or
+  -- all fields of an object
+  abbrev pub IsContentOf : Store → Value → ℕ → Option TypeNode → Type 0
+  IsContentOf s v kind (Some (node.RefTo brand target)) = HasType p s v target.0
+  IsContentOf s v kind (Some (node.OpenArray element)) = HasType p s v kind
+  IsContentOf s (Record vs) kind _ = AreFields p s vs (object_fields p kind)
+  IsContentOf s _ kind _ = ⊥
+
+  abbrev pub AreVariables : Store → List Value → List VarDef → Type 0
+  AreVariables s [] [] = Unit {0}
+  AreVariables s (v ∷ vs) (x ∷ xs) =
+      HasType p s v (type_of_variable x.kind) × AreVariables s vs xs
+  AreVariables s _ _ = ⊥
+
+  -- THE STORE IS WELL TYPED, but for a cell whose defaults are still to be stored, if there is one
+  pub record IsTyped (new : Option ℕ) (s : Store) : Type 0 where
+    pub cells : (c kind : ℕ) (v : Value) (holder : ℕ) → cell_at s c ≡ Some (Made kind v holder)
+        → (Some c ≡ new → ⊥) → IsContentOf s v kind (node_of p kind)
+    pub globals : AreVariables s s.globals p.globals
