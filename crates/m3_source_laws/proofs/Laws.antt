@@ -1,5 +1,5 @@
 -- The laws.
-use Rattle.std.proofs.Common.{refl}
+use Rattle.std.proofs.Common.{refl, sym}
 use Rattle.m3_runs.proofs.Once.{runs_once}
 use Rattle.m3_runs.proofs.Courses as courses
 use Rattle.m3_runs.proofs.Growing as growing
@@ -22,4 +22,4 @@ pub budget_ends : BudgetEnds
 budget_ends p given = growing.budget_ends (language p) given
 
 pub every_turn_ends : EveryTurnEnds
-every_turn_ends p s answer store = record { move = goes_on p s answer store; goes = refl }
+every_turn_ends p s answer store = record { move = goes_on p s answer store; goes = refl; only = λ other goes. sym goes }

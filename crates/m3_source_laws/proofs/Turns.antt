@@ -13,7 +13,7 @@ use Rattle.m3_source_meaning.specs.Phrases.{Here, Expression}
 use Rattle.m3_source_meaning.specs.Expressions.{expression}
 use Rattle.m3_source_meaning.specs.Statements.{statements}
 use Rattle.m3_source_meaning.specs.Loops.{again, repeatedly, body_turn, test, passing, is_further, for_turn, counting}
-use Rattle.m3_source_laws.specs.Limits.{while_turn, repeat_turn, turns_or, repeatedly_or, counting_or, AreSame, then_again, LoopsEnd, LoopsGoOn}
+use Rattle.m3_source_laws.specs.Limits.{while_turn, repeat_turn, turns_or, repeatedly_or, counting_or, AreSame, then_again, AnswersFall, LoopsEnd, LoopsGoOn}
 use Rattle.m3_source_laws.proofs.Safe.{Invariant, Within, Safe}
 use Rattle.m3_source_laws.proofs.SafeTrees.{safe_expression}
 use Rattle.m3_source_laws.proofs.SafeStatements.{safe_in_turn, safe_statements, safe_test, safe_bound}
@@ -21,7 +21,7 @@ use Rattle.m3_source_laws.proofs.Everywhere.{all_may}
 
 -- ---- no phrase hands on more answers than it was given
 
-abbrev counted : ℕ → Invariant
+abbrev pub counted : ℕ → Invariant
 counted n = record {
   holds = λ now. length now.answers ≤ n;
   compares = λ e f. e ≡ f;
@@ -54,7 +54,7 @@ within n p here = record {
 same_number : (n : ℕ) → n ≤ n
 same_number n = omega arith
 
-abbrev Counts : {A : Type 0} → Evaluates A → Type 0
+abbrev pub Counts : {A : Type 0} → Evaluates A → Type 0
 Counts e = (n : ℕ) → Safe (counted n) e
 
 -- ---- a turn that isn't the last takes an answer
@@ -84,7 +84,7 @@ passes : (around : Around) (m : Memory) (answers : List Told) (exits others : Ex
 passes around m [] exits others h = refl
 passes around m (told ∷ answers) exits others h = h (record { memory = record m { store = told.store }; answers = answers }) (omega arith)
 
-body_takes : (body : Acts) → Counts body → Takes (body_turn body)
+pub body_takes : (body : Acts) → Counts body → Takes (body_turn body)
 body_takes body c = record {
   ends = λ around now exits others h f s. (c (length now.answers)).ends around now _ _ (same_number _) (record {
     gives = λ u later q l. passes around later.memory later.answers exits others (λ after less. h after (omega arith));
@@ -100,7 +100,7 @@ while_next : (body : Acts) → Counts body → (n : ℕ) (b : Bool) (around : Ar
 while_next body c n true around later exits others l h f s = (body_takes body c).ends around later exits others (λ after less. h after (omega arith)) (λ after le. f after (omega arith)) (fewer n exits others _ l s)
 while_next body c n false around later exits others l h f s = f later l
 
-while_takes : (e : Expression) (body : Acts) → Counts (test e) → Counts body → Takes (while_turn e body)
+pub while_takes : (e : Expression) (body : Acts) → Counts (test e) → Counts body → Takes (while_turn e body)
 while_takes e body t c = record {
   ends = λ around now exits others h f s. (t (length now.answers)).ends around now _ _ (same_number _) (record {
     gives = λ b later q l. while_next body c (length now.answers) b around later exits others l h f s;
@@ -123,7 +123,7 @@ repeat_exits e around exits = record {
   return = exits.return;
 }
 
-repeat_takes : (body : Acts) (e : Expression) → Counts body → Counts (test e) → Takes (repeat_turn body e)
+pub repeat_takes : (body : Acts) (e : Expression) → Counts body → Counts (test e) → Takes (repeat_turn body e)
 repeat_takes body e c t = record {
   ends = λ around now exits others h f s. (body_takes body c).ends around now (repeat_exits e around exits) (repeat_exits e around others)
       (λ later less. (t (length later.answers)).ends around later _ _ (same_number _) (record {
@@ -202,10 +202,10 @@ module _ (p : Program) (here : Here) where
 
   -- ---- loops of a program
 
-  body_counts : (ss : List CoreStmt) → Counts (statements p here ss)
+  pub body_counts : (ss : List CoreStmt) → Counts (statements p here ss)
   body_counts ss n = safe_in_turn _ (safe_statements (counted n) p here (within n p here) ss (all_may _ (λ u. tt) _))
 
-  test_counts : (e : CoreExpr) → Counts (test (expression p here e))
+  pub test_counts : (e : CoreExpr) → Counts (test (expression p here e))
   test_counts e n = safe_test (counted n) p here (within n p here) _ (safe_expression (counted n) p here (within n p here) e (all_may _ (λ u. tt) _))
 
 pub loops_end : LoopsEnd
@@ -228,3 +228,12 @@ loops_go_on p here condition body =
       while_loops = goes_on (while_turn e s) (while_takes e s (test_counts p here condition) (body_counts p here body));
       repeat_loops = goes_on (repeat_turn s e) (repeat_takes s e (body_counts p here body) (test_counts p here condition));
     }
+
+pub answers_fall : AnswersFall
+answers_fall p here body around now exits others a =
+    (body_counts p here body (length now.answers)).ends around now exits others (same_number _) (record {
+      gives = λ u later q l. a.gives later l;
+      raised = a.raised;
+      exit = a.exit;
+      return = a.return;
+    })

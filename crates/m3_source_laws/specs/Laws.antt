@@ -1,4 +1,5 @@
 -- What the run of a checked program keeps to, whatever the program.
+use Rattle.std.specs.Prelude.{◌≡◌}
 use Rattle.m3_runs.specs.Languages.{Answer}
 use Rattle.m3_runs.specs.States.{Given}
 use Rattle.m3_runs.specs.Laws as law
@@ -21,12 +22,15 @@ OutputGrows = (p : Program) (given : Given) → law.OutputGrows (language p) giv
 abbrev pub BudgetEnds : Type 0
 BudgetEnds = (p : Program) (given : Given) → law.BudgetEnds (language p) given
 
--- an activation has a next move, whatever it is told
-pub record Ends (p : Program) (s : Activity) (answer : Answer Thing) (store : Store) : Type 0 where
+-- an activation has one next move, whatever it is told
+pub record HasOneMove (p : Program) (s : Activity) (answer : Answer Thing) (store : Store)
+    : Type 0 where
   pub move : Moves
   pub goes : (language p).goes s answer store move
+  pub only : (other : Moves) → (language p).goes s answer store other → other ≡ move
 
--- EVERY TURN ENDS
+-- EVERY TURN ENDS, and in one way
 abbrev pub EveryTurnEnds : Type 0
 EveryTurnEnds =
-    (p : Program) (s : Activity) (answer : Answer Thing) (store : Store) → Ends p s answer store
+    (p : Program) (s : Activity) (answer : Answer Thing) (store : Store) →
+    HasOneMove p s answer store

@@ -1,10 +1,11 @@
--- LOOPS END BY THEMSELVES. A meaning gives a loop as many turns as there are answers, and one. These
--- suffice: whatever stood where the turns come to that limit, the loop would mean the same.
-use Rattle.std.specs.Prelude.{◌≡◌, ℕ, ℤ, zero, suc, ◌+ℤ◌, Bool, true, false, not, List, length}
+-- LOOPS END BY THEMSELVES. A meaning gives a loop as many turns as there are answers, and one.
+-- These suffice: whatever stood where the turns come to that limit, the loop would mean the same.
+use Rattle.std.specs.Prelude.{◌≡◌, ◌≤◌, ℕ, ℤ, zero, suc, ◌+ℤ◌, Bool, true, false, not, List, length, Option}
 use Rattle.m3_core.specs.declared.exprs.CoreExpr.{CoreExpr}
 use Rattle.m3_core.specs.declared.stmts.CoreStmt.{CoreStmt}
+use Rattle.m3_values.specs.Values.{Value}
 use Rattle.m3_values.specs.Programs.{Program}
-use Rattle.m3_source_meaning.specs.Meanings.{Around, Now, Exits, Evaluates, Acts, done, given, ◌>>=◌}
+use Rattle.m3_source_meaning.specs.Meanings.{Raised, Around, Now, Exits, Evaluates, Acts, done, given, ◌>>=◌}
 use Rattle.m3_source_meaning.specs.Phrases.{Here, Expression}
 use Rattle.m3_source_meaning.specs.Expressions.{expression}
 use Rattle.m3_source_meaning.specs.Statements.{statements}
@@ -48,6 +49,23 @@ module _ (p : Program) (here : Here) where
 abbrev pub AreSame : {A : Type 0} → Evaluates A → Evaluates A → Type 0
 AreSame {A} e f = (around : Around) (now : Now) (exits : Exits A) →
     e around now exits ≡ f around now exits
+
+-- two ways to go on that are the same where no more than so many answers are left
+pub record AgreeUpTo (n : ℕ) (exits others : Exits (Unit {0})) : Type 0 where
+  pub gives : (later : Now) → length later.answers ≤ n
+      → exits.gives tt later ≡ others.gives tt later
+  pub raised : (r : Raised) (later : Now) → length later.answers ≤ n
+      → exits.raised r later ≡ others.raised r later
+  pub exit : (later : Now) → length later.answers ≤ n → exits.exit later ≡ others.exit later
+  pub return : (v : Option Value) (later : Now) → length later.answers ≤ n
+      → exits.return v later ≡ others.return v later
+
+-- Statements hand on no more answers than they were given: what follows matters only there.
+abbrev pub AnswersFall : Type 0
+AnswersFall =
+    (p : Program) (here : Here) (body : List CoreStmt) (around : Around) (now : Now)
+    (exits others : Exits (Unit {0})) → AgreeUpTo (length now.answers) exits others →
+    statements p here body around now exits ≡ statements p here body around now others
 
 -- THE LIMIT IS NEVER MET, by no loop of a program: whatever else stood there
 pub record NeverMeetsLimit (p : Program) (here : Here) (condition : CoreExpr) (body : List CoreStmt)

@@ -1,9 +1,9 @@
-//! Laws of the meaning of checked programs, whatever the program: of runs, of single forms, and of all
-//! forms together.
+//! Laws of the meaning of checked programs, whatever the program: of runs, of single forms, and of
+//! all forms together.
 #![tactic(auto)]
 
 ghost use Rattle.m3_source_laws.specs.Growing.{StoreGrows};
-ghost use Rattle.m3_source_laws.specs.Limits.{LoopsEnd, LoopsGoOn};
+ghost use Rattle.m3_source_laws.specs.Limits.{AnswersFall, LoopsEnd, LoopsGoOn};
 ghost use Rattle.m3_source_laws.specs.Own.{OwnStays};
 ghost use Rattle.m3_source_laws.specs.Laws.{HasOneRun, GoesOn, OutputGrows, BudgetEnds, EveryTurnEnds};
 ghost use Rattle.m3_source_meaning.specs.Laws.{LeftFaultsFirst, IsAssociative, FinallyNothing, FinallyRuns, FinallyReplaces, NothingHandled, ElseHandlesAll, ExitEndsLoop, PendingCounts};
@@ -28,7 +28,7 @@ pub fn budget_ends()
     ensures { BudgetEnds }
 {}
 
-/// An activation has a next move, whatever it is told.
+/// An activation has one next move, whatever it is told.
 pub fn every_turn_ends()
     ensures { EveryTurnEnds }
 {}
@@ -79,6 +79,11 @@ pub fn store_grows()
     ensures { StoreGrows }
 {}
 
+/// Statements hand on no more answers than they were given.
+pub fn answers_fall()
+    ensures { AnswersFall }
+{}
+
 /// No loop of a program ends for want of turns: whatever stood at the limit that its meaning has,
 /// it would mean the same.
 pub fn loops_end()
@@ -90,8 +95,9 @@ pub fn loops_go_on()
     ensures { LoopsGoOn }
 {}
 
-/// No place of a variable gets out that its activation doesn't share: no actual and no alias is one,
-/// and no store has the variable, whatever the activation is called with and told that names none.
+/// No place of a variable gets out that its activation doesn't share: no actual and no alias is
+/// one, and no store has the variable, whatever the activation is called with and told that names
+/// none.
 pub fn own_stays()
     ensures { OwnStays }
 {}

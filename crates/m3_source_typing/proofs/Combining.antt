@@ -20,7 +20,7 @@ module _ (p : Program) (own : ℕ → Option ℕ) where
       (sound (λ before after told action standing s is leads. fit before after told action standing s is (same before ∙ leads)))
 
   -- what follows is sound from a later store on too
-  later_exits : {A : Type 0} (s t : Store) (P : Store → A → Type 0) (exits : Exits A) → IsLater s t → AreSound p own s P exits → AreSound p own t P exits
+  pub later_exits : {A : Type 0} (s t : Store) (P : Store → A → Type 0) (exits : Exits A) → IsLater s t → AreSound p own s P exits → AreSound p own t P exits
   later_exits s t P exits h b = record {
     gives = λ x later l typed q. b.gives x later (and_later s t later.memory.store h l) typed q;
     raised = λ r later l typed q. b.raised r later (and_later s t later.memory.store h l) typed q;

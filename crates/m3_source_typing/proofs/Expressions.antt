@@ -75,7 +75,7 @@ module _ (p : Program) (own : ℕ → Option ℕ) (here : Here) where
   }
 
   mutual
-    expression_sound : (e : CoreExpr) (t : ℕ) → IsExpression p here own e t → IsOfType p own (expression p here e) t
+    pub expression_sound : (e : CoreExpr) (t : ℕ) → IsExpression p here own e t → IsOfType p own (expression p here e) t
     expression_sound _ _ (typed.number at kind z numbers within) =
         subst (λ e. IsOfType p own e kind.0) (sym (trees.expression_is p here (layer.Number at kind z)))
         (plain_typed at kind _ (λ s. literal s (value.Ordinal z) kind.0 (rows.number_class p own (class_of p kind.0) numbers, within)))

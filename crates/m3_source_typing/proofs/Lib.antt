@@ -6,3 +6,7 @@ pub mod Rows
 pub mod Constructing
 pub mod Places
 pub mod Expressions
+pub mod Leaving
+pub mod Repeating
+pub mod Variables
+pub mod Statements

@@ -138,7 +138,7 @@ module _ (p : Program) (own : ℕ → Option ℕ) where
   pub thing_given : (g : Given) (s : Store) (thing : Thing) → IsGiven g s thing → Gives p own s (IsGiven g) (given thing)
   thing_given g s thing h = given_sound p own s (IsGiven g) thing (λ u l. given_stays g s u thing l h)
 
-  variable_there : (s : Store) (vs : List Value) (xs : List VarDef) (n : ℕ) (x : VarDef) → AreVariables p s vs xs → slice_get xs n ≡ Some x → (v : Value) × (slice_get vs n ≡ Some v) × HasType p s v (type_of_variable x.kind)
+  pub variable_there : (s : Store) (vs : List Value) (xs : List VarDef) (n : ℕ) (x : VarDef) → AreVariables p s vs xs → slice_get xs n ≡ Some x → (v : Value) × (slice_get vs n ≡ Some v) × HasType p s v (type_of_variable x.kind)
   variable_there s [] [] n x h e = absurd (let bad : None ≡ Some x = e in cc)
   variable_there s [] (y ∷ xs) n x h e = absurd h
   variable_there s (v ∷ vs) [] n x h e = absurd h

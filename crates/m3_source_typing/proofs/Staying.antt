@@ -12,7 +12,7 @@ use Rattle.m3_source_typing.specs.ValueTypes.{HasType, AreFields, AreElements, r
 use Rattle.m3_source_typing.specs.Stores as stores
 use Rattle.m3_source_typing.specs.Stores.{Becomes, HasStill, IsLater, outline}
 
-becomes_itself : (cell : Cell) → Becomes cell cell
+pub becomes_itself : (cell : Cell) → Becomes cell cell
 becomes_itself (store.Made kind v n) = stores.made kind v v n n refl
 becomes_itself (store.Bytes bytes) = stores.text bytes
 becomes_itself (store.Forked n v b) = stores.thread n v v b b
@@ -60,7 +60,7 @@ module _ (p : Program) where
     type_stays s t h (value.Record vs) k e = (e.0, fields_stay s t h vs (record_fields (node_of p k)) e.1)
     type_stays s t h (value.Array below vs) k e = (e.0, elements_stay s t h vs below (element p k) e.1, e.2)
 
-    fields_stay : (s t : Store) → IsLater s t → (vs : Values) (fs : List Field) → AreFields p s vs fs → AreFields p t vs fs
+    pub fields_stay : (s t : Store) → IsLater s t → (vs : Values) (fs : List Field) → AreFields p s vs fs → AreFields p t vs fs
     fields_stay s t h value.End [] e = tt
     fields_stay s t h (value.More v vs) (f ∷ fs) e = (type_stays s t h v f.kind.0 e.0, fields_stay s t h vs fs e.1)
     fields_stay s t h value.End (f ∷ fs) e = e

@@ -88,7 +88,8 @@ module _ (p : Program) (here : Here) (own : ℕ → Option ℕ) where
           → IsExpression operand.now t → is_ordinal p t ≡ true → is_ordinal p kind.0 ≡ true
           → IsExpression (roll-CoreExpr (layer.Convert at kind conversion.Range operand)) kind.0
       narrowed : (at : Pos) (kind : TypeId) (operand : Bor CoreExpr) (t : ℕ)
-          → IsExpression operand.now t → is_references (class_of p t) ≡ true → is_references (class_of p kind.0) ≡ true
+          → IsExpression operand.now t → is_references (class_of p t) ≡ true
+          → is_references (class_of p kind.0) ≡ true
           → IsExpression (roll-CoreExpr (layer.Convert at kind conversion.Narrow operand)) kind.0
       tested : (at : Pos) (kind : TypeId) (operand : Bor CoreExpr) (other : TypeId) (t : ℕ)
           → IsExpression operand.now t → is_references (class_of p t) ≡ true

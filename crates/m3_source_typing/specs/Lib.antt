@@ -4,4 +4,5 @@ pub mod Points
 pub mod Sound
 pub mod Operators
 pub mod Expressions
+pub mod Statements
 pub mod Laws

@@ -75,7 +75,8 @@ may_fail _ = false
 
 -- ---- what is made
 
--- a new cell of a type holds nothing yet: who asked for it stores the defaults; every other is a text
+-- A new cell of a type holds nothing yet: who asked for it stores the defaults. Every other is a
+-- text.
 abbrev pub IsMade : New Thing → Option Cell → Type 0
 IsMade (asked.Cell kind sizes) (Some (Made k v holder)) = (k ≡ kind) × (v ≡ Nil)
 IsMade (asked.Concatenated t u) (Some (Bytes bytes)) = Unit {0}

@@ -1,5 +1,5 @@
 -- WHAT IS WELL TYPED IS DEFINED: what this says of a phrase.
-use Rattle.std.specs.Prelude.{◌≡◌, ℕ, List, ◌∷◌, ◌++◌, Option, Some, None}
+use Rattle.std.specs.Prelude.{◌≡◌, ℕ, Bool, true, List, ◌∷◌, ◌++◌, Option, Some, None}
 use Rattle.m3_runs.specs.Languages.{Action}
 use Rattle.m3_values.specs.Values.{Value}
 use Rattle.m3_values.specs.Programs.{Program}
@@ -11,6 +11,12 @@ use Rattle.m3_source_meaning.specs.Travelling.{argument_type}
 use Rattle.m3_source_typing.specs.ValueTypes.{HasType}
 use Rattle.m3_source_typing.specs.Stores.{IsLater, IsTyped}
 use Rattle.m3_source_typing.specs.Points.{Fits, IsArgument}
+
+-- how statements may be left beside their end and exceptions: by EXIT, where they stand in a loop,
+-- and by RETURN, with a value of the type of a result where there is one
+pub record Leaving : Type 0 where
+  pub in_loop : Bool
+  pub result : Option ℕ
 
 abbrev pub IsDefined : End → Type 0
 IsDefined (Waits action standing s) = Unit {0}
@@ -72,3 +78,22 @@ module _ (p : Program) (own : ℕ → Option ℕ) where
   pub record IsOfType (e : Expression) (t : ℕ) : Type 0 where
     pub value : (s : Store) → Gives s (λ later v. HasType p later v t) e.value
     pub unread : (s : Store) → Gives s IsReadable e.unread
+
+  -- ---- phrases that may be left
+
+  -- what follows a phrase is sound for each way in which the phrase may be left
+  pub record AreSoundFor {A : Type 0} (a : Leaving) (s : Store) (P : Store → A → Type 0)
+      (exits : Exits A) : Type 0 where
+    pub after : AreSound s P exits
+    pub exit : a.in_loop ≡ true → (later : Now) → IsLater s later.memory.store
+        → IsGood later.memory → IsSound p (exits.exit) later
+    pub return : (v : Option Value) (later : Now) → IsLater s later.memory.store
+        → IsGood later.memory → IsArgument p later.memory.store v a.result
+        → IsSound p (exits.return v) later
+
+  -- THE PHRASE IS SOUND, which may be left so, and gives such things
+  pub record Does {A : Type 0} (a : Leaving) (s : Store) (P : Store → A → Type 0)
+      (e : Evaluates A) : Type 0 where
+    pub ends : (around : Around) (now : Now) (exits : Exits A) → IsLater s now.memory.store
+        → IsGood now.memory → AreSoundFor a s P exits
+        → IsSound p (λ later. e around later exits) now

@@ -10,8 +10,8 @@ use Rattle.m3_values.specs.Store.{Cell, Made, Bytes, Forked, Store, cell_at}
 use Rattle.m3_source_meaning.specs.Assignment.{type_of_variable}
 use Rattle.m3_source_typing.specs.ValueTypes.{HasType, AreFields}
 
--- The outline of a value: NIL for each part that has no parts. It is all of a variable that no write
--- changes: fields stay fields, and an array keeps its sizes.
+-- The outline of a value: NIL for each part that has no parts. It is all of a variable that no
+-- write changes: fields stay fields, and an array keeps its sizes.
 abbrev mutual
   pub outline : Value → Value
   outline (Record vs) = Record (outlines vs)

@@ -1,8 +1,8 @@
-//! Which values a type has, which expressions are well typed, and the law that these are defined: no
-//! course of one comes to what has no meaning, whatever answers it is told that fit.
+//! Which values a type has, which expressions and statements are well typed, and that these are
+//! defined: no course of one comes to what has no meaning, whatever answers it is told that fit.
 #![tactic(auto)]
 
-ghost use Rattle.m3_source_typing.specs.Laws.{TypesStay, ExpressionsAreSound};
+ghost use Rattle.m3_source_typing.specs.Laws.{TypesStay, ExpressionsAreSound, BodiesAreSound};
 
 /// A value keeps its type, however the store goes on.
 pub fn types_stay()
@@ -13,4 +13,10 @@ pub fn types_stay()
 /// type, if each answer fits the action at which its course stands.
 pub fn expressions_are_sound()
     ensures { ExpressionsAreSound }
+{}
+
+/// The body of a procedure whose statements are well typed never comes to what isn't defined, if
+/// each answer fits the action at which its course stands.
+pub fn bodies_are_sound()
+    ensures { BodiesAreSound }
 {}
