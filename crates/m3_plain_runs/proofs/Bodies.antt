@@ -1,5 +1,5 @@
 -- The course of a module's body: the terms one after another, each followed by its put.
-use Rattle.std.proofs.Common.{◌≡◌, ℕ, zero, suc, ◌+◌, ◌*◌, ◌^◌, ◌<◌, ◌≤◌, ℤ, pos, List, [], ◌∷◌, ◌++◌, length, None, Some, refl, sym, ap, ◌∙◌, subst, arith, append_assoc, length-append, append-nil}
+use Rattle.std.proofs.Common.{◌≡◌, ℕ, zero, suc, ◌+◌, ◌^◌, ◌<◌, ◌≤◌, ℤ, pos, List, [], ◌∷◌, ◌++◌, length, Some, refl, sym, ap, ◌∙◌, subst, arith, append_assoc, length-append, append-nil}
 use Rattle.std.specs.Prelude.{slice_get, flat_map}
 use Rattle.std.specs.Fmt.{signed_decimal}
 use Rattle.m3_base.specs.declared.outcomes.Outcome.{Outcome}
@@ -10,7 +10,7 @@ use Rattle.m3_isa.specs.declared.instructions.Instr.{Instr}
 use Rattle.m3_isa.specs.Effects.{signed}
 use Rattle.m3_plain.specs.Terms.{Term, Value, Gives, Overflows, AllIntegers, AreShallow, value_of, all_nodes, put_first, ended_by, values_of, outcome_of, output_of, points_of}
 use Rattle.m3_plain_image.specs.Code.{on_register, alone, code_size, operators, term_code, term_lines, puts_code, puts_size, puts_lines, puts_operators, faults_code, body_code, thread_code, plain_code}
-use Rattle.m3_plain_image.proofs.CodeShape.{length-term_code, length-term_lines, length-puts_code, length-faults_code, code_size_le, one_node, puts_size_le}
+use Rattle.m3_plain_image.proofs.CodeShape.{length-term_code, length-term_lines, length-puts_code, puts_size_le}
 use Rattle.m3_plain_runs.proofs.Courses.{Stage, Course, GoesOn, Ends, Strays, first_stage, counted, passed, step, and_then, run}
 use Rattle.m3_plain_image.proofs.InLists.{HasAt, has_front, has_back, has_all}
 use Rattle.m3_plain_runs.proofs.Runs.{signed_word, Ready, next_pc, Halts, fetched, one, last_one, on, halts_on, halts_more, Runs, AreFaults, term_runs}

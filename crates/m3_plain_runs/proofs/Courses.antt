@@ -1,5 +1,5 @@
 -- The course of plain code: what each of its instructions does, and where so many of them lead.
-use Rattle.std.specs.Prelude.{ℕ, zero, suc, ◌+◌, ◌^◌, Bool, false, Option, None, Some, List, [], ◌++◌, replicate, slice_get}
+use Rattle.std.specs.Prelude.{ℕ, zero, suc, ◌+◌, Bool, false, Option, None, Some, List, [], ◌++◌, slice_get}
 use Rattle.std.specs.Int.{cast_unsigned, w32}
 use Rattle.std.specs.Fmt.{signed_decimal}
 use Rattle.m3_base.specs.declared.outcomes.FaultKind.{FaultKind}

@@ -1,6 +1,6 @@
 -- Wherever a run of plain code leads, it is on its course.
-use Rattle.std.specs.Prelude.{ℕ, zero, suc, ◌≡◌, ◌≤◌, ◌<◌, ◌+◌, ◌*◌, ◌^◌, Bool, true, false, List, [], ◌∷◌, ◌++◌, length, map, slice_get, Option, None, Some}
-use Rattle.std.proofs.Common.{refl, sym, ap, subst, ◌∙◌, arith, cond, append-nil}
+use Rattle.std.specs.Prelude.{ℕ, zero, suc, ◌≡◌, ◌≤◌, ◌<◌, ◌+◌, ◌*◌, ◌^◌, Bool, true, false, List, [], ◌++◌, length, map, slice_get, Option, None, Some}
+use Rattle.std.proofs.Common.{refl, sym, ap, subst, ◌∙◌, arith, cond}
 use Rattle.std.proofs.Math.Nat.{suc-mul}
 use Rattle.std.proofs.Math.Numerals.{add-one}
 use Rattle.m3_base.specs.declared.outcomes.Entry.{Entry}
@@ -17,18 +17,18 @@ use Rattle.m3_base.specs.declared.outcomes.FaultKind.{FaultKind}
 use Rattle.m3_threads.specs.declared.status.Thread.{Thread}
 use Rattle.m3_threads.specs.declared.status.Status.{Status}
 use Rattle.m3_threads.specs.declared.status.Status.TheVariants.{Ready as ReadyStatus}
-use Rattle.m3_threads.specs.All.{Everyone, thread_named, updated}
+use Rattle.m3_threads.specs.All.{Everyone, thread_named}
 use Rattle.m3_threads.specs.Spaces.{held}
 use Rattle.m3_threads.specs.Going.{IsChoice, NoneGoes, may_go, may_go_if, may_go_at, status_at, status_at_of, with_status}
 use Rattle.m3_image_sections.specs.Parts.{Program}
-use Rattle.m3_run_meaning.specs.State.{State, outside, running_thread, executed}
-use Rattle.m3_run_meaning.specs.Progress.{Progress, Goes, Rests, Ends as RunEnds}
-use Rattle.m3_run_meaning.specs.Points.{first_entry, later_entries, Collected_if, left, made, stuck, passed as point_passed, runs_on, Chooses, StopsAtPoint, nobody, trapped, nobody_left, Says_spent}
-use Rattle.m3_run_meaning.specs.Runs.{Place, In_turn, At_point, Over as RunOver, Config, turn_limit, stands, Settles, goes_on, comes_to_point, leaves_code, lasts_too_long, rests, run_ends, Carries_out, Moves, in_turn, at_point, stops, spent, Leads, stays, moves}
+use Rattle.m3_run_meaning.specs.State.{State, outside}
+use Rattle.m3_run_meaning.specs.Progress.{Progress}
+use Rattle.m3_run_meaning.specs.Points.{first_entry, later_entries, Collected_if, left, made, stuck, passed as point_passed, runs_on, Chooses, StopsAtPoint, nobody, trapped, nobody_left}
+use Rattle.m3_run_meaning.specs.Runs.{Place, In_turn, At_point, Over as RunOver, Config, stands, Settles, goes_on, comes_to_point, leaves_code, lasts_too_long, rests, run_ends, Carries_out, Moves, in_turn, at_point, stops, spent, Leads, stays, moves}
 use Rattle.m3_plain_image.specs.Image.{in_first_file}
-use Rattle.m3_plain_runs.proofs.Courses.{Stage, Course, GoesOn, Ends, Strays, counted, passed, faults, nothing, nowhere, plainly, acts, act, step, and_then, run}
+use Rattle.m3_plain_runs.proofs.Courses.{Stage, Course, GoesOn, Ends, Strays, faults, plainly, acts, act, and_then, run}
 use Rattle.m3_plain_runs.proofs.Bodies.{goes_on_not_ends, strays_not_ends}
-use Rattle.m3_plain_runs.proofs.Steps.{Alone, found, is-thread, has-regs, only-updated, points_by, Went, Over, Matches, acts_match}
+use Rattle.m3_plain_runs.proofs.Steps.{Alone, found, has-regs, only-updated, points_by, Matches, acts_match}
 
 same-end : (a b : Stage) (x y : Outcome) → Ends a x ≡ Ends b y → (a ≡ b) × (x ≡ y)
 same-end a b x y e = (one a b x y e, two a b x y e)
@@ -158,6 +158,7 @@ module _ (p : Program) (lines : List ℕ) (final : Stage) (outcome : Outcome) wh
   pub record OverAt (s : State) (put : List ℕ) (o : Outcome) : Type 0 where
     pub output : put ≡ final.output
     pub points : s.points ≡ final.points
+    pub instructions : s.instructions ≡ final.instructions
     pub ended : o ≡ outcome
 
   -- the turn has executed no more instructions than the run
@@ -246,6 +247,7 @@ module _ (p : Program) (lines : List ℕ) (final : Stage) (outcome : Outcome) wh
       record {
         output = m.1.output ∙ ap (λ (x : Stage). x.output) end.0;
         points = omega (arith, m.1.points, m.1.stage_points, same, ap (λ (x : Stage). x.points) end.0);
+        instructions = m.1.instructions ∙ ap (λ (x : Stage). x.instructions) end.0;
         ended = m.0 ∙ end.1;
       }
   settles s stage put points k Strays n progress place m e within same short settled = absurd (strays_not_ends final outcome e)

@@ -1,8 +1,6 @@
 -- The course of the code of a term.
-use Rattle.std.proofs.Common.{◌≡◌, ℕ, zero, suc, ◌+◌, ◌-◌, ◌*◌, ◌/◌, ◌%◌, ◌^◌, ◌<◌, ◌≤◌, ◌≢◌, ℤ, pos, negsuc, Bool, true, false, cond, List, [], ◌∷◌, ◌++◌, length, None, Some, refl, sym, ap, ◌∙◌, subst, inl, inr, arith, append_assoc, length-append}
-use Rattle.std.specs.Prelude.{FitsSigned, IsTrue, max, slice_get, nat_lt}
-use Rattle.std.proofs.Math.Seq.{get_or-append_seam}
-use Rattle.std.proofs.lemmas.Option.{slice_get-get_or}
+use Rattle.std.proofs.Common.{◌≡◌, ℕ, suc, ◌+◌, ◌-◌, ◌*◌, ◌/◌, ◌%◌, ◌^◌, ◌<◌, ◌≤◌, ℤ, pos, negsuc, Bool, true, false, cond, List, [], ◌∷◌, ◌++◌, length, None, Some, refl, ap, ◌∙◌, subst, inl, inr, arith}
+use Rattle.std.specs.Prelude.{FitsSigned, IsTrue, slice_get, nat_lt}
 use Rattle.std.proofs.lemmas.List.{get_or-set_same, get_or-set_other, length-set}
 use Rattle.std.proofs.lemmas.Bool.Decides.{nat_tests}
 use Rattle.std.proofs.lemmas.Int.{of_z-to_z, to_z-of_z, to_z_pos}
@@ -17,14 +15,14 @@ use Rattle.m3_base.specs.Integers.{is_integer}
 use Rattle.m3_isa.specs.declared.instructions.Op.TheVariants.{Li, Lih, Fault}
 use Rattle.m3_isa.specs.declared.instructions.Instr.{Instr}
 use Rattle.m3_isa.specs.Arithmetic.{integer_word}
-use Rattle.m3_isa.specs.Effects.{Goes, reg, signed, next, jumped, answered, answered_or_jumped}
+use Rattle.m3_isa.specs.Effects.{Goes, reg, signed, jumped, answered, answered_or_jumped}
 use Rattle.m3_plain.specs.declared.plain.Arith.{Arith}
 use Rattle.m3_plain.specs.declared.plain.Arith.TheVariants.{Add, Sub, Mul}
 use Rattle.m3_plain.specs.Terms.{Term, Number, Apply, Value, Gives, Overflows, AreIntegers, result_of, applied, value_of, values_at_once}
 use Rattle.m3_plain_image.specs.Code.{on_register, operation, low_half, high_half, number_code, operation_code, code_size, operators, term_code, term_lines}
 use Rattle.m3_plain_image.proofs.InLists.{HasAt, has_front, has_back}
 use Rattle.m3_plain_image.proofs.CodeShape.{length-term_code, length-term_lines}
-use Rattle.m3_plain_runs.proofs.Courses.{Stage, Course, GoesOn, Ends, counted, nothing, plainly, faults, acts, act, and_then, run}
+use Rattle.m3_plain_runs.proofs.Courses.{Stage, GoesOn, Ends, counted, nothing, plainly, faults, acts, act, and_then, run}
 
 not_below : (m n : ℕ) → n ≤ m → nat_lt m n ≡ false
 not_below m n h = grind (arith, nat_tests)

@@ -1,5 +1,5 @@
 -- Each instruction of plain code does to the one thread of a run what its course says.
-use Rattle.std.specs.Prelude.{ℕ, ◌≡◌, ◌+◌, ◌==◌, Bool, true, false, List, [], ◌∷◌, ◌++◌, length, find, map, slice_get, Option, None, Some}
+use Rattle.std.specs.Prelude.{ℕ, ◌≡◌, ◌+◌, ◌==◌, Bool, List, [], ◌∷◌, ◌++◌, find, map, slice_get, Option, None, Some}
 use Rattle.std.specs.Int.{cast_unsigned, w32}
 use Rattle.std.proofs.Common.{refl, sym, ap, subst, ◌∙◌, arith, cond, append-nil}
 use Rattle.m3_base.specs.declared.outcomes.FaultKind.{FaultKind}

@@ -5,3 +5,4 @@ pub mod Texts
 pub mod Builds
 pub mod Completes
 pub mod Execs
+pub mod Agree
