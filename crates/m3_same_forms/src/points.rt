@@ -20,8 +20,10 @@ pub struct Sides<'s> {
 impl<'s> Sides<'s> {
     fn same_temps(self, temp: u32, other: u32) -> Result<bool, AllocError>
         ensures { IfOk result (λ b. b
-            ≡ same.same_temps (form_at (option_copied self.entry.left.common) self.entry.left.settings.now)
-            (form_at (option_copied self.entry.right.common) self.entry.right.settings.now) temp other) }
+            ≡ same.same_temps
+            (form_at (option_copied self.entry.left.common) self.entry.left.settings.now)
+            (form_at (option_copied self.entry.right.common) self.entry.right.settings.now)
+            temp other) }
     {
         let left = self.left.temp(temp)?;
         let right = self.right.temp(other)?;
@@ -30,8 +32,10 @@ impl<'s> Sides<'s> {
 
     pub fn same_operand(self, operand: Operand, other: Operand) -> Result<bool, AllocError>
         ensures { IfOk result (λ b. b
-            ≡ same.same_operand (form_at (option_copied self.entry.left.common) self.entry.left.settings.now)
-            (form_at (option_copied self.entry.right.common) self.entry.right.settings.now) operand other) }
+            ≡ same.same_operand
+            (form_at (option_copied self.entry.left.common) self.entry.left.settings.now)
+            (form_at (option_copied self.entry.right.common) self.entry.right.settings.now)
+            operand other) }
     {
         let left = self.left.operand(operand)?;
         let right = self.right.operand(other)?;
@@ -40,8 +44,10 @@ impl<'s> Sides<'s> {
 
     fn same_operands(self, row: &[Operand], others: &[Operand]) -> Result<bool, AllocError>
         ensures { IfOk result (λ b. b
-            ≡ same.same_operands (form_at (option_copied self.entry.left.common) self.entry.left.settings.now)
-            (form_at (option_copied self.entry.right.common) self.entry.right.settings.now) row.now others.now) }
+            ≡ same.same_operands
+            (form_at (option_copied self.entry.left.common) self.entry.left.settings.now)
+            (form_at (option_copied self.entry.right.common) self.entry.right.settings.now)
+            row.now others.now) }
     {
         if row.len() != others.len() {
             return Ok(false);
@@ -58,8 +64,10 @@ impl<'s> Sides<'s> {
 
     fn same_actual(self, actual: Actual, other: Actual) -> Result<bool, AllocError>
         ensures { IfOk result (λ b. b
-            ≡ same.same_actual (form_at (option_copied self.entry.left.common) self.entry.left.settings.now)
-            (form_at (option_copied self.entry.right.common) self.entry.right.settings.now) actual other) }
+            ≡ same.same_actual
+            (form_at (option_copied self.entry.left.common) self.entry.left.settings.now)
+            (form_at (option_copied self.entry.right.common) self.entry.right.settings.now)
+            actual other) }
     {
         match (actual, other) {
             (Actual::Word(word), Actual::Word(other)) => self.same_operand(word, other),
@@ -87,8 +95,10 @@ impl<'s> Sides<'s> {
 
     fn same_actuals(self, row: &[Actual], others: &[Actual]) -> Result<bool, AllocError>
         ensures { IfOk result (λ b. b
-            ≡ same.same_actuals (form_at (option_copied self.entry.left.common) self.entry.left.settings.now)
-            (form_at (option_copied self.entry.right.common) self.entry.right.settings.now) row.now others.now) }
+            ≡ same.same_actuals
+            (form_at (option_copied self.entry.left.common) self.entry.left.settings.now)
+            (form_at (option_copied self.entry.right.common) self.entry.right.settings.now)
+            row.now others.now) }
     {
         if row.len() != others.len() {
             return Ok(false);
@@ -105,8 +115,10 @@ impl<'s> Sides<'s> {
 
     fn same_callee(self, callee: Callee, other: Callee) -> Result<bool, AllocError>
         ensures { IfOk result (λ b. b
-            ≡ same.same_callee (form_at (option_copied self.entry.left.common) self.entry.left.settings.now)
-            (form_at (option_copied self.entry.right.common) self.entry.right.settings.now) callee other) }
+            ≡ same.same_callee
+            (form_at (option_copied self.entry.left.common) self.entry.left.settings.now)
+            (form_at (option_copied self.entry.right.common) self.entry.right.settings.now)
+            callee other) }
     {
         match (callee, other) {
             (Callee::Outermost(number), Callee::Outermost(other)) => Ok(number == other),
@@ -141,8 +153,10 @@ impl<'s> Sides<'s> {
 
     fn same_held(self, held: Held, other: Held) -> Result<bool, AllocError>
         ensures { IfOk result (λ b. b
-            ≡ same.same_held (form_at (option_copied self.entry.left.common) self.entry.left.settings.now)
-            (form_at (option_copied self.entry.right.common) self.entry.right.settings.now) held other) }
+            ≡ same.same_held
+            (form_at (option_copied self.entry.left.common) self.entry.left.settings.now)
+            (form_at (option_copied self.entry.right.common) self.entry.right.settings.now)
+            held other) }
     {
         match (held, other) {
             (Held::Temp(temp), Held::Temp(other)) => self.same_temps(temp, other),
@@ -153,8 +167,10 @@ impl<'s> Sides<'s> {
 
     fn same_shown(self, shown: Shown, other: Shown) -> Result<bool, AllocError>
         ensures { IfOk result (λ b. b
-            ≡ same.same_shown (form_at (option_copied self.entry.left.common) self.entry.left.settings.now)
-            (form_at (option_copied self.entry.right.common) self.entry.right.settings.now) shown other) }
+            ≡ same.same_shown
+            (form_at (option_copied self.entry.left.common) self.entry.left.settings.now)
+            (form_at (option_copied self.entry.right.common) self.entry.right.settings.now)
+            shown other) }
     {
         let is_held = self.same_held(shown.at, other.at)?;
         Ok(shown.var == other.var && is_held)
@@ -162,8 +178,10 @@ impl<'s> Sides<'s> {
 
     fn same_showns(self, row: &[Shown], others: &[Shown]) -> Result<bool, AllocError>
         ensures { IfOk result (λ b. b
-            ≡ same.same_showns (form_at (option_copied self.entry.left.common) self.entry.left.settings.now)
-            (form_at (option_copied self.entry.right.common) self.entry.right.settings.now) row.now others.now) }
+            ≡ same.same_showns
+            (form_at (option_copied self.entry.left.common) self.entry.left.settings.now)
+            (form_at (option_copied self.entry.right.common) self.entry.right.settings.now)
+            row.now others.now) }
     {
         if row.len() != others.len() {
             return Ok(false);
@@ -180,8 +198,10 @@ impl<'s> Sides<'s> {
 
     pub fn same_point(self, op: &MidOp<'_>, other: &MidOp<'_>) -> Result<bool, AllocError>
         ensures { IfOk result (λ b. b
-            ≡ same.same_point (form_at (option_copied self.entry.left.common) self.entry.left.settings.now)
-            (form_at (option_copied self.entry.right.common) self.entry.right.settings.now) op.now other.now) }
+            ≡ same.same_point
+            (form_at (option_copied self.entry.left.common) self.entry.left.settings.now)
+            (form_at (option_copied self.entry.right.common) self.entry.right.settings.now)
+            op.now other.now) }
     {
         match (op, other) {
             (

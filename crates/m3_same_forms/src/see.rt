@@ -14,7 +14,9 @@ use std::alloc::AllocError;
 impl<'s> Side<'s> {
     fn see_three(self, to: u32, left: u32, right: u32, words: Operand) -> Result<Seen, AllocError>
         ensures { IfOk result (λ s. s
-            ≡ seen.computes_three (form_at (option_copied self.entry.common) self.entry.settings.now) to left right words) }
+            ≡ seen.computes_three
+            (form_at (option_copied self.entry.common) self.entry.settings.now)
+            to left right words) }
     {
         Ok(Seen::Computes {
             to,
@@ -29,7 +31,8 @@ impl<'s> Side<'s> {
 
     fn see_copy(self, to: u32, from: u32, words: Operand) -> Result<Seen, AllocError>
         ensures { IfOk result (λ s. s
-            ≡ seen.copies (form_at (option_copied self.entry.common) self.entry.settings.now) to from words) }
+            ≡ seen.copies
+            (form_at (option_copied self.entry.common) self.entry.settings.now) to from words) }
     {
         Ok(Seen::Changes {
             deed: Deed::Copy,
@@ -41,7 +44,8 @@ impl<'s> Side<'s> {
 
     fn see_fill(self, at: u32, words: Operand, distance: Operand) -> Result<Seen, AllocError>
         ensures { IfOk result (λ s. s
-            ≡ seen.fills (form_at (option_copied self.entry.common) self.entry.settings.now) at words distance) }
+            ≡ seen.fills
+            (form_at (option_copied self.entry.common) self.entry.settings.now) at words distance) }
     {
         Ok(Seen::Changes {
             deed: Deed::Fill,
@@ -60,7 +64,8 @@ impl<'s> Side<'s> {
     /// What an operation does in a frame with these slots.
     pub fn see(self, slots: &[Slot], op: &MidOp<'_>) -> Result<Seen, AllocError>
         ensures { IfOk result (λ s. s
-            ≡ seen.seen slots.now (form_at (option_copied self.entry.common) self.entry.settings.now) op.now) }
+            ≡ seen.seen slots.now
+            (form_at (option_copied self.entry.common) self.entry.settings.now) op.now) }
     {
         let alloc = self.alloc;
         match op {

@@ -146,7 +146,9 @@ pub(crate) fn asks_one(alloc: Global, to: u32, tag: Tag, first: Form) -> Seen
 impl<'s> Side<'s> {
     pub(crate) fn behind(self, base: u32, distance: u64) -> Result<Form, AllocError>
         ensures { IfOk result (λ f. f
-            ≡ merge (form_at (option_copied self.entry.common) self.entry.settings.now base) (of_number distance)) }
+            ≡ merge
+            (form_at (option_copied self.entry.common) self.entry.settings.now base)
+            (of_number distance)) }
     {
         let base = self.temp(base)?;
         base.merge(self.alloc, Form::of_number(self.alloc, distance)?)
@@ -160,7 +162,9 @@ impl<'s> Side<'s> {
         offset: u64,
     ) -> Result<Form, AllocError>
         ensures { IfOk result (λ f. f
-            ≡ seen.element_form (form_at (option_copied self.entry.common) self.entry.settings.now) array index words offset) }
+            ≡ seen.element_form
+            (form_at (option_copied self.entry.common) self.entry.settings.now)
+            array index words offset) }
     {
         let array = self.temp(array)?;
         let index = self.operand(index)?;
@@ -176,7 +180,8 @@ impl<'s> Side<'s> {
         right: Operand,
     ) -> Result<Seen, AllocError>
         ensures { IfOk result (λ s. s
-            ≡ seen.computes_two (form_at (option_copied self.entry.common) self.entry.settings.now) to tag left right) }
+            ≡ seen.computes_two
+            (form_at (option_copied self.entry.common) self.entry.settings.now) to tag left right) }
     {
         Ok(Seen::Computes {
             to,
@@ -196,7 +201,8 @@ impl<'s> Side<'s> {
         from: MemoryWord,
     ) -> Result<Seen, AllocError>
         ensures { IfOk result (λ s. s
-            ≡ seen.seen_load slots.now (form_at (option_copied self.entry.common) self.entry.settings.now) to from) }
+            ≡ seen.seen_load slots.now
+            (form_at (option_copied self.entry.common) self.entry.settings.now) to from) }
     {
         let alloc = self.alloc;
         match from {
@@ -227,7 +233,8 @@ impl<'s> Side<'s> {
         value: Form,
     ) -> Result<Seen, AllocError>
         ensures { IfOk result (λ s. s
-            ≡ seen.seen_store slots.now (form_at (option_copied self.entry.common) self.entry.settings.now) at value) }
+            ≡ seen.seen_store slots.now
+            (form_at (option_copied self.entry.common) self.entry.settings.now) at value) }
     {
         let alloc = self.alloc;
         match at {

@@ -10,9 +10,9 @@ use crate::forms::{Form, Setting, Symbol};
 use m3_mid::Operand;
 use std::alloc::{AllocError, Global};
 
-/// What the temporaries of one side hold: what was set, newest first, and else what the default says:
-/// of the left side the temporary itself; of the right one the left one's, where the two have it in
-/// common.
+/// What the temporaries of one side hold: what was set, newest first, and else what the default
+/// says: of the left side the temporary itself; of the right one the left one's, where the two have
+/// it in common.
 #[derive(Clone, Copy)]
 pub struct Side<'s> {
     pub alloc: Global,
@@ -47,7 +47,8 @@ impl<'s> Side<'s> {
 
     /// What a temporary holds.
     pub fn temp(self, temp: u32) -> Result<Form, AllocError>
-        ensures { IfOk result (λ f. f ≡ form_at (option_copied self.entry.common) self.entry.settings.now temp) }
+        ensures { IfOk result (λ f. f
+            ≡ form_at (option_copied self.entry.common) self.entry.settings.now temp) }
     {
         for setting in self.settings {
             if temp == setting.temp {
@@ -59,7 +60,8 @@ impl<'s> Side<'s> {
 
     /// What an operand is.
     pub fn operand(self, operand: Operand) -> Result<Form, AllocError>
-        ensures { IfOk result (λ f. f ≡ operand_form (form_at (option_copied self.entry.common) self.entry.settings.now) operand) }
+        ensures { IfOk result (λ f. f ≡ operand_form
+            (form_at (option_copied self.entry.common) self.entry.settings.now) operand) }
     {
         match operand {
             Operand::Temp(temp) => self.temp(temp),
