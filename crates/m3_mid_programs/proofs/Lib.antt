@@ -7,3 +7,4 @@ pub mod Reading
 pub mod Staying
 pub mod Writing
 pub mod Cells
+pub mod Results
