@@ -8,7 +8,7 @@ use Rattle.m3_runs.specs.Languages.{Service, Answer, Gives, Raises, Fails, Move,
 use Rattle.m3_runs.specs.States.{Given, State, with_memory, changing}
 use Rattle.m3_runs.specs.Services.{Done, Comes_to, Rests, Stops, answers, finding, flag, alert_cleared, alerted_at, alert_marked, woken_at, woken, asleep, Sleeper, earlier, sleeps_on_at, place_at, sleeper_if, longest_from, woken_by, signalled, woken_on, broadcasted, done, tells, is_alerted, takes, held_by, holding, falls_asleep, waits_at, joins_if, serves}
 use Rattle.m3_runs.specs.Follows as rel
-use Rattle.m3_runs.specs.Follows.{Each, none, more, Both, neither, both, AsDefined, undefined, defined, IsOne, Standing, SameService, SameAnswer, SameMove, SameStatus, SameThread, SameLife, SameParts, SameCounts, Shows, Room, Follows}
+use Rattle.m3_runs.specs.Follows.{Each, none, more, Both, neither, both, AsDefined, undefined, defined, IsOne, Standing, SameService, SameAnswer, SameMove, SameStatus, SameThread, SameLife, SameParts, SameCounts, Shows, Room, Invariant, Follows}
 use Rattle.m3_runs.proofs.Rows.{updated_each, map_each, option_both}
 
 module _ {W SA VA MA SB VB MB : Type 0} (R : Standing W SA VA MA SB VB MB) where
@@ -72,7 +72,7 @@ module _ {W SA VA MA SB VB MB : Type 0} (R : Standing W SA VA MA SB VB MB) (w : 
   asleep_so : (v u : VA) (v' u' : VB) (place : ℕ) (alertable : Bool) → R.value w v v' → R.value w u u' → (t : Thread SA VA) (t' : Thread SB VB) → SameThread R w t t' → SameThread R w (asleep v u place alertable t) (asleep v' u' place alertable t')
   asleep_so v u v' u' place alertable h k t t' th = record { action = th.action; status = rel.waits v u v' u' place alertable h k; alerted = th.alerted; cell = th.cell; stack = th.stack }
 
-module _ {W SA VA MA SB VB MB : Type 0} (R : Standing W SA VA MA SB VB MB) (K : Language SA VA MA) (L : Language SB VB MB) (room : Room R) (F : Follows R K L room) (w : W) where
+module _ {W SA VA MA SB VB MB : Type 0} (R : Standing W SA VA MA SB VB MB) (K : Language SA VA MA) (L : Language SB VB MB) (I : Invariant SA VA MA) (J : Invariant SB VB MB) (room : Room R) (F : Follows R K L I J room) (w : W) where
   -- ---- sleepers
 
   module _ (m : MA) (m' : MB) (mem : R.memory w m m') where

@@ -1,15 +1,16 @@
 -- From the same action on, two threads come to the same end of their turns.
-use Rattle.std.proofs.Common.{◌≡◌, ℕ, zero, suc, List, [], ◌∷◌, Option, arith}
+use Rattle.std.proofs.Common.{refl, ◌≡◌, ℕ, zero, suc, List, [], ◌∷◌, Option, arith}
 use Rattle.m3_base.specs.declared.outcomes.FaultKind.{FaultKind}
 use Rattle.m3_base.specs.declared.outcomes.Outcome.{Outcome}
 use Rattle.m3_base.specs.declared.outcomes.Outcome.TheVariants as outcome
-use Rattle.m3_runs.specs.Languages.{New, Action, Service, Status, Answer, Move, Thread, Language}
+use Rattle.m3_runs.specs.Languages.{New, Action, Service, Status, Answer, Move, Thread, Language, Parts}
 use Rattle.m3_runs.specs.States.{State, thread_at, status_at, status_at_service, come_to}
-use Rattle.m3_runs.specs.Services.{Done}
+use Rattle.m3_runs.specs.Services.{Done, Comes_to}
 use Rattle.m3_runs.specs.Runs as run
 use Rattle.m3_runs.specs.Runs.{Settled, Stands, Over, Failed, Broken, Settles, Result, Goes, Ends, Undefined, result_kept, thread_ended, settled, Finishes}
+use Rattle.m3_runs.specs.Keeping.{Keeps}
 use Rattle.m3_runs.specs.Follows as rel
-use Rattle.m3_runs.specs.Follows.{Each, Both, neither, both, AsDefined, undefined, defined, Standing, SameNew, SameService, SameAction, SameAnswer, SameMove, SameStatus, SameThread, SameCounts, Shows, Room, Follows}
+use Rattle.m3_runs.specs.Follows.{Each, Both, neither, both, AsDefined, undefined, defined, Standing, SameNew, SameService, SameAction, SameAnswer, SameMove, SameStatus, SameThread, SameCounts, Shows, Room, Invariant, Follows}
 use Rattle.m3_runs.proofs.Rows.{each_mapped, both_mapped, at_each, updated_each, without_each}
 use Rattle.m3_runs.proofs.Serving as serving
 use Rattle.m3_runs.proofs.Serving.{SameDone}
@@ -100,7 +101,7 @@ module _ {W SA VA MA SB VB MB : Type 0} (R : Standing W SA VA MA SB VB MB) where
     ends : (u : State SA VA MA) (u' : State SB VB MB) (o : Outcome) → u.output ≡ u'.output → u.points ≡ u'.points → SameResult (Ends u o) (Ends u' o)
     undefined_so : (r' : Result SB VB MB) → SameResult Undefined r'
 
-module _ {W SA VA MA SB VB MB : Type 0} (R : Standing W SA VA MA SB VB MB) (K : Language SA VA MA) (L : Language SB VB MB) (room : Room R) (F : Follows R K L room) where
+module _ {W SA VA MA SB VB MB : Type 0} (R : Standing W SA VA MA SB VB MB) (K : Language SA VA MA) (L : Language SB VB MB) (I : Invariant SA VA MA) (J : Invariant SB VB MB) (room : Room R) (F : Follows R K L I J room) (A : Keeps K I) (B : Keeps L J) where
   record SettlesSo (w : W) (rest : List SA) (move : Move SA VA MA) (to' : Settled SB VB MB) : Type 0 where
     world : W
     later : R.later w world
@@ -108,27 +109,27 @@ module _ {W SA VA MA SB VB MB : Type 0} (R : Standing W SA VA MA SB VB MB) (K : 
     settles : Settles K rest move to
     same : SameSettled R world to to'
 
-  settles_so : (w : W) (rest : List SA) (rest' : List SB) (move : Move SA VA MA) (move' : Move SB VB MB) (to' : Settled SB VB MB) →
+  settles_so : (w : W) (parts : Parts SA VA MA) (parts' : Parts SB VB MB) (n : ℕ) (rest : List SA) (rest' : List SB) (move : Move SA VA MA) (move' : Move SB VB MB) (to' : Settled SB VB MB) → I.within parts n rest move → J.within parts' n rest' move' →
       SameMove R w rest rest' move move' → Settles L rest' move' to' → SettlesSo w rest move to'
-  settles_so w rest rest' move move' to' (rel.acts a a' s s' m m' act st mem) (run.stands _ _ _ _) = record {
+  settles_so w parts parts' n rest rest' move move' to' known known' (rel.acts a a' s s' m m' act st mem) (run.stands _ _ _ _) = record {
     world = w;
     later = F.same_moment w;
     to = Stands a (s ∷ rest) m;
     settles = run.stands rest a s m;
     same = stands a a' (s ∷ rest) (s' ∷ rest') m m' act st mem;
   }
-  settles_so w [] rest' move move' to' (rel.leaves a a' m m' answer st mem) (run.over _ _) = record {
+  settles_so w parts parts' n [] rest' move move' to' known known' (rel.leaves a a' m m' answer st mem) (run.over _ _) = record {
     world = w;
     later = F.same_moment w;
     to = Over a m;
     settles = run.over a m;
     same = over a a' m m' answer mem;
   }
-  settles_so w (s ∷ ss) rest' move move' to' (rel.leaves a a' m m' answer st mem) (run.over _ _) = absurd (let e = F.as_deep w (s ∷ ss) [] st in omega (arith, e))
-  settles_so w [] rest' move move' to' (rel.leaves a a' m m' answer st mem) (run.back s' ss' _ _ next' _ going settles) = absurd (let e = F.as_deep w [] (s' ∷ ss') st in omega (arith, e))
-  settles_so w (s ∷ ss) rest' move move' to' (rel.leaves a a' m m' answer st mem) (run.back s' ss' _ _ next' _ going settles) =
-      let h = F.goes w s s' ss ss' a a' m m' next' st answer mem going in
-      let k = settles_so h.world ss ss' h.move next' to' h.same settles in
+  settles_so w parts parts' n (s ∷ ss) rest' move move' to' known known' (rel.leaves a a' m m' answer st mem) (run.over _ _) = absurd (let e = F.as_deep w (s ∷ ss) [] st in omega (arith, e))
+  settles_so w parts parts' n [] rest' move move' to' known known' (rel.leaves a a' m m' answer st mem) (run.back s' ss' _ _ next' _ going settles) = absurd (let e = F.as_deep w [] (s' ∷ ss') st in omega (arith, e))
+  settles_so w parts parts' n (s ∷ ss) rest' move move' to' known known' (rel.leaves a a' m m' answer st mem) (run.back s' ss' _ _ next' _ going settles) =
+      let h = F.goes w s s' ss ss' a a' m m' next' parts parts' n known known' st answer mem going in
+      let k = settles_so h.world parts parts' n ss ss' h.move next' to' (A.goes parts n s ss a m h.move known h.goes) (B.goes parts' n s' ss' a' m' next' known' going) h.same settles in
       record {
         world = k.world;
         later = F.later_still w h.world k.world h.later k.later;
@@ -136,14 +137,14 @@ module _ {W SA VA MA SB VB MB : Type 0} (R : Standing W SA VA MA SB VB MB) (K : 
         settles = run.back s ss a m h.move k.to h.goes k.settles;
         same = k.same;
       }
-  settles_so w rest rest' move move' to' (rel.faults kind file line) (run.faults _ _ _ _) = record {
+  settles_so w parts parts' n rest rest' move move' to' known known' (rel.faults kind file line) (run.faults _ _ _ _) = record {
     world = w;
     later = F.same_moment w;
     to = Failed kind file line;
     settles = run.faults rest kind file line;
     same = failed kind file line;
   }
-  settles_so w rest rest' move move' to' (rel.breaks _) h = record { world = w; later = F.same_moment w; to = Broken; settles = run.breaks rest; same = broken to' }
+  settles_so w parts parts' n rest rest' move move' to' known known' (rel.breaks _) h = record { world = w; later = F.same_moment w; to = Broken; settles = run.breaks rest; same = broken to' }
 
   module _ (w : W) (s : State SA VA MA) (s' : State SB VB MB) (n : ℕ) (threads : Each (Both (SameThread R w)) s.parts.threads s'.parts.threads) (counts : SameCounts R s s') where
     kept_so : (o : Option MA) (o' : Option MB) → AsDefined (R.memory w) o o' → SameResult R (result_kept K s n o) (result_kept L s' n o')
@@ -189,11 +190,12 @@ module _ {W SA VA MA SB VB MB : Type 0} (R : Standing W SA VA MA SB VB MB) (K : 
     pub finishes : Finishes K n done result
     pub same : SameResult R result r'
 
-  pub finishes_so : (w : W) (n : ℕ) (done : Done SA VA MA) (done' : Done SB VB MB) (r' : Result SB VB MB) → SameDone R w done done' → Finishes L n done' r' → FinishesSo n done r'
-  finishes_so w n done done' r' (serving.comes s s' stack stack' move move' ts counts h) (run.comes _ _ _ to' settles) =
-      let k = settles_so w stack stack' move move' to' h settles in
+  pub finishes_so : (w : W) (n : ℕ) (done : Done SA VA MA) (done' : Done SB VB MB) (r' : Result SB VB MB) → ((s : State SA VA MA) (stack : List SA) (move : Move SA VA MA) → done ≡ Comes_to s stack move → I.within s.parts n stack move) →
+      ((s' : State SB VB MB) (stack' : List SB) (move' : Move SB VB MB) → done' ≡ Comes_to s' stack' move' → J.within s'.parts n stack' move') → SameDone R w done done' → Finishes L n done' r' → FinishesSo n done r'
+  finishes_so w n done done' r' known known' (serving.comes s s' stack stack' move move' ts counts h) (run.comes _ _ _ to' settles) =
+      let k = settles_so w s.parts s'.parts n stack stack' move move' to' (known s stack move refl) (known' s' stack' move' refl) h settles in
       let ts' = threads_stay R w k.world (λ v v'. F.value_stays w k.world v v' k.later) (λ ss ss'. F.stack_stays w k.world ss ss' k.later) s.parts.threads s'.parts.threads ts in
       record { result = settled K s n k.to; finishes = run.comes s stack move k.to k.settles; same = settled_so k.world s s' n k.to to' ts' counts k.same }
-  finishes_so w n done done' r' (serving.rests s s' sh) (run.rests _) = record { result = Goes s; finishes = run.rests s; same = goes w s s' sh }
-  finishes_so w n done done' r' (serving.stops s s' o counts) (run.stops _ _) = record { result = Ends s o; finishes = run.stops s o; same = ends s s' o counts.output counts.points }
-  finishes_so w n done done' r' (serving.breaks s stack _) h = record { result = settled K s n Broken; finishes = run.comes s stack _ Broken (run.breaks stack); same = broken_so s n r' }
+  finishes_so w n done done' r' known known' (serving.rests s s' sh) (run.rests _) = record { result = Goes s; finishes = run.rests s; same = goes w s s' sh }
+  finishes_so w n done done' r' known known' (serving.stops s s' o counts) (run.stops _ _) = record { result = Ends s o; finishes = run.stops s o; same = ends s s' o counts.output counts.points }
+  finishes_so w n done done' r' known known' (serving.breaks s stack _) h = record { result = settled K s n Broken; finishes = run.comes s stack _ Broken (run.breaks stack); same = broken_so s n r' }

@@ -30,6 +30,18 @@ pub data Needs {V : Type 0} : Action V → New V → Type 0 where
   needs_new : (new : New V) → Needs (Makes new) new
   needs_cell : (closure : V) (number : ℕ) → Needs (Forks closure) (ThreadCell number)
 
+-- ---- what holds wherever runs come
+
+-- Of the threads and memory between two turns; and in the turn of a thread, of the move to which its
+-- activations came, over the older ones. That a language keeps it is a law (Keeping).
+pub record Invariant (S V M : Type 0) : Type 1 where
+  pub between : Parts S V M → Type 0
+  pub within : Parts S V M → (thread : ℕ) → List S → Move S V M → Type 0
+
+-- nothing is asked
+abbrev pub anything : {S V M : Type 0} → Invariant S V M
+anything = record { between = λ parts. Unit {0}; within = λ parts n stack move. Unit {0} }
+
 -- ---- what stands for what
 
 -- WHAT STANDS FOR WHAT at a moment: values, stacks of activations and memories of the one language
@@ -164,6 +176,7 @@ module _ {W SA VA MA SB VB MB : Type 0} (R : Standing W SA VA MA SB VB MB) where
       (t : Thread SA VA) (t' : Thread SB VB) : Type 0 where
     pub state : SameParts w parts parts'
     pub there : thread_at parts.threads n ≡ Some t
+    pub there' : thread_at parts'.threads n ≡ Some t'
     pub same : SameThread w t t'
 
   -- what the first language does as the second one moves so
@@ -206,8 +219,10 @@ module _ {W SA VA MA SB VB MB : Type 0} (R : Standing W SA VA MA SB VB MB) where
 
   -- A LANGUAGE L FOLLOWS A LANGUAGE K, activation by activation and cell by cell: what L does, K
   -- does. Worlds grow as cells are made. A collection of L leaves the state of K as it is, in
-  -- another world.
-  pub record Follows (K : Language SA VA MA) (L : Language SB VB MB) (room : Room) : Type 0 where
+  -- another world. What is asked is asked of states that a run may come to: an invariant of each
+  -- language holds there.
+  pub record Follows (K : Language SA VA MA) (L : Language SB VB MB) (I : Invariant SA VA MA)
+      (J : Invariant SB VB MB) (room : Room) : Type 0 where
     -- moments
     pub same_moment : (w : W) → R.later w w
     pub later_still : (w w' w2 : W) → R.later w w' → R.later w' w2 → R.later w w2
@@ -222,25 +237,32 @@ module _ {W SA VA MA SB VB MB : Type 0} (R : Standing W SA VA MA SB VB MB) where
         (t : Thread SA VA) (t' : Thread SB VB)
         (p : ℕ) (v : VA) (v' : VB) (formals : List VA) (others : List VB)
         (entered : Entered SB VB MB)
+        → I.between parts → J.between parts'
         → IsActing w parts parts' n t t' → t.action ≡ Calls p v formals → R.value w v v'
         → Each (R.value w) formals others
         → L.enters t'.stack p v' others parts'.memory entered
         → EntersSo K w t.stack t'.stack p v formals parts.memory (room.no_frame parts n) entered
     pub goes : (w : W) (s : SA) (s' : SB) (rest : List SA) (rest' : List SB) (a : Answer VA)
         (a' : Answer VB) (m : MA) (m' : MB) (move' : Move SB VB MB)
+        (parts : Parts SA VA MA) (parts' : Parts SB VB MB) (n : ℕ)
+        → I.within parts n (s ∷ rest) (Leaves a m) → J.within parts' n (s' ∷ rest') (Leaves a' m')
         → R.stack w (s ∷ rest) (s' ∷ rest') → SameAnswer w a a' → R.memory w m m'
         → L.goes s' a' m' move' → GoesSo K w s rest rest' a m move'
-    pub shows : (w : W) (ss : List SA) (ss' : List SB) (m : MA) (m' : MB)
-        → R.stack w ss ss' → R.memory w m m'
-        → Each (Each (SameShown w)) (map (K.shows m) ss) (map (L.shows m') ss')
+    pub shows : (w : W) (parts : Parts SA VA MA) (parts' : Parts SB VB MB) (n : ℕ)
+        (t : Thread SA VA) (t' : Thread SB VB)
+        → I.between parts → J.between parts' → IsActing w parts parts' n t t'
+        → Each (Each (SameShown w)) (map (K.shows parts.memory) t.stack)
+        (map (L.shows parts'.memory) t'.stack)
     -- cells
     pub makes : (w : W) (parts : Parts SA VA MA) (parts' after' : Parts SB VB MB) (n : ℕ)
         (t : Thread SA VA) (t' : Thread SB VB) (new : New VA) (new' : New VB) (v' : VB)
+        → I.between parts → J.between parts'
         → IsActing w parts parts' n t t' → Needs t.action new → SameNew w new new'
         → L.makes parts' n new' (Some v') after'
         → MakesSo K parts n new v' after'
     pub full : (w : W) (parts : Parts SA VA MA) (parts' after' : Parts SB VB MB) (n : ℕ)
         (t : Thread SA VA) (t' : Thread SB VB) (new : New VA) (new' : New VB)
+        → I.between parts → J.between parts'
         → IsActing w parts parts' n t t' → Needs t.action new → SameNew w new new'
         → L.makes parts' n new' None after'
         → room.no_cell parts n

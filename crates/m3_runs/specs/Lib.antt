@@ -6,3 +6,4 @@ pub mod Runs
 pub mod Follows
 pub mod Answers
 pub mod Laws
+pub mod Keeping
