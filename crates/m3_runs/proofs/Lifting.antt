@@ -3,7 +3,7 @@ use Rattle.std.proofs.Common.{◌≡◌, ℕ, suc, ◌+◌, ◌≤◌, ◌<◌, 
 use Rattle.m3_base.specs.declared.outcomes.Entry.{Entry}
 use Rattle.m3_base.specs.declared.outcomes.Outcome.{Outcome}
 use Rattle.m3_base.specs.declared.outcomes.Outcome.TheVariants as outcome
-use Rattle.m3_runs.specs.Languages.{New, ThreadCell, Action, Calls, Makes, Forks, Gives, Move, Breaks, Entered, Begins, Overflows, Thread, Begun, Parts, Language}
+use Rattle.m3_runs.specs.Languages.{New, ThreadCell, Action, Calls, Makes, Forks, Serves, Gives, Move, Breaks, Entered, Begins, Overflows, Thread, Begun, Parts, Language}
 use Rattle.m3_runs.specs.States.{Given, State, thread_at, living, with_parts, with_threads, beginning}
 use Rattle.m3_runs.specs.Choice.{lowest, choice, all_known}
 use Rattle.m3_runs.specs.Services.{Done, Comes_to, Stops, answers, serves}
@@ -115,7 +115,7 @@ module _ {W SA VA MA SB VB MB : Type 0} (R : Standing W SA VA MA SB VB MB) (K : 
         lacks_cell (with_parts s' parts')
         (F.full w s.parts s'.parts parts' n t t' (ThreadCell (length s.parts.threads)) (ThreadCell (length s'.parts.threads)) good good' acting (subst (λ i. Needs i (ThreadCell (length s.parts.threads))) (sym is) (rel.needs_cell c (length s.parts.threads))) cell_asked e) (counts_after s s' parts' sh.counts)
     does_so a a' done' is (rel.serves service other h) (run.served _) =
-        did w (serves K given n t service s) (serves L given n t' other s') (run.served service) (serves_so R K L I J room F w given n t t' acting.same service other s s' h sh)
+        did w (serves K given n t service s) (serves L given n t' other s') (run.served service) (serves_so R K L I J room F w given n t t' acting.same service other s s' (λ form v v' e k. F.bytes w s.parts s'.parts n t t' form v v' good good' acting (is ∙ ap Serves e) k) h sh)
 
   -- ---- a turn
 

@@ -4,7 +4,7 @@ use Rattle.std.specs.Prelude.{◌==◌, ◌&&◌, nat_le, if◌then◌else◌, s
 use Rattle.std.specs.Option.{option_map}
 use Rattle.m3_base.specs.declared.outcomes.Outcome.{Outcome}
 use Rattle.m3_base.specs.declared.outcomes.FaultKind.TheVariants.{Index, NotHeld, JoinTwice}
-use Rattle.m3_runs.specs.Languages.{Service, Answer, Gives, Raises, Fails, Move, Leaves, Breaks, Status, Thread, Life, Language}
+use Rattle.m3_runs.specs.Languages.{Service, Answer, Gives, Raises, Fails, Move, Leaves, Breaks, Status, Thread, Life, Language, Form, Put}
 use Rattle.m3_runs.specs.States.{Given, State, with_memory, changing}
 use Rattle.m3_runs.specs.Services.{Done, Comes_to, Rests, Stops, answers, finding, flag, alert_cleared, alerted_at, alert_marked, woken_at, woken, asleep, Sleeper, earlier, sleeps_on_at, place_at, sleeper_if, longest_from, woken_by, signalled, woken_on, broadcasted, done, tells, is_alerted, takes, held_by, holding, falls_asleep, waits_at, joins_if, serves}
 use Rattle.m3_runs.specs.Follows as rel
@@ -207,31 +207,32 @@ module _ {W SA VA MA SB VB MB : Type 0} (R : Standing W SA VA MA SB VB MB) (K : 
         (F.join w s.parts.memory s'.parts.memory v v' sh.parts.memory h)
         (λ m m' mem. answers_so R w (with_memory s m) (with_memory s' m') t t' (Gives (Some r)) (Gives (Some r')) (memory_so R w s s' m m' sh mem) th (rel.gives (Some r) (Some r') (both r r' k)))
 
-    pub serves_so : (service : Service VA) (other : Service VB) (s : State SA VA MA) (s' : State SB VB MB) → SameService R w service other → Shows R w s s' → SameDone R w (serves K given n t service s) (serves L given n t' other s')
-    serves_so service other s s' (rel.put form v v' h) sh =
+    pub serves_so : (service : Service VA) (other : Service VB) (s : State SA VA MA) (s' : State SB VB MB) → ((form : Form) (v : VA) (v' : VB) → service ≡ Put form v → R.value w v v' → AsDefined IsOne (K.bytes s.parts.memory form v) (L.bytes s'.parts.memory form v')) →
+        SameService R w service other → Shows R w s s' → SameDone R w (serves K given n t service s) (serves L given n t' other s')
+    serves_so service other s s' puts (rel.put form v v' h) sh =
         finding_so R w IsOne (K.bytes s.parts.memory form v) (L.bytes s'.parts.memory form v') s s' (λ x. done K given n t (record s { output = s.output ++ x })) (λ x. done L given n t' (record s' { output = s'.output ++ x }))
-        (F.bytes form w s.parts.memory s'.parts.memory v v' sh.parts.memory h) (λ x y e. put_so s s' x y sh e)
-    serves_so service other s s' rel.get_byte sh =
+        (puts form v v' refl h) (λ x y e. put_so s s' x y sh e)
+    serves_so service other s s' puts rel.get_byte sh =
         subst (λ i. SameDone R w (takes K given n t (slice_get given.input s.taken) s) (takes L given n t' (slice_get given.input i) s')) sh.counts.taken (takes_so (slice_get given.input s.taken) s s' sh)
-    serves_so service other s s' rel.end_of_input sh =
+    serves_so service other s s' puts rel.end_of_input sh =
         subst (λ i. SameDone R w (tells K given n t (flag (nat_le (length given.input) s.taken)) s) (tells L given n t' (flag (nat_le (length given.input) i)) s')) sh.counts.taken (tells_so (flag (nat_le (length given.input) s.taken)) s s' sh)
-    serves_so service other s s' (rel.acquire v v' h) sh = held_so (n + 1) v v' s s' (done K given n t) (done L given n t') h sh done_so
-    serves_so service other s s' (rel.release v v' h) sh =
+    serves_so service other s s' puts (rel.acquire v v' h) sh = held_so (n + 1) v v' s s' (done K given n t) (done L given n t') h sh done_so
+    serves_so service other s s' puts (rel.release v v' h) sh =
         holding_so v v' s s' (held_by K given n t 0 v s (done K given n t)) (held_by L given n t' 0 v' s' (done L given n t')) h sh (held_so 0 v v' s s' (done K given n t) (done L given n t') h sh done_so)
-    serves_so service other s s' (rel.wait v u v' u' alertable h k) sh = waits_so t.status t'.status v u v' u' alertable s s' th.status h k sh
-    serves_so service other s s' (rel.signal v v' h) sh = done_so (signalled K v s) (signalled L v' s') (signalled_so v v' s s' h sh)
-    serves_so service other s s' (rel.broadcast v v' h) sh = done_so (broadcasted K v s) (broadcasted L v' s') (broadcasted_so v v' s s' h sh)
-    serves_so service other s s' (rel.join v v' alertable h) sh =
+    serves_so service other s s' puts (rel.wait v u v' u' alertable h k) sh = waits_so t.status t'.status v u v' u' alertable s s' th.status h k sh
+    serves_so service other s s' puts (rel.signal v v' h) sh = done_so (signalled K v s) (signalled L v' s') (signalled_so v v' s s' h sh)
+    serves_so service other s s' puts (rel.broadcast v v' h) sh = done_so (broadcasted K v s) (broadcasted L v' s') (broadcasted_so v v' s s' h sh)
+    serves_so service other s s' puts (rel.join v v' alertable h) sh =
         if_so R w (alertable && t.alerted) (alertable && t'.alerted) (is_alerted K given n t s) (finding s (K.life s.parts.memory v) (joins_if K given n t v s)) (is_alerted L given n t' s') (finding s' (L.life s'.parts.memory v') (joins_if L given n t' v' s'))
         (marked_and alertable) (alerted_so s s' sh)
         (finding_so R w (SameLife R w) (K.life s.parts.memory v) (L.life s'.parts.memory v') s s' (joins_if K given n t v s) (joins_if L given n t' v' s')
         (F.life w s.parts.memory s'.parts.memory v v' sh.parts.memory h) (λ x y k. joins_so v v' s s' x y h sh k))
-    serves_so service other s s' rel.my_self sh = answers_so R w s s' t t' (Gives (Some t.cell)) (Gives (Some t'.cell)) sh th (rel.gives (Some t.cell) (Some t'.cell) (both t.cell t'.cell th.cell))
-    serves_so service other s s' (rel.alert v v' h) sh =
+    serves_so service other s s' puts rel.my_self sh = answers_so R w s s' t t' (Gives (Some t.cell)) (Gives (Some t'.cell)) sh th (rel.gives (Some t.cell) (Some t'.cell) (both t.cell t'.cell th.cell))
+    serves_so service other s s' puts (rel.alert v v' h) sh =
         finding_so R w IsOne (K.number_of s.parts.memory v) (L.number_of s'.parts.memory v') s s' (λ k. done K given n t (changing alert_marked k s)) (λ k. done L given n t' (changing alert_marked k s'))
         (F.number_of w s.parts.memory s'.parts.memory v v' sh.parts.memory h)
         (λ i j e. subst (λ k. SameDone R w (done K given n t (changing alert_marked i s)) (done L given n t' (changing alert_marked k s'))) e
         (done_so (changing alert_marked i s) (changing alert_marked i s') (changing_so R w alert_marked alert_marked i s s' (marked_so R w) sh)))
-    serves_so service other s s' rel.test_alert sh =
+    serves_so service other s s' puts rel.test_alert sh =
         subst (λ b. SameDone R w (tells K given n t (flag t.alerted) (changing alert_cleared n s)) (tells L given n t' (flag b) (changing alert_cleared n s'))) th.alerted
         (tells_so (flag t.alerted) (changing alert_cleared n s) (changing alert_cleared n s') (changing_so R w alert_cleared alert_cleared n s s' (cleared_so R w) sh))

@@ -1,9 +1,9 @@
 -- From the same action on, two threads come to the same end of their turns.
-use Rattle.std.proofs.Common.{refl, ◌≡◌, ℕ, zero, suc, List, [], ◌∷◌, Option, arith}
+use Rattle.std.proofs.Common.{refl, ◌≡◌, ℕ, zero, suc, List, [], ◌∷◌, Option, arith, subst}
 use Rattle.m3_base.specs.declared.outcomes.FaultKind.{FaultKind}
 use Rattle.m3_base.specs.declared.outcomes.Outcome.{Outcome}
 use Rattle.m3_base.specs.declared.outcomes.Outcome.TheVariants as outcome
-use Rattle.m3_runs.specs.Languages.{New, Action, Service, Status, Answer, Move, Thread, Language, Parts}
+use Rattle.m3_runs.specs.Languages.{New, Action, Service, Status, Answer, Move, Thread, Language, Parts, Leaves, Gives}
 use Rattle.m3_runs.specs.States.{State, thread_at, status_at, status_at_service, come_to}
 use Rattle.m3_runs.specs.Services.{Done, Comes_to}
 use Rattle.m3_runs.specs.Runs as run
@@ -101,6 +101,18 @@ module _ {W SA VA MA SB VB MB : Type 0} (R : Standing W SA VA MA SB VB MB) where
     ends : (u : State SA VA MA) (u' : State SB VB MB) (o : Outcome) → u.output ≡ u'.output → u.points ≡ u'.points → SameResult (Ends u o) (Ends u' o)
     undefined_so : (r' : Result SB VB MB) → SameResult Undefined r'
 
+-- what holds where a thread's lowest activation is left
+over_known : {S V M : Type 0} (L : Language S V M) (I : Invariant S V M) → Keeps L I → (parts : Parts S V M) (n : ℕ) (rest : List S) (move : Move S V M) (to : Settled S V M) (a : Answer V) (m : M) → I.within parts n rest move → Settles L rest move to → to ≡ Over a m → I.within parts n [] (Leaves a m)
+over_known L I A parts n rest move to a m known (run.stands ss action s m') e = absurd (let bad : Stands action (s ∷ ss) m' ≡ Over a m = e in cc)
+over_known L I A parts n rest move to a m known (run.over b i) e =
+    let q : Over b i ≡ Over a m = e in
+    let x : b ≡ a = cc in
+    let y : i ≡ m = cc in
+    subst (λ z. I.within parts n [] (Leaves a z)) y (subst (λ z. I.within parts n [] (Leaves z i)) x known)
+over_known L I A parts n rest move to a m known (run.back s ss b i next _ going later) e = over_known L I A parts n ss next to a m (A.goes parts n s ss b i next known going) later e
+over_known L I A parts n rest move to a m known (run.faults ss kind file line) e = absurd (let bad : Failed kind file line ≡ Over a m = e in cc)
+over_known L I A parts n rest move to a m known (run.breaks ss) e = absurd (let bad : Broken ≡ Over a m = e in cc)
+
 module _ {W SA VA MA SB VB MB : Type 0} (R : Standing W SA VA MA SB VB MB) (K : Language SA VA MA) (L : Language SB VB MB) (I : Invariant SA VA MA) (J : Invariant SB VB MB) (room : Room R) (F : Follows R K L I J room) (A : Keeps K I) (B : Keeps L J) where
   record SettlesSo (w : W) (rest : List SA) (move : Move SA VA MA) (to' : Settled SB VB MB) : Type 0 where
     world : W
@@ -154,11 +166,11 @@ module _ {W SA VA MA SB VB MB : Type 0} (R : Standing W SA VA MA SB VB MB) (K : 
       counts = record { output = counts.output; taken = counts.taken; points = counts.points; running = counts.running; waits = counts.waits };
     })
 
-    ended_so : (o : Option VA) (o' : Option VB) (m : MA) (m' : MB) (t : Option (Thread SA VA)) (t' : Option (Thread SB VB)) → Both (R.value w) o o' → R.memory w m m' → Both (SameThread R w) t t' →
+    ended_so : (o : Option VA) (o' : Option VB) (m : MA) (m' : MB) (t : Option (Thread SA VA)) (t' : Option (Thread SB VB)) → I.within s.parts n [] (Leaves (Gives o) m) → J.within s'.parts n [] (Leaves (Gives o') m') → Both (R.value w) o o' → R.memory w m m' → Both (SameThread R w) t t' →
         SameResult R (thread_ended K s n o m t) (thread_ended L s' n o' m' t')
-    ended_so o o' m m' t t' neither mem h = undefined_so (thread_ended L s' n o' m' t')
-    ended_so o o' m m' t t' (both v v' k) mem neither = undefined_so Undefined
-    ended_so o o' m m' t t' (both v v' k) mem (both x y h) = kept_so (K.end_with m x.cell v) (L.end_with m' y.cell v') (F.end_with w m m' x.cell v y.cell v' mem h.cell k)
+    ended_so o o' m m' t t' known known' neither mem h = undefined_so (thread_ended L s' n o' m' t')
+    ended_so o o' m m' t t' known known' (both v v' k) mem neither = undefined_so Undefined
+    ended_so o o' m m' t t' known known' (both v v' k) mem (both x y h) = kept_so (K.end_with m x.cell v) (L.end_with m' y.cell v') (F.end_with w s.parts s'.parts n m m' x.cell v y.cell v' known known' mem h.cell k)
 
     stands_so : (a : Action VA) (a' : Action VB) (ss : List SA) (ss' : List SB) (m : MA) (m' : MB) → SameAction R w a a' → R.stack w ss ss' → R.memory w m m' → SameResult R (settled K s n (Stands a ss m)) (settled L s' n (Stands a' ss' m'))
     stands_so a a' ss ss' m m' h st mem = goes w _ _ (record {
@@ -166,18 +178,18 @@ module _ {W SA VA MA SB VB MB : Type 0} (R : Standing W SA VA MA SB VB MB) (K : 
       counts = record { output = counts.output; taken = counts.taken; points = counts.points; running = counts.running; waits = counts.waits };
     })
 
-  settled_so : (w : W) (s : State SA VA MA) (s' : State SB VB MB) (n : ℕ) (to : Settled SA VA MA) (to' : Settled SB VB MB) →
+  settled_so : (w : W) (s : State SA VA MA) (s' : State SB VB MB) (n : ℕ) (to : Settled SA VA MA) (to' : Settled SB VB MB) → ((a : Answer VA) (m : MA) → to ≡ Over a m → I.within s.parts n [] (Leaves a m)) → ((a' : Answer VB) (m' : MB) → to' ≡ Over a' m' → J.within s'.parts n [] (Leaves a' m')) →
       Each (Both (SameThread R w)) s.parts.threads s'.parts.threads → SameCounts R s s' → SameSettled R w to to' → SameResult R (settled K s n to) (settled L s' n to')
-  settled_so w s s' n to to' ts counts (stands a a' ss ss' m m' h st mem) = stands_so w s s' n ts counts a a' ss ss' m m' h st mem
-  settled_so w s s' zero to to' ts counts (over a a' m m' (rel.gives v v' h) mem) = ends _ _ outcome.Done counts.output counts.points
-  settled_so w s s' (suc n) to to' ts counts (over a a' m m' (rel.gives v v' h) mem) =
-      ended_so w s s' (suc n) ts counts v v' m m' (thread_at s.parts.threads (suc n)) (thread_at s'.parts.threads (suc n)) h mem (at_each (SameThread R w) s.parts.threads s'.parts.threads (suc n) ts)
-  settled_so w s s' zero to to' ts counts (over a a' m m' (rel.raises e v u v' u' h k) mem) = ends _ _ (outcome.Uncaught e) counts.output counts.points
-  settled_so w s s' (suc n) to to' ts counts (over a a' m m' (rel.raises e v u v' u' h k) mem) = ends _ _ (outcome.Uncaught e) counts.output counts.points
-  settled_so w s s' zero to to' ts counts (over a a' m m' (rel.fails kind) mem) = undefined_so _
-  settled_so w s s' (suc n) to to' ts counts (over a a' m m' (rel.fails kind) mem) = undefined_so _
-  settled_so w s s' n to to' ts counts (failed kind file line) = ends _ _ (outcome.Fault kind file line) counts.output counts.points
-  settled_so w s s' n to to' ts counts (broken _) = undefined_so _
+  settled_so w s s' n to to' known known' ts counts (stands a a' ss ss' m m' h st mem) = stands_so w s s' n ts counts a a' ss ss' m m' h st mem
+  settled_so w s s' zero to to' known known' ts counts (over a a' m m' (rel.gives v v' h) mem) = ends _ _ outcome.Done counts.output counts.points
+  settled_so w s s' (suc n) to to' known known' ts counts (over a a' m m' (rel.gives v v' h) mem) =
+      ended_so w s s' (suc n) ts counts v v' m m' (thread_at s.parts.threads (suc n)) (thread_at s'.parts.threads (suc n)) (known (Gives v) m refl) (known' (Gives v') m' refl) h mem (at_each (SameThread R w) s.parts.threads s'.parts.threads (suc n) ts)
+  settled_so w s s' zero to to' known known' ts counts (over a a' m m' (rel.raises e v u v' u' h k) mem) = ends _ _ (outcome.Uncaught e) counts.output counts.points
+  settled_so w s s' (suc n) to to' known known' ts counts (over a a' m m' (rel.raises e v u v' u' h k) mem) = ends _ _ (outcome.Uncaught e) counts.output counts.points
+  settled_so w s s' zero to to' known known' ts counts (over a a' m m' (rel.fails kind) mem) = undefined_so _
+  settled_so w s s' (suc n) to to' known known' ts counts (over a a' m m' (rel.fails kind) mem) = undefined_so _
+  settled_so w s s' n to to' known known' ts counts (failed kind file line) = ends _ _ (outcome.Fault kind file line) counts.output counts.points
+  settled_so w s s' n to to' known known' ts counts (broken _) = undefined_so _
 
   broken_so : (s : State SA VA MA) (n : ℕ) (r' : Result SB VB MB) → SameResult R (settled K s n Broken) r'
   broken_so s zero r' = undefined_so r'
@@ -195,7 +207,7 @@ module _ {W SA VA MA SB VB MB : Type 0} (R : Standing W SA VA MA SB VB MB) (K : 
   finishes_so w n done done' r' known known' (serving.comes s s' stack stack' move move' ts counts h) (run.comes _ _ _ to' settles) =
       let k = settles_so w s.parts s'.parts n stack stack' move move' to' (known s stack move refl) (known' s' stack' move' refl) h settles in
       let ts' = threads_stay R w k.world (λ v v'. F.value_stays w k.world v v' k.later) (λ ss ss'. F.stack_stays w k.world ss ss' k.later) s.parts.threads s'.parts.threads ts in
-      record { result = settled K s n k.to; finishes = run.comes s stack move k.to k.settles; same = settled_so k.world s s' n k.to to' ts' counts k.same }
+      record { result = settled K s n k.to; finishes = run.comes s stack move k.to k.settles; same = settled_so k.world s s' n k.to to' (λ a m e. over_known K I A s.parts n stack move k.to a m (known s stack move refl) k.settles e) (λ a m e. over_known L J B s'.parts n stack' move' to' a m (known' s' stack' move' refl) settles e) ts' counts k.same }
   finishes_so w n done done' r' known known' (serving.rests s s' sh) (run.rests _) = record { result = Goes s; finishes = run.rests s; same = goes w s s' sh }
   finishes_so w n done done' r' known known' (serving.stops s s' o counts) (run.stops _ _) = record { result = Ends s o; finishes = run.stops s o; same = ends s s' o counts.output counts.points }
   finishes_so w n done done' r' known known' (serving.breaks s stack _) h = record { result = settled K s n Broken; finishes = run.comes s stack _ Broken (run.breaks stack); same = broken_so s n r' }

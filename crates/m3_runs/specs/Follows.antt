@@ -274,8 +274,11 @@ module _ {W SA VA MA SB VB MB : Type 0} (R : Standing W SA VA MA SB VB MB) where
     pub number : (w : W) (n : ℕ) → R.value w (K.number n) (L.number n)
     pub is_same : (w : W) (m : MA) (m' : MB) (v u : VA) (v' u' : VB) → R.memory w m m'
         → R.value w v v' → R.value w u u' → K.is_same v u ≡ L.is_same v' u'
-    pub bytes : (form : Form)
-        → ReadsSo (λ w. IsOne) (λ m v. K.bytes m form v) (λ m v. L.bytes m form v)
+    pub bytes : (w : W) (parts : Parts SA VA MA) (parts' : Parts SB VB MB) (n : ℕ)
+        (t : Thread SA VA) (t' : Thread SB VB) (form : Form) (v : VA) (v' : VB)
+        → I.between parts → J.between parts'
+        → IsActing w parts parts' n t t' → t.action ≡ Serves (Put form v) → R.value w v v'
+        → AsDefined IsOne (K.bytes parts.memory form v) (L.bytes parts'.memory form v')
     -- mutexes
     pub holder : ReadsSo (λ w. IsOne) K.holder L.holder
     pub hold : (holder : ℕ)
@@ -284,8 +287,11 @@ module _ {W SA VA MA SB VB MB : Type 0} (R : Standing W SA VA MA SB VB MB) where
     pub number_of : ReadsSo (λ w. IsOne) K.number_of L.number_of
     pub life : ReadsSo SameLife K.life L.life
     pub join : ReadsSo R.memory K.join L.join
-    pub end_with : (w : W) (m : MA) (m' : MB) (v u : VA) (v' u' : VB) → R.memory w m m'
-        → R.value w v v' → R.value w u u'
+    pub end_with : (w : W) (parts : Parts SA VA MA) (parts' : Parts SB VB MB) (n : ℕ) (m : MA)
+        (m' : MB) (v u : VA) (v' u' : VB)
+        → I.within parts n [] (Leaves (Gives (Some u)) m)
+        → J.within parts' n [] (Leaves (Gives (Some u')) m')
+        → R.memory w m m' → R.value w v v' → R.value w u u'
         → AsDefined (R.memory w) (K.end_with m v u) (L.end_with m' v' u')
     pub begins : ReadsSo SameBegun K.begins L.begins
     pub alerted : K.alerted ≡ L.alerted

@@ -312,13 +312,13 @@ module _ (c : Code) (k : Machine) (check : Sound c k.places k.limit) where
     ignores = λ parts. refl;
     number = λ w n. sound.plain n;
     is_same = λ w m m' v u v' u' mem h q. is_same_so c k.places k.limit w m m' mem v u v' u' h q;
-    bytes = λ form w m m' v v' mem h. bytes_so c k.places k.limit w m m' mem form v v' h;
+    bytes = λ w parts parts' n t t' form v v' good good' acting is h. bytes_so c k.places k.limit w parts.memory parts'.memory acting.state.memory form v v' h;
     holder = λ w m m' v v' mem h. holder_so c k.places k.limit w m m' mem v v' h;
     hold = λ n w m m' v v' mem h. hold_so c k.places k.limit w m m' mem v v' n h;
     number_of = λ w m m' v v' mem h. undefined None;
     life = λ w m m' v v' mem h. life_so c k.places k.limit w m m' mem v v' h;
     join = λ w m m' v v' mem h. join_so c k.places k.limit w m m' mem check.heap v v' h;
-    end_with = λ w m m' v u v' u' mem h q. end_so c k.places k.limit w m m' mem check.heap v u v' u' h q;
+    end_with = λ w parts parts' n m m' v u v' u' known known' mem h q. end_so c k.places k.limit w m m' mem check.heap v u v' u' h q;
     begins = λ w m m' v v' mem h. begins_so c k.places k.limit w m m' mem v v' h;
     alerted = refl;
   }
