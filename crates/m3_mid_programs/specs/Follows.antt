@@ -4,7 +4,7 @@ use Rattle.std.specs.Prelude.{◌≡◌, ℕ, List, [], ◌∷◌, ◌++◌, len
 use Rattle.m3_base.specs.declared.outcomes.FaultKind.{FaultKind}
 use Rattle.m3_base.specs.declared.places.Pos.{Pos}
 use Rattle.m3_core.specs.declared.program.ProcDef.{ProcDef}
-use Rattle.m3_runs.specs.Languages.{Action, Calls, New, Answer, Acts, Leaves, Faults, Overflows, Form, Thread, Parts}
+use Rattle.m3_runs.specs.Languages.{Action, Calls, Serves, Put, Gives, New, Answer, Acts, Leaves, Faults, Overflows, Form, Thread, Parts}
 use Rattle.m3_runs.specs.States.{thread_at}
 use Rattle.m3_runs.specs.Follows.{Each, IsOne, Invariant, AsDefined, Standing, SameAction, SameAnswer, SameShown, SameNew, SameLife, SameBegun, ReadsSo, IsActing, Needs, Room, Follows}
 use Rattle.m3_values.specs.Values.{Procedure, Pointer}
@@ -233,8 +233,13 @@ module _ {W : Type 0} (p : Program) (linked : Linked) (same_value : W → Thing 
     pub is_same : (w : W) (s : Store) (m : Memory) (v u : Thing) (v' u' : Value)
         → same_memory w s m → same_value w v v' → same_value w u u'
         → (language p).is_same v u ≡ (mid_language linked).is_same v' u'
-    pub bytes : (form : Form) → ReadsSo standing (λ w. IsOne)
-        (λ s v. (language p).bytes s form v) (λ m v. (mid_language linked).bytes m form v)
+    pub bytes : (w : W) (parts : Parts source.Activity Thing Store)
+        (parts' : Parts Activity Value Memory) (n : ℕ) (t : Thread source.Activity Thing)
+        (t' : Thread Activity Value) (form : Form) (v : Thing) (v' : Value)
+        → I.between parts → J.between parts' → IsActing standing w parts parts' n t t'
+        → t.action ≡ Serves (Put form v) → same_value w v v'
+        → AsDefined IsOne ((language p).bytes parts.memory form v)
+        ((mid_language linked).bytes parts'.memory form v')
     pub holder : ReadsSo standing (λ w. IsOne) (language p).holder (mid_language linked).holder
     pub hold : (holder : ℕ) → ReadsSo standing same_memory
         (λ s v. (language p).hold s v holder) (λ m v. (mid_language linked).hold m v holder)
@@ -242,7 +247,11 @@ module _ {W : Type 0} (p : Program) (linked : Linked) (same_value : W → Thing 
         (mid_language linked).number_of
     pub life : ReadsSo standing (SameLife standing) (language p).life (mid_language linked).life
     pub join : ReadsSo standing same_memory (language p).join (mid_language linked).join
-    pub end_with : (w : W) (s : Store) (m : Memory) (v u : Thing) (v' u' : Value)
+    pub end_with : (w : W) (parts : Parts source.Activity Thing Store)
+        (parts' : Parts Activity Value Memory) (n : ℕ) (s : Store) (m : Memory) (v u : Thing)
+        (v' u' : Value)
+        → I.within parts n [] (Leaves (Gives (Some u)) s)
+        → J.within parts' n [] (Leaves (Gives (Some u')) m)
         → same_memory w s m → same_value w v v' → same_value w u u'
         → AsDefined (same_memory w) ((language p).end_with s v u)
         ((mid_language linked).end_with m v' u')
