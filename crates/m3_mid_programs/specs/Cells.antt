@@ -7,7 +7,7 @@ use Rattle.std.specs.Fmt.{signed_decimal}
 use Rattle.m3_base.specs.Words.{signed_of}
 use Rattle.m3_runs.specs.Languages as run
 use Rattle.m3_runs.specs.Languages.{New, Form, Life, Alive, Ended, Joined, Thread, Parts}
-use Rattle.m3_mid_meaning.specs.Words.{Word, number, pointer, further, number_of, are_one_row, ◌>>=◌, Place, InCell, Outside}
+use Rattle.m3_mid_meaning.specs.Words.{Word, number, pointer, further, number_of, place_of, ◌>>=◌, Place, InCell, Outside}
 use Rattle.m3_mid_meaning.specs.Memory as words
 use Rattle.m3_mid_meaning.specs.Memory.{load, store, text_at}
 use Rattle.m3_mid_meaning.specs.Actions.{each_of}
@@ -108,12 +108,13 @@ natural = on_word number_of
 abbrev pub byte_in : ℕ → Option ℕ
 byte_in n = if nat_lt n 256 then Some n else None
 
-abbrev pub is_true : Option Bool → Bool
-is_true None = false
-is_true (Some test) = test
+-- references to cells that are the same
+abbrev pub is_same_cell : Option Place → Option Place → Bool
+is_same_cell (Some (InCell c zero)) (Some (InCell d zero)) = c == d
+is_same_cell _ _ = false
 
 abbrev pub is_same : Value → Value → Bool
-is_same (Words ws) (Words others) = is_true (are_one_row ws others)
+is_same (Words (v ∷ [])) (Words (w ∷ [])) = is_same_cell (place_of v) (place_of w)
 is_same _ _ = false
 
 -- a word of a cell is another one
