@@ -221,21 +221,28 @@ module _ {W : Type 0} (p : Program) (linked : Linked) (same_value : W → Thing 
           let a : source.Activation = first_activation p (start_at p c) in
           let alike : Alike w c c' a move' = record {
             first = w;
-            called = record { there = there; procedure = refl; environment = h; formals = hs; store = acting.state.memory; found = record {
-              parts = parts;
-              parts' = parts';
-              number = n;
-              thread = t;
-              thread' = t';
-              good = good;
-              good' = good';
-              there = acting.there;
-              there' = acting.there';
-              action = is;
-              store = refl;
-              memory = refl;
-              stack = refl;
-            } };
+            called = record {
+              there = there;
+              procedure = refl;
+              environment = h;
+              formals = hs;
+              store = acting.state.memory;
+              found = record {
+                parts = parts;
+                parts' = parts';
+                number = n;
+                thread = t;
+                thread' = t';
+                good = good;
+                good' = good';
+                there = acting.there;
+                there' = acting.there';
+                action = is;
+                store = refl;
+                memory = refl;
+                stack = refl;
+              };
+            };
             here = refl;
             began = refl;
             told' = [];
