@@ -8,3 +8,4 @@ pub mod Programs
 pub mod Histories
 pub mod Laws
 pub mod Follows
+pub mod Standing

@@ -3,6 +3,7 @@
 #![tactic(auto)]
 
 ghost use Rattle.m3_mid_programs.specs.Laws.{AreDetermined, HasOneRun, ComesToStops, MovesAsItRuns};
+ghost use Rattle.m3_mid_programs.specs.Standing.{CellsReadTheSame, RowsStay};
 
 /// Each activation of middle code has one next move, and what is made leaves one state.
 pub fn one_next_move()
@@ -23,4 +24,15 @@ pub fn comes_to_stops()
 /// procedure says for these answers.
 pub fn moves_as_it_runs()
     ensures { MovesAsItRuns }
+{}
+
+/// Where each cell of the source stands in memory under its name, both read the same of it: who
+/// holds a mutex, the number and the life of a thread, and the bytes of a text.
+pub fn cells_read_the_same()
+    ensures { CellsReadTheSame }
+{}
+
+/// A row of words that stands for a value does so for ever, as activations are only added.
+pub fn rows_stay()
+    ensures { RowsStay }
 {}
