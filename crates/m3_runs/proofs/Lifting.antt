@@ -21,7 +21,7 @@ use Rattle.m3_runs.proofs.Serving.{SameDone, finding_so, answers_so, serves_so}
 use Rattle.m3_runs.proofs.Settling as settling
 use Rattle.m3_runs.proofs.Settling.{SameResult, FinishesSo, finishes_so, action_status}
 
-module _ {W SA VA MA SB VB MB : Type 0} (R : Standing W SA VA MA SB VB MB) (K : Language SA VA MA) (L : Language SB VB MB) (I : Invariant SA VA MA) (J : Invariant SB VB MB) (room : Room R) (F : Follows R K L I J room) (A : Keeps K I) (B : Keeps L J) (given : Given) where
+module _ {W SA VA MA SB VB MB : Type 0} (R : Standing W SA VA MA SB VB MB) (K : Language SA VA MA) (L : Language SB VB MB) (I : Invariant SA VA MA) (J : Invariant SB VB MB) (room : Room R) (F : Follows R K L I J room) (given : Given) (A : Keeps K given I) (B : Keeps L given J) where
   -- ---- the action of a thread
 
   -- what K does for an action of L
@@ -36,7 +36,7 @@ module _ {W SA VA MA SB VB MB : Type 0} (R : Standing W SA VA MA SB VB MB) (K : 
   counts_after : (s : State SA VA MA) (s' : State SB VB MB) (parts' : Parts SB VB MB) → SameCounts R s s' → SameCounts R s (with_parts s' parts')
   counts_after s s' parts' h = record { output = h.output; taken = h.taken; points = h.points; running = h.running; waits = h.waits }
 
-  module _ (w : W) (s : State SA VA MA) (s' : State SB VB MB) (n : ℕ) (t : Thread SA VA) (t' : Thread SB VB) (sh : Shows R w s s') (acting : IsActing R w s.parts s'.parts n t t') (good : I.between s.parts) (good' : J.between s'.parts) where
+  module _ (w : W) (s : State SA VA MA) (s' : State SB VB MB) (n : ℕ) (t : Thread SA VA) (t' : Thread SB VB) (sh : Shows R w s s') (acting : IsActing R w s.parts s'.parts n t t') (good : I.acting s n) (good' : J.acting s' n) where
     entered_so : (p : ℕ) (v : VA) (formals : List VA) (entered' : Entered SB VB MB) (done' : Done SB VB MB) →
         EntersSo R K w t.stack t'.stack p v formals s.parts.memory (room.no_frame s.parts n) entered' →
         ((move' : Move SB VB MB) → entered' ≡ Begins move' → done' ≡ Comes_to s' t'.stack move') → (entered' ≡ Overflows → done' ≡ Stops s' outcome.StackFull) →
@@ -97,25 +97,25 @@ module _ {W SA VA MA SB VB MB : Type 0} (R : Standing W SA VA MA SB VB MB) (K : 
     does_so a a' done' is rel.passes run.passes =
         did w (answers s t (Gives None)) (answers s' t' (Gives None)) run.passes (answers_so R w s s' t t' (Gives None) (Gives None) sh acting.same (rel.gives None None neither))
     does_so a a' done' is (rel.calls p v v' vs vs' h hs) (run.begins _ _ _ move' e) =
-        entered_so p v vs (Begins move') (Comes_to s' t'.stack move') (F.enters w s.parts s'.parts n t t' p v v' vs vs' (Begins move') good good' acting is h hs e)
+        entered_so p v vs (Begins move') (Comes_to s' t'.stack move') (F.enters w s s' n t t' p v v' vs vs' (Begins move') good good' acting is h hs e)
         (λ m e. let same : move' ≡ m = cc in ap (Comes_to s' t'.stack) same) (λ e. absurd (let bad : Begins move' ≡ Overflows = e in cc))
     does_so a a' done' is (rel.calls p v v' vs vs' h hs) (run.overflows _ _ _ e) =
-        entered_so p v vs Overflows (Stops s' outcome.StackFull) (F.enters w s.parts s'.parts n t t' p v v' vs vs' Overflows good good' acting is h hs e)
+        entered_so p v vs Overflows (Stops s' outcome.StackFull) (F.enters w s s' n t t' p v v' vs vs' Overflows good good' acting is h hs e)
         (λ m e. absurd (let bad : Overflows ≡ Begins m = e in cc)) (λ e. refl)
     does_so a a' done' is (rel.makes new new' h) (run.makes _ v' parts' after' e at) =
-        made_so new v' parts' after' (F.makes w s.parts s'.parts parts' n t t' new new' v' good good' acting (subst (λ i. Needs i new) (sym is) (rel.needs_new new)) h e) at
+        made_so new v' parts' after' (F.makes w s s' parts' n t t' new new' v' good good' acting (subst (λ i. Needs i new) (sym is) (rel.needs_new new)) h e) at
     does_so a a' done' is (rel.makes new new' h) (run.finds_no_room _ parts' e) =
-        lacks_cell (with_parts s' parts') (F.full w s.parts s'.parts parts' n t t' new new' good good' acting (subst (λ i. Needs i new) (sym is) (rel.needs_new new)) h e) (counts_after s s' parts' sh.counts)
+        lacks_cell (with_parts s' parts') (F.full w s s' parts' n t t' new new' good good' acting (subst (λ i. Needs i new) (sym is) (rel.needs_new new)) h e) (counts_after s s' parts' sh.counts)
     does_so a a' done' is (rel.forks c c' h) (run.too_many _ few) =
         did w (Stops s outcome.ThreadsFull) (Stops s' outcome.ThreadsFull) (run.too_many c (subst (λ i. given.threads ≤ i) (sym living_too) few)) (serving.stops s s' outcome.ThreadsFull sh.counts)
     does_so a a' done' is (rel.forks c c' h) (run.forks _ v' parts' after' moved' few e at forks) =
         forks_so c v' parts' after' moved' (subst (λ i. i < given.threads) (sym living_too) few)
-        (F.makes w s.parts s'.parts parts' n t t' (ThreadCell (length s.parts.threads)) (ThreadCell (length s'.parts.threads)) v' good good' acting (subst (λ i. Needs i (ThreadCell (length s.parts.threads))) (sym is) (rel.needs_cell c (length s.parts.threads))) cell_asked e) at forks
+        (F.makes w s s' parts' n t t' (ThreadCell (length s.parts.threads)) (ThreadCell (length s'.parts.threads)) v' good good' acting (subst (λ i. Needs i (ThreadCell (length s.parts.threads))) (sym is) (rel.needs_cell c (length s.parts.threads))) cell_asked e) at forks
     does_so a a' done' is (rel.forks c c' h) (run.finds_no_cell _ parts' few e) =
         lacks_cell (with_parts s' parts')
-        (F.full w s.parts s'.parts parts' n t t' (ThreadCell (length s.parts.threads)) (ThreadCell (length s'.parts.threads)) good good' acting (subst (λ i. Needs i (ThreadCell (length s.parts.threads))) (sym is) (rel.needs_cell c (length s.parts.threads))) cell_asked e) (counts_after s s' parts' sh.counts)
+        (F.full w s s' parts' n t t' (ThreadCell (length s.parts.threads)) (ThreadCell (length s'.parts.threads)) good good' acting (subst (λ i. Needs i (ThreadCell (length s.parts.threads))) (sym is) (rel.needs_cell c (length s.parts.threads))) cell_asked e) (counts_after s s' parts' sh.counts)
     does_so a a' done' is (rel.serves service other h) (run.served _) =
-        did w (serves K given n t service s) (serves L given n t' other s') (run.served service) (serves_so R K L I J room F w given n t t' acting.same service other s s' (λ form v v' e k. F.bytes w s.parts s'.parts n t t' form v v' good good' acting (is ∙ ap Serves e) k) h sh)
+        did w (serves K given n t service s) (serves L given n t' other s') (run.served service) (serves_so R K L I J room F w given n t t' acting.same service other s s' (λ form v v' e k. F.bytes w s s' n t t' form v v' good good' acting (is ∙ ap Serves e) k) (λ v v' holder k few. F.hold w s s' n holder v v' good good' sh.parts.memory k few) h sh)
 
   -- ---- a turn
 
@@ -124,17 +124,17 @@ module _ {W SA VA MA SB VB MB : Type 0} (R : Standing W SA VA MA SB VB MB) (K : 
     lacks_cell : (u' : State SB VB MB) → room.no_cell s.parts n → SameCounts R s u' → CarriesSo n s (Ends u' outcome.HeapFull)
     lacks_frame : (u' : State SB VB MB) → room.no_frame s.parts n → SameCounts R s u' → CarriesSo n s (Ends u' outcome.StackFull)
 
-  finish : (n : ℕ) (s : State SA VA MA) (s' : State SB VB MB) (t : Thread SA VA) (t' : Thread SB VB) (done' : Done SB VB MB) (r' : Result SB VB MB) → I.between s.parts → J.between s'.parts → thread_at s.parts.threads n ≡ Some t → thread_at s'.parts.threads n ≡ Some t' → Does L given n t' s' t'.action done' →
+  finish : (n : ℕ) (s : State SA VA MA) (s' : State SB VB MB) (t : Thread SA VA) (t' : Thread SB VB) (done' : Done SB VB MB) (r' : Result SB VB MB) → I.acting s n → J.acting s' n → thread_at s.parts.threads n ≡ Some t → thread_at s'.parts.threads n ≡ Some t' → Does L given n t' s' t'.action done' →
       DoesSo n t s t.action done' → Finishes L n done' r' → CarriesSo n s r'
   finish n s s' t t' done' r' good good' at at' does' (did w done _ does same) fin =
-      let k = finishes_so R K L I J room F A B w n done done' r'
-      (λ u stack move e. A.does given n t s u stack move good at (subst (λ d. Does K given n t s t.action d) e does))
-      (λ u stack move e. B.does given n t' s' u stack move good' at' (subst (λ d. Does L given n t' s' t'.action d) e does')) same fin in
+      let k = finishes_so R K L I J room F given A B w n done done' r'
+      (λ u stack move e. A.does n t s u stack move good at (subst (λ d. Does K given n t s t.action d) e does))
+      (λ u stack move e. B.does n t' s' u stack move good' at' (subst (λ d. Does L given n t' s' t'.action d) e does')) same fin in
       carried k.result r' (run.carries_out t done k.result at does k.finishes) k.same
   finish n s s' t t' done' r' good good' at at' does' (lacks_cell u' known counts) (run.stops _ _) = lacks_cell u' known counts
   finish n s s' t t' done' r' good good' at at' does' (lacks_frame u' known counts) (run.stops _ _) = lacks_frame u' known counts
 
-  carries_so : (w : W) (n : ℕ) (s : State SA VA MA) (s' : State SB VB MB) (r' : Result SB VB MB) → I.between s.parts → J.between s'.parts → Shows R w s s' → Carries_out L given n s' r' → CarriesSo n s r'
+  carries_so : (w : W) (n : ℕ) (s : State SA VA MA) (s' : State SB VB MB) (r' : Result SB VB MB) → I.acting s n → J.acting s' n → Shows R w s s' → Carries_out L given n s' r' → CarriesSo n s r'
   carries_so w n s s' r' good good' sh (run.carries_out t' done' _ at does fin) =
       let k = there (SameThread R w) (thread_at s.parts.threads n) (thread_at s'.parts.threads n) t' (at_each (SameThread R w) s.parts.threads s'.parts.threads n sh.parts.threads) at in
       let acting : IsActing R w s.parts s'.parts n k.0 t' = record { state = sh.parts; there = k.1; there' = at; same = k.2 } in
@@ -157,11 +157,7 @@ module _ {W SA VA MA SB VB MB : Type 0} (R : Standing W SA VA MA SB VB MB) (K : 
   gone s entry k n r' known low few coll chosen (lacks_cell u' lacks counts) = lacks_cell n u' chosen lacks counts.output (sym counts.points)
   gone s entry k n r' known low few coll chosen (lacks_frame u' lacks counts) = lacks_frame n u' chosen lacks counts.output (sym counts.points)
 
-  still_good : (parts' after' : Parts SB VB MB) (collect : Bool) → J.between parts' → Collected_if L parts' collect after' → J.between after'
-  still_good parts' after' collect good' run.left = good'
-  still_good parts' after' collect good' (run.made _ c) = B.collects parts' after' good' c
-
-  turn_known : (w : W) (s : State SA VA MA) (s' : State SB VB MB) (entry : Entry) (r' : Result SB VB MB) → I.between s.parts → J.between s'.parts → Shows R w s s' → all_known K s.parts.memory s.parts.threads ≡ true → Turns L given s' entry r' → TurnsSo s entry r'
+  turn_known : (w : W) (s : State SA VA MA) (s' : State SB VB MB) (entry : Entry) (r' : Result SB VB MB) → I.between s → J.between s' → Shows R w s s' → all_known K s.parts.memory s.parts.threads ≡ true → Turns L given s' entry r' → TurnsSo s entry r'
   turn_known w s s' entry r' good good' sh known (run.unknown e) =
       absurd (let bad : true ≡ false = sym known ∙ unknown_so R K L I J room F w s.parts s'.parts sh.parts e in cc)
   turn_known w s s' entry r' good good' sh known (run.nobody e low) =
@@ -175,9 +171,9 @@ module _ {W SA VA MA SB VB MB : Type 0} (R : Standing W SA VA MA SB VB MB) (K : 
       let u = runs_on n (passed (with_parts s s.parts)) in
       let u' = runs_on n (passed (with_parts s' parts')) in
       let shows : Shows R c.1 u u' = record { parts = c.2; counts = record { output = sh.counts.output; taken = sh.counts.taken; points = ap (λ i. i + 1) sh.counts.points; running = refl; waits = sh.counts.waits } } in
-      gone s entry k n r' known (lowest_same R K L I J room F w s.parts s'.parts sh.parts known ∙ low) (subst (λ i. i < given.points) (sym sh.counts.points) few) c.0 same (carries_so c.1 n u u' r' good (still_good s'.parts parts' entry.collect good' coll) shows carries)
+      gone s entry k n r' known (lowest_same R K L I J room F w s.parts s'.parts sh.parts known ∙ low) (subst (λ i. i < given.points) (sym sh.counts.points) few) c.0 same (carries_so c.1 n u u' r' (A.begins s entry n s.parts good (subst (λ i. i < given.points) (sym sh.counts.points) few) c.0 same) (B.begins s' entry n parts' good' few coll chosen) shows carries)
 
-  turn_so : (w : W) (s : State SA VA MA) (s' : State SB VB MB) (entry : Entry) (r' : Result SB VB MB) → I.between s.parts → J.between s'.parts → Shows R w s s' → Turns L given s' entry r' → TurnsSo s entry r'
+  turn_so : (w : W) (s : State SA VA MA) (s' : State SB VB MB) (entry : Entry) (r' : Result SB VB MB) → I.between s → J.between s' → Shows R w s s' → Turns L given s' entry r' → TurnsSo s entry r'
   turn_so w s s' entry r' good good' sh turns = by_test (all_known K s.parts.memory s.parts.threads) (TurnsSo s entry r')
       (λ known. turn_known w s s' entry r' good good' sh known turns)
       (λ unknown. turned Undefined r' (run.unknown unknown) (settling.undefined_so r'))
@@ -223,7 +219,7 @@ module _ {W SA VA MA SB VB MB : Type 0} (R : Standing W SA VA MA SB VB MB) (K : 
   runs_so w s s' schedule turns r' good good' sh (run.stays _ _) = law.comes w s s' (run.stays s schedule) sh
   runs_so w s s' schedule (suc turns) r' good good' sh (run.turn _ u' _ _ _ turn later) =
       ⊎_elim
-      (λ k. behind s k.1 schedule turns r' k.2 (runs_so k.0 k.1 u' (later_entries schedule) turns r' (A.turns given s k.1 (first_entry schedule) good k.2) (B.turns given s' u' (first_entry schedule) good' turn) k.3 later))
+      (λ k. behind s k.1 schedule turns r' k.2 (runs_so k.0 k.1 u' (later_entries schedule) turns r' (A.turns s k.1 (first_entry schedule) good k.2) (B.turns s' u' (first_entry schedule) good' turn) k.3 later))
       (λ k. law.undefined r' (run.breaks_off s schedule turns k))
       (turn_there s u' (first_entry schedule) (turn_so w s s' (first_entry schedule) (Goes u') good good' sh turn))
   runs_so w s s' schedule (suc turns) r' good good' sh (run.ends _ u' _ _ o turn) = ended s u' schedule turns o (turn_so w s s' (first_entry schedule) (Ends u' o) good good' sh turn)

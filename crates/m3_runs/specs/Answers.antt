@@ -50,7 +50,7 @@ module _ {W SA VA MA SB VB MB : Type 0} (R : Standing W SA VA MA SB VB MB)
   RunsTheSame I J =
       (w : W) (s : State SA VA MA) (s' : State SB VB MB) →
       (schedule : List Entry) (turns : ℕ) (r' : Result SB VB MB) →
-      I.between s.parts → J.between s'.parts → Shows R w s s' → Runs L given s' schedule turns r' → Answers s schedule turns r'
+      I.between s → J.between s' → Shows R w s s' → Runs L given s' schedule turns r' → Answers s schedule turns r'
 
 -- States of which one shows the other show the same variables, activation by activation, with
 -- values that stand for one another.
@@ -58,5 +58,5 @@ abbrev pub ShownTheSame : {W SA VA MA SB VB MB : Type 0} → Standing W SA VA MA
     → Language SA VA MA → Language SB VB MB → Invariant SA VA MA → Invariant SB VB MB → Type 0
 ShownTheSame {W} {SA} {VA} {MA} {SB} {VB} {MB} R K L I J =
     (w : W) (s : State SA VA MA) (s' : State SB VB MB) →
-    I.between s.parts → J.between s'.parts → Shows R w s s' →
+    I.between s → J.between s' → Shows R w s s' →
     Each (Each (Each (SameShown R w))) (shown K s) (shown L s')
