@@ -17,7 +17,7 @@ use Rattle.m3_source_meaning.specs.Phrases.{Here}
 use Rattle.m3_source_meaning.specs.Procedures.{ends}
 use Rattle.m3_source_meaning.specs.Showing.{shown_variables}
 use Rattle.m3_source_meaning.specs.Programs as source
-use Rattle.m3_source_meaning.specs.Programs.{language, move_of, goes_within, told_more, first_activation, begins_with}
+use Rattle.m3_source_meaning.specs.Programs.{SourceState, language, move_of, goes_within, told_more, first_activation, begins_with}
 use Rattle.m3_mid_meaning.specs.Words.{pointer}
 use Rattle.m3_mid_programs.specs.Linked.{Linked}
 use Rattle.m3_mid_programs.specs.Values.{Value, Beside, word}
@@ -25,7 +25,7 @@ use Rattle.m3_mid_programs.specs.Activations.{Memory, Activity, Bodies}
 use Rattle.m3_mid_programs.specs.Cells as cells
 use Rattle.m3_mid_programs.specs.Moves as moves
 use Rattle.m3_mid_programs.specs.Moves.{Moves}
-use Rattle.m3_mid_programs.specs.Programs.{mid_language, shown_by}
+use Rattle.m3_mid_programs.specs.Programs.{MidState, mid_language, shown_by}
 use Rattle.m3_mid_programs.specs.Histories as histories
 use Rattle.m3_mid_programs.specs.Histories.{Call, MovesTo}
 use Rattle.m3_mid_programs.specs.Follows as follows
@@ -144,9 +144,9 @@ module _ {W : Type 0} (p : Program) (linked : Linked) (same_value : W → Thing 
     procedure_there : (c : SourceCall) (a : source.Activation) → a.here ≡ (start_at p c).here → procedure_at p c.procedure ≡ Some c.definition → procedure_at p a.here.procedure ≡ Some c.definition
     procedure_there c a here there = ap (λ (h : Here). procedure_at p h.procedure) here ∙ there
 
-    goes_within_so : (w : W) (a : source.Activation) (s' : Activity) (rest : List source.Activity) (rest' : List Activity) (answer : Answer Thing) (answer' : Answer Value) (s : Store) (m : Memory) (move' : Moves) (parts : Parts source.Activity Thing Store) (parts' : Parts Activity Value Memory) (n : ℕ) →
-        I.within parts n (source.Within a ∷ rest) (Leaves answer s) → J.within parts' n (s' ∷ rest') (Leaves answer' m) → Activities w rest rest' → ToldSo w a s' → SameAnswer Whole w answer answer' → same_memory w s m → (mid_language linked).goes s' answer' m move' → GoesSo Whole (language p) w (source.Within a) rest rest' answer s move'
-    goes_within_so w a s' rest rest' answer answer' s m move' parts parts' n known known' st h ans mem goes =
+    goes_within_so : (w : W) (a : source.Activation) (s' : Activity) (rest : List source.Activity) (rest' : List Activity) (answer : Answer Thing) (answer' : Answer Value) (s : Store) (m : Memory) (move' : Moves) (u : SourceState) (u' : MidState) (n : ℕ) →
+        I.within u n (source.Within a ∷ rest) (Leaves answer s) → J.within u' n (s' ∷ rest') (Leaves answer' m) → Activities w rest rest' → ToldSo w a s' → SameAnswer Whole w answer answer' → same_memory w s m → (mid_language linked).goes s' answer' m move' → GoesSo Whole (language p) w (source.Within a) rest rest' answer s move'
+    goes_within_so w a s' rest rest' answer answer' s m move' u u' n known known' st h ans mem goes =
         let after : source.Activation = told_more p a answer s in
         let alike : Alike w h.call h.call' after move' = record {
           first = h.first;
@@ -155,8 +155,8 @@ module _ {W : Type 0} (p : Program) (linked : Linked) (same_value : W → Thing 
           began = h.began;
           told' = histories.told_more h.told' answer' m;
           chain = follows.more h.last w a.told h.told' answer answer' s m h.chain h.since (bare_answer w answer answer' ans) mem (record {
-            parts = parts;
-            parts' = parts';
+            state = u;
+            state' = u';
             number = n;
             activation = a;
             activation' = s';
@@ -189,35 +189,35 @@ module _ {W : Type 0} (p : Program) (linked : Linked) (same_value : W → Thing 
     bodies_so w [] stack rest rest' answer answer' s m st (rel.fails kind) mem = rel.leaves answer answer' s m (rel.fails kind) st mem
     bodies_so w (q ∷ order) stack rest rest' answer answer' s m st (rel.fails kind) mem = rel.leaves answer answer' s m (rel.fails kind) st mem
 
-    goes_so : (w : W) (a : source.Activity) (s' : Activity) (rest : List source.Activity) (rest' : List Activity) (answer : Answer Thing) (answer' : Answer Value) (s : Store) (m : Memory) (move' : Moves) (parts : Parts source.Activity Thing Store) (parts' : Parts Activity Value Memory) (n : ℕ) →
-        I.within parts n (a ∷ rest) (Leaves answer s) → J.within parts' n (s' ∷ rest') (Leaves answer' m) → Activities w (a ∷ rest) (s' ∷ rest') → SameAnswer Whole w answer answer' → same_memory w s m → (mid_language linked).goes s' answer' m move' → GoesSo Whole (language p) w a rest rest' answer s move'
-    goes_so w a s' rest rest' answer answer' s m move' parts parts' n known known' (more _ _ _ _ (follows.bodies order stack) st) ans mem (moves.next _ _) = record {
+    goes_so : (w : W) (a : source.Activity) (s' : Activity) (rest : List source.Activity) (rest' : List Activity) (answer : Answer Thing) (answer' : Answer Value) (s : Store) (m : Memory) (move' : Moves) (u : SourceState) (u' : MidState) (n : ℕ) →
+        I.within u n (a ∷ rest) (Leaves answer s) → J.within u' n (s' ∷ rest') (Leaves answer' m) → Activities w (a ∷ rest) (s' ∷ rest') → SameAnswer Whole w answer answer' → same_memory w s m → (mid_language linked).goes s' answer' m move' → GoesSo Whole (language p) w a rest rest' answer s move'
+    goes_so w a s' rest rest' answer answer' s m move' u u' n known known' (more _ _ _ _ (follows.bodies order stack) st) ans mem (moves.next _ _) = record {
       world = w;
       later = values.same_moment w;
       move = source.next_body p order answer s;
       goes = refl;
       same = bodies_so w order stack rest rest' answer answer' s m st ans mem;
     }
-    goes_so w a s' rest rest' answer answer' s m move' parts parts' n known known' (more _ _ _ _ (follows.applying stack) st) ans mem (moves.applied _) = record {
+    goes_so w a s' rest rest' answer answer' s m move' u u' n known known' (more _ _ _ _ (follows.applying stack) st) ans mem (moves.applied _) = record {
       world = w;
       later = values.same_moment w;
       move = Leaves answer s;
       goes = refl;
       same = rel.leaves answer answer' s m ans st mem;
     }
-    goes_so w a s' rest rest' answer answer' s m move' parts parts' n known known' (more _ _ _ _ (follows.within act _ h) st) ans mem goes = goes_within_so w act s' rest rest' answer answer' s m move' parts parts' n known known' st h ans mem goes
+    goes_so w a s' rest rest' answer answer' s m move' u u' n known known' (more _ _ _ _ (follows.within act _ h) st) ans mem goes = goes_within_so w act s' rest rest' answer answer' s m move' u u' n known known' st h ans mem goes
 
     -- ---- entering
 
-    module _ (w : W) (parts : Parts source.Activity Thing Store) (parts' : Parts Activity Value Memory) (n : ℕ) (t : Thread source.Activity Thing) (t' : Thread Activity Value) (q : ℕ) (formals : List Thing) (others : List Value) (good : I.between parts) (good' : J.between parts') (acting : IsActing Whole w parts parts' n t t') where
+    module _ (w : W) (u : SourceState) (u' : MidState) (n : ℕ) (t : Thread source.Activity Thing) (t' : Thread Activity Value) (q : ℕ) (formals : List Thing) (others : List Value) (good : I.acting u n) (good' : J.acting u' n) (acting : IsActing Whole w u.parts u'.parts n t t') where
       abbrev Enters_so : Thing → Entered Activity Value Memory → Type 0
-      Enters_so v entered = EntersSo Whole (language p) w t.stack t'.stack q v formals parts.memory (room.no_frame parts n) entered
+      Enters_so v entered = EntersSo Whole (language p) w t.stack t'.stack q v formals u.parts.memory (room.no_frame u.parts n) entered
 
       begins_so : (named : ℕ) (around : Option ℕ) (v' : Value) (d : ProcDef) (move' : Moves) → same_value w (Is (Procedure named around)) v' → Each (same_value w) formals others → t.action ≡ Calls q (Is (Procedure named around)) formals → procedure_at p q ≡ Some d →
-          (mid_language linked).enters t'.stack q v' others parts'.memory (Begins move') → Enters_so (Is (Procedure named around)) (Begins move')
+          (mid_language linked).enters t'.stack q v' others u'.parts.memory (Begins move') → Enters_so (Is (Procedure named around)) (Begins move')
       begins_so named around v' d move' h hs is there e =
-          let c : SourceCall = record { procedure = q; definition = d; named = named; around = around; formals = formals; store = parts.memory } in
-          let c' : Call Activity Value Memory = record { stack = t'.stack; procedure = q; environment = v'; formals = others; memory = parts'.memory } in
+          let c : SourceCall = record { procedure = q; definition = d; named = named; around = around; formals = formals; store = u.parts.memory } in
+          let c' : Call Activity Value Memory = record { stack = t'.stack; procedure = q; environment = v'; formals = others; memory = u'.parts.memory } in
           let a : source.Activation = first_activation p (start_at p c) in
           let alike : Alike w c c' a move' = record {
             first = w;
@@ -228,8 +228,8 @@ module _ {W : Type 0} (p : Program) (linked : Linked) (same_value : W → Thing 
               formals = hs;
               store = acting.state.memory;
               found = record {
-                parts = parts;
-                parts' = parts';
+                state = u;
+                state' = u';
                 number = n;
                 thread = t;
                 thread' = t';
@@ -250,15 +250,15 @@ module _ {W : Type 0} (p : Program) (linked : Linked) (same_value : W → Thing 
             moves = histories.first move' e;
           } in
           let k = lead_so w c c' a move' t.stack t'.stack acting.same.stack alike in
-          rel.begins_so k.0 (move_of a (ends p a.here d a.first a.told)) move' k.1 (ap (λ o. Begins (begins_with p q around formals parts.memory o)) there) k.2
+          rel.begins_so k.0 (move_of a (ends p a.here d a.first a.told)) move' k.1 (ap (λ o. Begins (begins_with p q around formals u.parts.memory o)) there) k.2
 
       procedure_so : (named : ℕ) (around : Option ℕ) (v' : Value) (o : Option ProcDef) (entered : Entered Activity Value Memory) → same_value w (Is (Procedure named around)) v' → Each (same_value w) formals others → t.action ≡ Calls q (Is (Procedure named around)) formals →
-          procedure_at p q ≡ o → (mid_language linked).enters t'.stack q v' others parts'.memory entered → Enters_so (Is (Procedure named around)) entered
-      procedure_so named around v' None entered h hs is there e = rel.breaks_so entered (ap (λ o. Begins (begins_with p q around formals parts.memory o)) there)
+          procedure_at p q ≡ o → (mid_language linked).enters t'.stack q v' others u'.parts.memory entered → Enters_so (Is (Procedure named around)) entered
+      procedure_so named around v' None entered h hs is there e = rel.breaks_so entered (ap (λ o. Begins (begins_with p q around formals u.parts.memory o)) there)
       procedure_so named around v' (Some d) (Begins move') h hs is there e = begins_so named around v' d move' h hs is there e
-      procedure_so named around v' (Some d) Overflows h hs is there e = rel.overflows_so (values.frames w parts parts' n t t' q (Is (Procedure named around)) v' formals others good good' acting is e)
+      procedure_so named around v' (Some d) Overflows h hs is there e = rel.overflows_so (values.frames w u u' n t t' q (Is (Procedure named around)) v' formals others good good' acting is e)
 
-      enters_so : (v : Thing) (v' : Value) (entered : Entered Activity Value Memory) → t.action ≡ Calls q v formals → same_value w v v' → Each (same_value w) formals others → (mid_language linked).enters t'.stack q v' others parts'.memory entered → Enters_so v entered
+      enters_so : (v : Thing) (v' : Value) (entered : Entered Activity Value Memory) → t.action ≡ Calls q v formals → same_value w v v' → Each (same_value w) formals others → (mid_language linked).enters t'.stack q v' others u'.parts.memory entered → Enters_so v entered
       enters_so (Is (Procedure named around)) v' entered is h hs e = procedure_so named around v' (procedure_at p q) entered h hs is refl e
       enters_so (Is (value.Ordinal z)) v' entered is h hs e = rel.breaks_so entered refl
       enters_so (Is value.Nil) v' entered is h hs e = rel.breaks_so entered refl
@@ -272,40 +272,40 @@ module _ {W : Type 0} (p : Program) (linked : Linked) (same_value : W → Thing 
 
     -- ---- what is shown
 
-    module _ (w : W) (parts : Parts source.Activity Thing Store) (parts' : Parts Activity Value Memory) (n : ℕ) (t : Thread source.Activity Thing) (t' : Thread Activity Value) (good : I.between parts) (good' : J.between parts') (acting : IsActing Whole w parts parts' n t t') where
+    module _ (w : W) (u : SourceState) (u' : MidState) (n : ℕ) (t : Thread source.Activity Thing) (t' : Thread Activity Value) (good : I.between u) (good' : J.between u') (acting : IsActing Whole w u.parts u'.parts n t t') where
       shows_one : (place : ℕ) (s : source.Activity) (s' : Activity) → slice_get t.stack place ≡ Some s → slice_get t'.stack place ≡ Some s' → SameActivity p linked same_value same_memory later I J w s s' →
-          Each (SameShown Whole w) ((language p).shows parts.memory s) (shown_by parts'.memory s')
+          Each (SameShown Whole w) ((language p).shows u.parts.memory s) (shown_by u'.parts.memory s')
       shows_one place s s' at at' (follows.bodies order stack) = none
       shows_one place s s' at at' (follows.applying stack) = none
       shows_one place s s' at at' (follows.within a _ h) =
-          shown_as Plain Whole w (λ v v' k. k) (shown_variables p a.here a.standing parts.memory) (shown_by parts'.memory s')
-          (h.shows w parts parts' n t t' place (values.same_moment w) good good' acting.state.memory acting.there acting.there' at at')
+          shown_as Plain Whole w (λ v v' k. k) (shown_variables p a.here a.standing u.parts.memory) (shown_by u'.parts.memory s')
+          (h.shows w u u' n t t' place (values.same_moment w) good good' acting.state.memory acting.there acting.there' at at')
 
       -- the activations from one place on, which are these
       shows_from : (place : ℕ) (ss : List source.Activity) (ss' : List Activity) → ((k : ℕ) → slice_get t.stack (k + place) ≡ slice_get ss k) → ((k : ℕ) → slice_get t'.stack (k + place) ≡ slice_get ss' k) → Activities w ss ss' →
-          Each (Each (SameShown Whole w)) (map ((language p).shows parts.memory) ss) (map ((mid_language linked).shows parts'.memory) ss')
+          Each (Each (SameShown Whole w)) (map ((language p).shows u.parts.memory) ss) (map ((mid_language linked).shows u'.parts.memory) ss')
       shows_from place ss ss' at at' none = none
       shows_from place ss ss' at at' (more s s' us us' h hs) =
-          more ((language p).shows parts.memory s) ((mid_language linked).shows parts'.memory s') (map ((language p).shows parts.memory) us) (map ((mid_language linked).shows parts'.memory) us')
+          more ((language p).shows u.parts.memory s) ((mid_language linked).shows u'.parts.memory s') (map ((language p).shows u.parts.memory) us) (map ((mid_language linked).shows u'.parts.memory) us')
           (shows_one place s s' (ap (λ k. slice_get t.stack k) (zero_add place) ∙ at 0) (ap (λ k. slice_get t'.stack k) (zero_add place) ∙ at' 0) h)
           (shows_from (suc place) us us' (λ k. ap (λ i. slice_get t.stack i) (add_suc k place) ∙ at (suc k)) (λ k. ap (λ i. slice_get t'.stack i) (add_suc k place) ∙ at' (suc k)) hs)
 
-      shows_so : Each (Each (SameShown Whole w)) (map ((language p).shows parts.memory) t.stack) (map ((mid_language linked).shows parts'.memory) t'.stack)
+      shows_so : Each (Each (SameShown Whole w)) (map ((language p).shows u.parts.memory) t.stack) (map ((mid_language linked).shows u'.parts.memory) t'.stack)
       shows_so = shows_from 0 t.stack t'.stack (λ k. ap (λ i. slice_get t.stack i) (add_0 k)) (λ k. ap (λ i. slice_get t'.stack i) (add_0 k)) acting.same.stack
 
     -- ---- cells
 
-    makes_so : (w : W) (parts : Parts source.Activity Thing Store) (parts' after' : Parts Activity Value Memory) (n : ℕ) (t : Thread source.Activity Thing) (t' : Thread Activity Value) (new : New Thing) (new' : New Value) (v' : Value) →
-        I.between parts → J.between parts' → IsActing Whole w parts parts' n t t' → Needs t.action new → SameNew Whole w new new' → (mid_language linked).makes parts' n new' (Some v') after' → MakesSo Whole (language p) parts n new v' after'
-    makes_so w parts parts' after' n t t' new new' v' good good' acting needs same (cells.makes made' e) =
-        let k = values.made w parts parts' n t t' new new' made' good good' acting needs same e in
+    makes_so : (w : W) (u : SourceState) (u' : MidState) (after' : Parts Activity Value Memory) (n : ℕ) (t : Thread source.Activity Thing) (t' : Thread Activity Value) (new : New Thing) (new' : New Value) (v' : Value) →
+        I.acting u n → J.acting u' n → IsActing Whole w u.parts u'.parts n t t' → Needs t.action new → SameNew Whole w new new' → (mid_language linked).makes u'.parts n new' (Some v') after' → MakesSo Whole (language p) u.parts n new v' after'
+    makes_so w u u' after' n t t' new new' v' good good' acting needs same (cells.makes made' e) =
+        let k = values.made w u u' n t t' new new' made' good good' acting needs same e in
         record {
           world = k.moment;
-          value = Is (Pointer (length parts.memory.cells));
-          after = record parts { memory = _ };
+          value = Is (Pointer (length u.parts.memory.cells));
+          after = record u.parts { memory = _ };
           makes = source.makes k.made k.is;
           same = record {
-            threads = settling.threads_stay Whole w k.moment (λ v v2 h. values.value_stays w k.moment v v2 k.since h) (λ ss ss' h. stack_stays w k.moment ss ss' k.since h) parts.threads parts'.threads acting.state.threads;
+            threads = settling.threads_stay Whole w k.moment (λ v v2 h. values.value_stays w k.moment v v2 k.since h) (λ ss ss' h. stack_stays w k.moment ss ss' k.since h) u.parts.threads u'.parts.threads acting.state.threads;
             memory = k.store;
           };
           given = k.named;
@@ -324,11 +324,11 @@ module _ {W : Type 0} (p : Program) (linked : Linked) (same_value : W → Thing 
       value_stays = values.value_stays;
       stack_stays = stack_stays;
       as_deep = λ w ss ss' h. each_length (SameActivity p linked same_value same_memory later I J w) ss ss' h;
-      enters = λ w parts parts' n t t' q v v' formals others entered good good' acting is h hs e. enters_so w parts parts' n t t' q formals others good good' acting v v' entered is h hs e;
+      enters = λ w u u' n t t' q v v' formals others entered good good' acting is h hs e. enters_so w u u' n t t' q formals others good good' acting v v' entered is h hs e;
       goes = goes_so;
       shows = shows_so;
       makes = makes_so;
-      full = λ w parts parts' after' n t t' new new' good good' acting needs same e. no_cell parts' after' n new' e;
+      full = λ w u u' after' n t t' new new' good good' acting needs same e. no_cell u'.parts after' n new' e;
       collects = λ w parts parts' after' same e. (w, subst (λ x. SameParts Whole w parts x) e same);
       ignores = λ parts. refl;
       number = values.number;

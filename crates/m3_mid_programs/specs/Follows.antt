@@ -1,10 +1,10 @@
 -- WHAT LOWERING HAS TO SHOW, procedure by procedure and for all lists of answers, so that a linked
 -- program of middle code follows the checked program.
-use Rattle.std.specs.Prelude.{◌≡◌, ℕ, List, [], ◌∷◌, ◌++◌, length, Option, Some, None, slice_get}
+use Rattle.std.specs.Prelude.{◌≡◌, ◌≤◌, ◌+◌, ℕ, List, [], ◌∷◌, ◌++◌, length, Option, Some, None, slice_get}
 use Rattle.m3_base.specs.declared.outcomes.FaultKind.{FaultKind}
 use Rattle.m3_base.specs.declared.places.Pos.{Pos}
 use Rattle.m3_core.specs.declared.program.ProcDef.{ProcDef}
-use Rattle.m3_runs.specs.Languages.{Action, Calls, Serves, Put, Gives, New, Answer, Acts, Leaves, Faults, Overflows, Form, Thread, Parts}
+use Rattle.m3_runs.specs.Languages.{Action, Calls, Serves, Put, Gives, New, Answer, Acts, Leaves, Faults, Overflows, Form, Thread}
 use Rattle.m3_runs.specs.States.{thread_at}
 use Rattle.m3_runs.specs.Follows.{Each, IsOne, Invariant, AsDefined, Standing, SameAction, SameAnswer, SameShown, SameNew, SameLife, SameBegun, ReadsSo, IsActing, Needs, Room, Follows}
 use Rattle.m3_values.specs.Values.{Procedure, Pointer}
@@ -16,7 +16,7 @@ use Rattle.m3_source_meaning.specs.Meanings.{End, Waits, Left, Faulted, Undefine
 use Rattle.m3_source_meaning.specs.Procedures.{Start, ends, start_of}
 use Rattle.m3_source_meaning.specs.Showing.{shown_variables}
 use Rattle.m3_source_meaning.specs.Programs as source
-use Rattle.m3_source_meaning.specs.Programs.{language}
+use Rattle.m3_source_meaning.specs.Programs.{language, SourceState}
 use Rattle.m3_mid_meaning.specs.Words.{pointer}
 use Rattle.m3_mid_programs.specs.Linked.{Linked}
 use Rattle.m3_mid_programs.specs.Values.{Value, Beside, word}
@@ -24,7 +24,7 @@ use Rattle.m3_mid_programs.specs.Activations.{Memory, Activity, Bodies, Applying
 use Rattle.m3_mid_programs.specs.Cells as cells
 use Rattle.m3_mid_programs.specs.Cells.{NewCell}
 use Rattle.m3_mid_programs.specs.Moves.{Moves}
-use Rattle.m3_mid_programs.specs.Programs.{shown_by, mid_language}
+use Rattle.m3_mid_programs.specs.Programs.{shown_by, MidState, mid_language}
 use Rattle.m3_mid_programs.specs.Histories.{Call, Told, told_more, MovesTo}
 
 -- a call of a procedure that the program has: its environment names a procedure, with the activation
@@ -64,18 +64,18 @@ module _ {W : Type 0} (p : Program) (linked : Linked) (same_value : W → Thing 
 
   -- a thread comes to the call in states that runs may come to
   pub record CalledThere (c : SourceCall) (c' : Call Activity Value Memory) : Type 0 where
-    pub parts : Parts source.Activity Thing Store
-    pub parts' : Parts Activity Value Memory
+    pub state : SourceState
+    pub state' : MidState
     pub number : ℕ
     pub thread : Thread source.Activity Thing
     pub thread' : Thread Activity Value
-    pub good : I.between parts
-    pub good' : J.between parts'
-    pub there : thread_at parts.threads number ≡ Some thread
-    pub there' : thread_at parts'.threads number ≡ Some thread'
+    pub good : I.acting state number
+    pub good' : J.acting state' number
+    pub there : thread_at state.parts.threads number ≡ Some thread
+    pub there' : thread_at state'.parts.threads number ≡ Some thread'
     pub action : thread.action ≡ Calls c.procedure (Is (Procedure c.named c.around)) c.formals
-    pub store : parts.memory ≡ c.store
-    pub memory : parts'.memory ≡ c'.memory
+    pub store : state.parts.memory ≡ c.store
+    pub memory : state'.parts.memory ≡ c'.memory
     pub stack : thread'.stack ≡ c'.stack
 
   pub record SameCall (w : W) (c : SourceCall) (c' : Call Activity Value Memory) : Type 0 where
@@ -92,8 +92,8 @@ module _ {W : Type 0} (p : Program) (linked : Linked) (same_value : W → Thing 
   -- an activation of the call, told so much before, is told this in states that runs may come to
   pub record ToldThere (c : SourceCall) (told : List meaning.Told) (a : Answer Thing)
       (a' : Answer Value) (s : Store) (m : Memory) : Type 0 where
-    pub parts : Parts source.Activity Thing Store
-    pub parts' : Parts Activity Value Memory
+    pub state : SourceState
+    pub state' : MidState
     pub number : ℕ
     pub activation : source.Activation
     pub activation' : Activity
@@ -101,8 +101,8 @@ module _ {W : Type 0} (p : Program) (linked : Linked) (same_value : W → Thing 
     pub rest' : List Activity
     pub here : activation.here ≡ (start_at p c).here
     pub before : activation.told ≡ told
-    pub known : I.within parts number (source.Within activation ∷ rest) (Leaves a s)
-    pub known' : J.within parts' number (activation' ∷ rest') (Leaves a' m)
+    pub known : I.within state number (source.Within activation ∷ rest) (Leaves a s)
+    pub known' : J.within state' number (activation' ∷ rest') (Leaves a' m)
 
   -- they are told the same, one answer after the other, each at a later moment
   pub data Chain (c : SourceCall) (first : W) : List meaning.Told → Answers → W → Type 0 where
@@ -118,14 +118,13 @@ module _ {W : Type 0} (p : Program) (linked : Linked) (same_value : W → Thing 
   -- Wherever a run comes while they wait, the variables that are shown hold the same.
   abbrev pub ShowSo : W → source.Activation → Activity → Type 0
   ShowSo w a s' =
-      (w' : W) (parts : Parts source.Activity Thing Store) (parts' : Parts Activity Value Memory)
-      (n : ℕ) (t : Thread source.Activity Thing) (t' : Thread Activity Value) (place : ℕ) →
-      later w w' → I.between parts → J.between parts' →
-      same_memory w' parts.memory parts'.memory →
-      thread_at parts.threads n ≡ Some t → thread_at parts'.threads n ≡ Some t' →
+      (w' : W) (u : SourceState) (u' : MidState) (n : ℕ) (t : Thread source.Activity Thing) (t' : Thread Activity Value) (place : ℕ) →
+      later w w' → I.between u → J.between u' →
+      same_memory w' u.parts.memory u'.parts.memory →
+      thread_at u.parts.threads n ≡ Some t → thread_at u'.parts.threads n ≡ Some t' →
       slice_get t.stack place ≡ Some (source.Within a) → slice_get t'.stack place ≡ Some s' →
-      Each (SameShown bare w') (shown_variables p a.here a.standing parts.memory)
-      (shown_by parts'.memory s')
+      Each (SameShown bare w') (shown_variables p a.here a.standing u.parts.memory)
+      (shown_by u'.parts.memory s')
 
   -- of an activation that was told so much
   pub data SameEnd (w : W) (a : source.Activation) : End → Moves → Type 0 where
@@ -212,49 +211,48 @@ module _ {W : Type 0} (p : Program) (linked : Linked) (same_value : W → Thing 
     -- an outermost procedure is called without an environment
     pub outermost : (w : W) (q : ℕ) → same_value w (Is (Procedure q None)) (Beside None None)
     -- where a frame passes the stack, so do those of the source's thread
-    pub frames : (w : W) (parts : Parts source.Activity Thing Store)
-        (parts' : Parts Activity Value Memory) (n : ℕ) (t : Thread source.Activity Thing)
+    pub frames : (w : W) (s : SourceState) (m : MidState) (n : ℕ) (t : Thread source.Activity Thing)
         (t' : Thread Activity Value) (q : ℕ) (v : Thing) (v' : Value) (formals : List Thing)
         (others : List Value)
-        → I.between parts → J.between parts'
-        → IsActing standing w parts parts' n t t' → t.action ≡ Calls q v formals
-        → (mid_language linked).enters t'.stack q v' others parts'.memory Overflows
-        → room.no_frame parts n
-    pub made : (w : W) (parts : Parts source.Activity Thing Store)
-        (parts' : Parts Activity Value Memory) (n : ℕ) (t : Thread source.Activity Thing)
+        → I.acting s n → J.acting m n
+        → IsActing standing w s.parts m.parts n t t' → t.action ≡ Calls q v formals
+        → (mid_language linked).enters t'.stack q v' others m.parts.memory Overflows
+        → room.no_frame s.parts n
+    pub made : (w : W) (s : SourceState) (m : MidState) (n : ℕ) (t : Thread source.Activity Thing)
         (t' : Thread Activity Value) (new : New Thing) (new' : New Value) (made' : NewCell)
-        → I.between parts → J.between parts'
-        → IsActing standing w parts parts' n t t' → Needs t.action new
-        → SameNew standing w new new' → cells.new_cell linked parts'.memory new' ≡ Some made'
-        → MadeSo w parts.memory new (word (pointer parts'.memory.cells))
-        (cells.with_new_cell parts' new' made')
+        → I.acting s n → J.acting m n
+        → IsActing standing w s.parts m.parts n t t' → Needs t.action new
+        → SameNew standing w new new' → cells.new_cell linked m.parts.memory new' ≡ Some made'
+        → MadeSo w s.parts.memory new (word (pointer m.parts.memory.cells))
+        (cells.with_new_cell m.parts new' made')
     pub number : (w : W) (n : ℕ)
         → same_value w ((language p).number n) ((mid_language linked).number n)
     pub is_same : (w : W) (s : Store) (m : Memory) (v u : Thing) (v' u' : Value)
         → same_memory w s m → same_value w v v' → same_value w u u'
         → (language p).is_same v u ≡ (mid_language linked).is_same v' u'
-    pub bytes : (w : W) (parts : Parts source.Activity Thing Store)
-        (parts' : Parts Activity Value Memory) (n : ℕ) (t : Thread source.Activity Thing)
+    pub bytes : (w : W) (s : SourceState) (m : MidState) (n : ℕ) (t : Thread source.Activity Thing)
         (t' : Thread Activity Value) (form : Form) (v : Thing) (v' : Value)
-        → I.between parts → J.between parts' → IsActing standing w parts parts' n t t'
+        → I.acting s n → J.acting m n → IsActing standing w s.parts m.parts n t t'
         → t.action ≡ Serves (Put form v) → same_value w v v'
-        → AsDefined IsOne ((language p).bytes parts.memory form v)
-        ((mid_language linked).bytes parts'.memory form v')
+        → AsDefined IsOne ((language p).bytes s.parts.memory form v)
+        ((mid_language linked).bytes m.parts.memory form v')
     pub holder : ReadsSo standing (λ w. IsOne) (language p).holder (mid_language linked).holder
-    pub hold : (holder : ℕ) → ReadsSo standing same_memory
-        (λ s v. (language p).hold s v holder) (λ m v. (mid_language linked).hold m v holder)
+    pub hold : (w : W) (s : SourceState) (m : MidState) (n holder : ℕ) (v : Thing) (v' : Value)
+        → I.acting s n → J.acting m n → same_memory w s.parts.memory m.parts.memory
+        → same_value w v v' → holder ≤ n + 1
+        → AsDefined (same_memory w) ((language p).hold s.parts.memory v holder)
+        ((mid_language linked).hold m.parts.memory v' holder)
     pub number_of : ReadsSo standing (λ w. IsOne) (language p).number_of
         (mid_language linked).number_of
     pub life : ReadsSo standing (SameLife standing) (language p).life (mid_language linked).life
     pub join : ReadsSo standing same_memory (language p).join (mid_language linked).join
-    pub end_with : (w : W) (parts : Parts source.Activity Thing Store)
-        (parts' : Parts Activity Value Memory) (n : ℕ) (s : Store) (m : Memory) (v u : Thing)
-        (v' u' : Value)
-        → I.within parts n [] (Leaves (Gives (Some u)) s)
-        → J.within parts' n [] (Leaves (Gives (Some u')) m)
-        → same_memory w s m → same_value w v v' → same_value w u u'
-        → AsDefined (same_memory w) ((language p).end_with s v u)
-        ((mid_language linked).end_with m v' u')
+    pub end_with : (w : W) (s : SourceState) (m : MidState) (n : ℕ) (store : Store)
+        (memory : Memory) (v u : Thing) (v' u' : Value)
+        → I.within s n [] (Leaves (Gives (Some u)) store)
+        → J.within m n [] (Leaves (Gives (Some u')) memory)
+        → same_memory w store memory → same_value w v v' → same_value w u u'
+        → AsDefined (same_memory w) ((language p).end_with store v u)
+        ((mid_language linked).end_with memory v' u')
     pub begins : ReadsSo standing (SameBegun standing) (language p).begins
         (mid_language linked).begins
     pub alerted : p.alerted ≡ linked.alerted
