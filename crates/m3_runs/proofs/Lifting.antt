@@ -14,6 +14,7 @@ use Rattle.m3_runs.specs.Follows as rel
 use Rattle.m3_runs.specs.Follows.{Each, none, more, Both, neither, both, AsDefined, Standing, SameNew, SameAction, SameAnswer, SameMove, SameThread, SameBegun, SameParts, SameCounts, Shows, IsActing, Needs, EntersSo, MakesSo, Room, Invariant, Follows}
 use Rattle.m3_runs.specs.Answers as law
 use Rattle.m3_runs.specs.Answers.{Lacks, Answers, RunsTheSame}
+use Rattle.m3_runs.proofs.Keeping.{turns_keep}
 use Rattle.m3_runs.proofs.Rows.{each_length, each_behind, at_each, living_same, there}
 use Rattle.m3_runs.proofs.Choosing.{lowest_same, choice_same, unknown_so, by_test}
 use Rattle.m3_runs.proofs.Serving as serving
@@ -219,7 +220,7 @@ module _ {W SA VA MA SB VB MB : Type 0} (R : Standing W SA VA MA SB VB MB) (K : 
   runs_so w s s' schedule turns r' good good' sh (run.stays _ _) = law.comes w s s' (run.stays s schedule) sh
   runs_so w s s' schedule (suc turns) r' good good' sh (run.turn _ u' _ _ _ turn later) =
       ⊎_elim
-      (λ k. behind s k.1 schedule turns r' k.2 (runs_so k.0 k.1 u' (later_entries schedule) turns r' (A.turns s k.1 (first_entry schedule) good k.2) (B.turns s' u' (first_entry schedule) good' turn) k.3 later))
+      (λ k. behind s k.1 schedule turns r' k.2 (runs_so k.0 k.1 u' (later_entries schedule) turns r' (turns_keep K given I A s k.1 (first_entry schedule) good k.2) (turns_keep L given J B s' u' (first_entry schedule) good' turn) k.3 later))
       (λ k. law.undefined r' (run.breaks_off s schedule turns k))
       (turn_there s u' (first_entry schedule) (turn_so w s s' (first_entry schedule) (Goes u') good good' sh turn))
   runs_so w s s' schedule (suc turns) r' good good' sh (run.ends _ u' _ _ o turn) = ended s u' schedule turns o (turn_so w s s' (first_entry schedule) (Ends u' o) good good' sh turn)

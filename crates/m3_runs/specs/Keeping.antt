@@ -1,11 +1,11 @@
 -- WHAT A LANGUAGE KEEPS: an invariant that holds wherever its runs come, once it holds at the start.
-use Rattle.std.specs.Prelude.{◌≡◌, ℕ, ◌<◌, List, ◌∷◌, Some}
+use Rattle.std.specs.Prelude.{◌≡◌, ℕ, ◌<◌, List, [], ◌∷◌, Some}
 use Rattle.m3_base.specs.declared.outcomes.Entry.{Entry}
-use Rattle.m3_runs.specs.Languages.{Answer, Move, Leaves, Thread, Parts, Language}
-use Rattle.m3_runs.specs.States.{Given, State, thread_at, with_parts}
+use Rattle.m3_runs.specs.Languages.{Action, Answer, Move, Acts, Leaves, Thread, Parts, Language}
+use Rattle.m3_runs.specs.States.{Given, State, thread_at, with_parts, with_memory, changing, come_to}
 use Rattle.m3_runs.specs.Choice.{choice}
-use Rattle.m3_runs.specs.Services.{Comes_to}
-use Rattle.m3_runs.specs.Runs.{Goes, Does, Collected_if, Turns, passed, runs_on}
+use Rattle.m3_runs.specs.Services.{Comes_to, Rests}
+use Rattle.m3_runs.specs.Runs.{Over, Goes, Does, Collected_if, Turns, passed, runs_on, settled}
 use Rattle.m3_runs.specs.Follows.{Invariant}
 
 pub record Keeps {S V M : Type 0} (L : Language S V M) (given : Given) (I : Invariant S V M)
@@ -25,6 +25,19 @@ pub record Keeps {S V M : Type 0} (L : Language S V M) (given : Given) (I : Inva
       (move : Move S V M)
       → I.within u n (s ∷ rest) (Leaves answer m) → L.goes s answer m move
       → I.within u n rest move
-  -- over a turn
-  pub turns : (s after : State S V M) (entry : Entry)
-      → I.between s → Turns L given s entry (Goes after) → I.between after
+  -- as the thread comes to its next point, as it is over, and as it sleeps
+  pub stands : (u : State S V M) (n : ℕ) (s : S) (rest : List S) (action : Action V) (m : M)
+      → I.within u n rest (Acts action s m)
+      → I.between (with_memory (changing (come_to action (s ∷ rest)) n u) m)
+  pub ends : (u after : State S V M) (n : ℕ) (answer : Answer V) (m : M)
+      → I.within u n [] (Leaves answer m) → settled L u n (Over answer m) ≡ Goes after
+      → I.between after
+  pub rests : (n : ℕ) (t : Thread S V) (s after : State S V M)
+      → I.acting s n → thread_at s.parts.threads n ≡ Some t
+      → Does L given n t s t.action (Rests after) → I.between after
+
+-- Then it holds behind every turn.
+abbrev pub TurnsKeep : {S V M : Type 0} → Language S V M → Given → Invariant S V M → Type 0
+TurnsKeep {S} {V} {M} L given I =
+    (s after : State S V M) (entry : Entry) →
+    I.between s → Turns L given s entry (Goes after) → I.between after
