@@ -5,3 +5,5 @@ pub mod Relations
 pub mod Lifting
 pub mod Reading
 pub mod Staying
+pub mod Writing
+pub mod Cells

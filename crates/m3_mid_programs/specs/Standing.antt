@@ -1,6 +1,6 @@
 -- What rows of words stand for which values, and what stands in the cells of middle code for what the
 -- source has there: each cell has the same name in both.
-use Rattle.std.specs.Prelude.{◌≡◌, ℕ, ℤ, pos, ◌+◌, ◌*◌, ◌^◌, ◌+ℤ◌, Bool, true, false, List, [], ◌∷◌, ◌++◌, length, map, sum_by, Option, Some, None, slice_get, if◌then◌else◌}
+use Rattle.std.specs.Prelude.{◌≡◌, ◌<◌, ℕ, ℤ, pos, ◌+◌, ◌*◌, ◌^◌, ◌+ℤ◌, Bool, true, false, List, [], ◌∷◌, ◌++◌, length, map, sum_by, Option, Some, None, slice_get, if◌then◌else◌}
 use Rattle.std.specs.List.{list_any, range_with_len}
 use Rattle.m3_base.specs.Words.{word_of}
 use Rattle.m3_runs.specs.Languages as run
@@ -15,7 +15,7 @@ use Rattle.m3_values.specs.Store.{Cell, Made, Bytes, Forked, Store, cell_at, is_
 use Rattle.m3_source_meaning.specs.Programs.{language}
 use Rattle.m3_mid_meaning.specs.Words.{Word, number, pointer}
 use Rattle.m3_mid_programs.specs.Linked.{Linked}
-use Rattle.m3_mid_programs.specs.Values.{Value, Words, Beside}
+use Rattle.m3_mid_programs.specs.Values.{Value, Words, Beside, word}
 use Rattle.m3_mid_programs.specs.Activations.{Memory}
 use Rattle.m3_mid_programs.specs.Cells.{word_at, number_at, bytes_of}
 use Rattle.m3_mid_programs.specs.Programs.{mid_language}
@@ -147,3 +147,23 @@ RowsStay =
     (p : Program) (linked : Linked) (frames later : ℕ → Option ℕ) →
     ((a frame : ℕ) → frames a ≡ Some frame → later a ≡ Some frame) →
     (v : value.Value) (ws : List Word) → IsRow p linked frames v ws → IsRow p linked later v ws
+
+-- WHAT EVERYBODY WRITES into such cells is the same: where the source defines it, middle code does, and
+-- all cells stand so again. A holder is a number of 64 bits, and a result has one word.
+pub record WriteTheSame (p : Program) (linked : Linked) (frames : ℕ → Option ℕ) (s : Store)
+    (m : Memory) (v : Thing) (v' : Value) : Type 0 where
+  pub hold : (n : ℕ) → n < 2 ^ 64
+      → AsDefined (CellsStand p linked frames) ((language p).hold s v n)
+      ((mid_language linked).hold m v' n)
+  pub join : AsDefined (CellsStand p linked frames) ((language p).join s v)
+      ((mid_language linked).join m v')
+  pub end_with : (u : value.Value) (w : Word) → IsRow p linked frames u (w ∷ [])
+      → AsDefined (CellsStand p linked frames) ((language p).end_with s v (Is u))
+      ((mid_language linked).end_with m v' (word w))
+
+abbrev pub CellsWriteTheSame : Type 0
+CellsWriteTheSame =
+    (p : Program) (linked : Linked) (frames : ℕ → Option ℕ) (s : Store) (m : Memory)
+    (v : value.Value) (ws : List Word) →
+    CellsStand p linked frames s m → IsRow p linked frames v ws →
+    WriteTheSame p linked frames s m (Is v) (Words ws)

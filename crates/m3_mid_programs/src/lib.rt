@@ -3,7 +3,7 @@
 #![tactic(auto)]
 
 ghost use Rattle.m3_mid_programs.specs.Laws.{AreDetermined, HasOneRun, ComesToStops, MovesAsItRuns};
-ghost use Rattle.m3_mid_programs.specs.Standing.{CellsReadTheSame, RowsStay};
+ghost use Rattle.m3_mid_programs.specs.Standing.{CellsReadTheSame, CellsWriteTheSame, RowsStay};
 
 /// Each activation of middle code has one next move, and what is made leaves one state.
 pub fn one_next_move()
@@ -30,6 +30,12 @@ pub fn moves_as_it_runs()
 /// holds a mutex, the number and the life of a thread, and the bytes of a text.
 pub fn cells_read_the_same()
     ensures { CellsReadTheSame }
+{}
+
+/// Where the source lets a thread hold a mutex or join another, or ends one, middle code writes the
+/// same, and each cell stands in memory again.
+pub fn cells_write_the_same()
+    ensures { CellsWriteTheSame }
 {}
 
 /// A row of words that stands for a value does so for ever, as activations are only added.
