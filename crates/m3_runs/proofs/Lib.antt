@@ -11,3 +11,4 @@ pub mod Chosen
 pub mod Showing
 pub mod Longest
 pub mod Keeping
+pub mod Served

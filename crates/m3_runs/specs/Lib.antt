@@ -7,3 +7,4 @@ pub mod Follows
 pub mod Answers
 pub mod Laws
 pub mod Keeping
+pub mod Served
