@@ -7,3 +7,5 @@ pub mod Reading
 pub mod Staying
 pub mod Writing
 pub mod Cells
+pub mod Living
+pub mod Lives
