@@ -9,3 +9,4 @@ pub mod Writing
 pub mod Cells
 pub mod Living
 pub mod Lives
+pub mod Results

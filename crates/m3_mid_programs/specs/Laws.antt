@@ -1,9 +1,11 @@
 -- Laws of programs of middle code.
-use Rattle.std.specs.Prelude.{◌≡◌, List, [], ◌∷◌, ◌++◌, map, Some}
+use Rattle.std.specs.Prelude.{Option, ◌≡◌, List, [], ◌∷◌, ◌++◌, map, Some, ℕ, length}
 use Rattle.m3_mid.specs.declared.procs.Proc.{Proc}
 use Rattle.m3_mid.specs.declared.ops.MidOp.{MidOp}
 use Rattle.m3_runs.specs.Laws as law
 use Rattle.m3_runs.specs.States.{Given}
+use Rattle.m3_mid_meaning.specs.Words.{Word}
+use Rattle.m3_mid_meaning.specs.Memory as words
 use Rattle.m3_mid_meaning.specs.Memory.{Around}
 use Rattle.m3_mid_meaning.specs.States.{State, Ending, Waiting, Next}
 use Rattle.m3_mid_meaning.specs.Points.{Event, Answer, Acts, Outcome}
@@ -11,10 +13,10 @@ use Rattle.m3_mid_meaning.specs.Meaning.{effect_of}
 use Rattle.m3_mid_meaning.specs.Stops.{Code, Stop, AtPoint, AtEnd}
 use Rattle.m3_mid_meaning.specs.Runs.{IsRun, IsStop}
 use Rattle.m3_mid_programs.specs.Linked.{Linked}
-use Rattle.m3_mid_programs.specs.Values.{Value}
+use Rattle.m3_mid_programs.specs.Values.{Value, Words}
 use Rattle.m3_mid_programs.specs.Activations.{Memory, with_words, Frame, Activation, Activity, Came, Stands, Ended, Comes}
 use Rattle.m3_mid_programs.specs.Actions.{action_of, told_as}
-use Rattle.m3_mid_programs.specs.Moves.{Moves, left, acts, Callee, callee, entered_memory, with_frame}
+use Rattle.m3_mid_programs.specs.Moves.{Moves, result_in, left, acts, Callee, callee, entered_memory, with_frame}
 use Rattle.m3_mid_programs.specs.Programs.{mid_language}
 use Rattle.m3_mid_programs.specs.Histories.{Call, Told, MovesTo}
 
@@ -80,3 +82,11 @@ MovesAsItRuns =
     (told : List (Told Value Memory)) (move : Moves) →
     callee linked c.stack c.procedure c.environment c.formals c.memory ≡ Some e →
     MovesTo (mid_language linked) c told move → RunsSo linked e c told move
+
+-- ---- results
+
+-- What a caller is told has as many words as the result of the procedure.
+abbrev pub ResultsHaveWords : Type 0
+ResultsHaveWords =
+    (f : Frame) (memory : words.Memory) (n : ℕ) (v : Option Word) (ws : List Word) →
+    result_in f memory (Some n) v ≡ Some (Some (Words ws)) → length ws ≡ n

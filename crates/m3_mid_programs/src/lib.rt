@@ -2,7 +2,7 @@
 //! programs of middle code run as all programs do.
 #![tactic(auto)]
 
-ghost use Rattle.m3_mid_programs.specs.Laws.{AreDetermined, HasOneRun, ComesToStops, MovesAsItRuns};
+ghost use Rattle.m3_mid_programs.specs.Laws.{AreDetermined, HasOneRun, ComesToStops, MovesAsItRuns, ResultsHaveWords};
 ghost use Rattle.m3_mid_programs.specs.Living.{AllStayLiving};
 ghost use Rattle.m3_mid_programs.specs.Standing.{CellsReadTheSame, CellsWriteTheSame, RowsStay};
 
@@ -25,6 +25,11 @@ pub fn comes_to_stops()
 /// procedure says for these answers.
 pub fn moves_as_it_runs()
     ensures { MovesAsItRuns }
+{}
+
+/// A caller is told as many words as the result of the procedure has.
+pub fn results_have_their_words()
+    ensures { ResultsHaveWords }
 {}
 
 /// Where each cell of the source stands in memory under its name, both read the same of it: who

@@ -13,7 +13,7 @@ use Rattle.m3_mid.specs.declared.ops.MidOp.{MidOp}
 use Rattle.m3_mid.specs.declared.ops.MidOp.TheVariants as op
 use Rattle.m3_mid.specs.declared.ops.Operand.TheVariants.{Temp, Number}
 use Rattle.m3_mid.specs.declared.ops.WordOperator.TheVariants.{Add}
-use Rattle.m3_mid.specs.declared.procs.Block.{Block}
+use Rattle.m3_mid.specs.declared.procs.End.{End}
 use Rattle.m3_mid.specs.declared.procs.End.TheVariants.{Return}
 use Rattle.m3_mid.specs.declared.procs.Kind.TheVariants as kind
 use Rattle.m3_mid.specs.declared.procs.Proc.{Proc}
@@ -33,9 +33,8 @@ to x = record { ref_ptr = (0, 0); now = x }
 abbrev pub at : ℕ → Pos
 at line = record { file = 0; line = line; col = 1 }
 
--- one block that ends by a RETURN, in a frame with such slots; the first ones are formals
-abbrev pub block : List MidOp → Block
-block ops = record { ops = to ops; end = Return None }
+abbrev pub returns : End
+returns = Return None
 
 abbrev pub shared : slots.Slot
 shared = record { kind = kind.Number; is_shared = true }
@@ -43,12 +42,13 @@ shared = record { kind = kind.Number; is_shared = true }
 abbrev pub own : slots.Slot
 own = record { kind = kind.Number; is_shared = false }
 
-abbrev pub proc : List slots.Slot → (formals : ℕ) → List MidOp → Proc
-proc frame formals ops = record {
-  temps = to (kind.Number ∷ kind.Number ∷ kind.Number ∷ []);
+-- one block, in a frame with such slots, the first ones of which are formals
+abbrev pub proc : List slots.Slot → (formals : ℕ) → List MidOp → End → Proc
+proc frame formals ops end = record {
+  temps = to (kind.Number ∷ kind.Number ∷ kind.Number ∷ kind.Number ∷ []);
   slots = to frame;
   formals = formals;
-  blocks = to (block ops ∷ []);
+  blocks = to (record { ops = to ops; end = end } ∷ []);
   start = 0;
   loops = to [];
 }
@@ -78,7 +78,7 @@ pair_ops =
 
 abbrev pub body : Procedure
 body = record {
-  code = proc (shared ∷ shared ∷ []) 0 body_ops;
+  code = proc (shared ∷ shared ∷ []) 0 body_ops returns;
   formals = [];
   result = None;
   body = 5;
@@ -87,7 +87,7 @@ body = record {
 
 abbrev pub pair : Procedure
 pair = record {
-  code = proc (own ∷ own ∷ []) 2 pair_ops;
+  code = proc (own ∷ own ∷ []) 2 pair_ops returns;
   formals = 1 ∷ [];
   result = Some 2;
   body = 5;
@@ -106,9 +106,9 @@ around = record {
   dimensions = λ t. 0;
 }
 
-abbrev pub example : Linked
-example = record {
-  procedures = body ∷ pair ∷ [];
+abbrev pub linked_of : List Procedure → Linked
+linked_of procedures = record {
+  procedures = procedures;
   order = 0 ∷ [];
   around = around;
   cells = λ kind. None;
@@ -121,6 +121,9 @@ example = record {
   memory = record { words = λ place. None; types = λ place. None };
   alerted = 0;
 }
+
+abbrev pub example : Linked
+example = linked_of (body ∷ pair ∷ [])
 
 -- it puts 21 in its third turn, and is done
 pub record Puts (given : Given) : Type 0 where
