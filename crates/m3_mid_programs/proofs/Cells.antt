@@ -30,7 +30,7 @@ get_set [] c old new e = absurd (let bad : None ≡ Some old = e in cc)
 get_set (x ∷ xs) zero old new e = refl
 get_set (x ∷ xs) (suc c) old new e = get_set xs c old new e
 
-get_other : {A : Type 0} (xs : List A) (c d : ℕ) (new : A) → (d ≡ c → ⊥) → slice_get (slice_set xs c new) d ≡ slice_get xs d
+pub get_other : {A : Type 0} (xs : List A) (c d : ℕ) (new : A) → (d ≡ c → ⊥) → slice_get (slice_set xs c new) d ≡ slice_get xs d
 get_other [] c d new h = refl
 get_other (x ∷ xs) zero zero new h = absurd (h refl)
 get_other (x ∷ xs) zero (suc d) new h = refl

@@ -7,4 +7,6 @@ pub mod Reading
 pub mod Staying
 pub mod Writing
 pub mod Cells
+pub mod Living
+pub mod Lives
 pub mod Results

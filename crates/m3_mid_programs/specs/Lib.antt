@@ -9,3 +9,4 @@ pub mod Histories
 pub mod Laws
 pub mod Follows
 pub mod Standing
+pub mod Living

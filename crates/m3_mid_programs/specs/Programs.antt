@@ -8,7 +8,7 @@ use Rattle.m3_mid.specs.declared.marks.Shown.{Shown}
 use Rattle.m3_mid.specs.declared.ops.MidOp.{MidOp}
 use Rattle.m3_mid.specs.declared.ops.MidOp.TheVariants as ops
 use Rattle.m3_runs.specs.Languages.{Passes, Begun, Language}
-use Rattle.m3_runs.specs.States.{Given, start}
+use Rattle.m3_runs.specs.States.{Given, State, start}
 use Rattle.m3_runs.specs.Runs.{Result, Runs}
 use Rattle.m3_mid_meaning.specs.Words.{Word, ◌>>=◌}
 use Rattle.m3_mid_meaning.specs.States.{with_memory}
@@ -50,6 +50,9 @@ abbrev pub last_slot : List ℕ → Option ℕ
 last_slot [] = None
 last_slot (slot ∷ []) = Some slot
 last_slot (slot ∷ more ∷ slots) = last_slot (more ∷ slots)
+
+abbrev pub MidState : Type 0
+MidState = State Activity Value Memory
 
 module _ (linked : Linked) where
   abbrev pub applying : Word → (procedure slot : ℕ) → Begun Activity Value

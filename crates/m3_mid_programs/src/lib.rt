@@ -3,6 +3,7 @@
 #![tactic(auto)]
 
 ghost use Rattle.m3_mid_programs.specs.Laws.{AreDetermined, HasOneRun, ComesToStops, MovesAsItRuns, ResultsHaveWords};
+ghost use Rattle.m3_mid_programs.specs.Living.{AllStayLiving};
 ghost use Rattle.m3_mid_programs.specs.Standing.{CellsReadTheSame, CellsWriteTheSame, RowsStay};
 
 /// Each activation of middle code has one next move, and what is made leaves one state.
@@ -46,4 +47,10 @@ pub fn cells_write_the_same()
 /// A row of words that stands for a value does so for ever, as activations are only added.
 pub fn rows_stay()
     ensures { RowsStay }
+{}
+
+/// Wherever a linked program comes from its start, memory has the frame of each activation that
+/// waits, under a number of its own; and so it has in the midst of each turn.
+pub fn activations_live()
+    ensures { AllStayLiving }
 {}

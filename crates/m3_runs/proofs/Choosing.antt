@@ -5,7 +5,7 @@ use Rattle.m3_runs.specs.Languages.{Status, Thread, Life, Parts, Language}
 use Rattle.m3_runs.specs.States.{thread_at}
 use Rattle.m3_runs.specs.Choice.{is_free, has_ended, is_there, if_so, may_go_at, may_go_if, may_go, lowest_from, lowest, named_or, choice, is_known_at, is_known_if, all_known}
 use Rattle.m3_runs.specs.Follows as rel
-use Rattle.m3_runs.specs.Follows.{Each, none, more, Both, neither, both, AsDefined, undefined, defined, IsOne, Standing, SameStatus, SameThread, SameLife, SameParts, Room, Follows}
+use Rattle.m3_runs.specs.Follows.{Each, none, more, Both, neither, both, AsDefined, undefined, defined, IsOne, Standing, SameStatus, SameThread, SameLife, SameParts, Room, Invariant, Follows}
 
 pub by_test : (b : Bool) (P : Type 0) → (b ≡ true → P) → (b ≡ false → P) → P
 by_test true P f g = f refl
@@ -35,7 +35,7 @@ free_same o o' (defined x y h) e = ap (λ i. i == 0) h
 if_same : (b b' : Bool) (n : ℕ) (o o' : Option ℕ) → b ≡ b' → o ≡ o' → if_so b n o ≡ if_so b' n o'
 if_same b b' n o o' e h = ap (λ i. if_so i n o) e ∙ ap (if_so b' n) h
 
-module _ {W SA VA MA SB VB MB : Type 0} (R : Standing W SA VA MA SB VB MB) (K : Language SA VA MA) (L : Language SB VB MB) (room : Room R) (F : Follows R K L room) (w : W) (m : MA) (m' : MB) (mem : R.memory w m m') where
+module _ {W SA VA MA SB VB MB : Type 0} (R : Standing W SA VA MA SB VB MB) (K : Language SA VA MA) (L : Language SB VB MB) (I : Invariant SA VA MA) (J : Invariant SB VB MB) (room : Room R) (F : Follows R K L I J room) (w : W) (m : MA) (m' : MB) (mem : R.memory w m m') where
   lives_same : (x : Life VA) (y : Life VB) → SameLife R w x y → has_ended (Some x) ≡ has_ended (Some y)
   lives_same x y rel.alive = refl
   lives_same x y (rel.ended v v' h) = refl
@@ -85,12 +85,12 @@ module _ {W SA VA MA SB VB MB : Type 0} (R : Standing W SA VA MA SB VB MB) (K : 
   goes_at zero ts ts' (more t t' us us' h hs) e = goes_if t t' h (and_left (is_known_if K m t) (all_known K m us) e)
   goes_at (suc n) ts ts' (more t t' us us' h hs) e = goes_at n us us' hs (and_right (is_known_if K m t) (all_known K m us) e)
 
-module _ {W SA VA MA SB VB MB : Type 0} (R : Standing W SA VA MA SB VB MB) (K : Language SA VA MA) (L : Language SB VB MB) (room : Room R) (F : Follows R K L room) (w : W) (parts : Parts SA VA MA) (parts' : Parts SB VB MB) (same : SameParts R w parts parts') where
+module _ {W SA VA MA SB VB MB : Type 0} (R : Standing W SA VA MA SB VB MB) (K : Language SA VA MA) (L : Language SB VB MB) (I : Invariant SA VA MA) (J : Invariant SB VB MB) (room : Room R) (F : Follows R K L I J room) (w : W) (parts : Parts SA VA MA) (parts' : Parts SB VB MB) (same : SameParts R w parts parts') where
   pub lowest_same : all_known K parts.memory parts.threads ≡ true → lowest K parts ≡ lowest L parts'
-  lowest_same e = lowest_from_same R K L room F w parts.memory parts'.memory same.memory 0 parts.threads parts'.threads same.threads e
+  lowest_same e = lowest_from_same R K L I J room F w parts.memory parts'.memory same.memory 0 parts.threads parts'.threads same.threads e
 
   may_go_same : (n : ℕ) → all_known K parts.memory parts.threads ≡ true → may_go K parts n ≡ may_go L parts' n
-  may_go_same n e = goes_at R K L room F w parts.memory parts'.memory same.memory n parts.threads parts'.threads same.threads e
+  may_go_same n e = goes_at R K L I J room F w parts.memory parts'.memory same.memory n parts.threads parts'.threads same.threads e
 
   named_same : (entry : Option ℕ) (o o' : Option ℕ) → all_known K parts.memory parts.threads ≡ true → o ≡ o' → named_or K parts entry o ≡ named_or L parts' entry o'
   named_same None o o' e h = h
@@ -104,5 +104,5 @@ module _ {W SA VA MA SB VB MB : Type 0} (R : Standing W SA VA MA SB VB MB) (K : 
   -- where it isn't known of the one, nor is it of the other
   pub unknown_so : all_known L parts'.memory parts'.threads ≡ false → all_known K parts.memory parts.threads ≡ false
   unknown_so e = by_test (all_known K parts.memory parts.threads) (all_known K parts.memory parts.threads ≡ false)
-      (λ k. absurd (let bad : true ≡ false = sym (all_known_so R K L room F w parts.memory parts'.memory same.memory parts.threads parts'.threads same.threads k) ∙ e in cc))
+      (λ k. absurd (let bad : true ≡ false = sym (all_known_so R K L I J room F w parts.memory parts'.memory same.memory parts.threads parts'.threads same.threads k) ∙ e in cc))
       (λ k. k)

@@ -10,3 +10,5 @@ pub mod Composing
 pub mod Chosen
 pub mod Showing
 pub mod Longest
+pub mod Keeping
+pub mod Served

@@ -3,16 +3,18 @@ use Rattle.std.proofs.Common.{◌≡◌, ℕ, suc, ◌+◌, ◌≤◌, ◌<◌, 
 use Rattle.m3_base.specs.declared.outcomes.Entry.{Entry}
 use Rattle.m3_base.specs.declared.outcomes.Outcome.{Outcome}
 use Rattle.m3_base.specs.declared.outcomes.Outcome.TheVariants as outcome
-use Rattle.m3_runs.specs.Languages.{New, ThreadCell, Action, Calls, Makes, Forks, Gives, Move, Breaks, Entered, Begins, Overflows, Thread, Begun, Parts, Language}
+use Rattle.m3_runs.specs.Languages.{New, ThreadCell, Action, Calls, Makes, Forks, Serves, Gives, Move, Breaks, Entered, Begins, Overflows, Thread, Begun, Parts, Language}
 use Rattle.m3_runs.specs.States.{Given, State, thread_at, living, with_parts, with_threads, beginning}
 use Rattle.m3_runs.specs.Choice.{lowest, choice, all_known}
 use Rattle.m3_runs.specs.Services.{Done, Comes_to, Stops, answers, serves}
 use Rattle.m3_runs.specs.Runs as run
 use Rattle.m3_runs.specs.Runs.{Result, Goes, Ends, Undefined, Does, Finishes, Carries_out, Collected_if, Turns, Runs, forked, passed, runs_on, first_entry, later_entries, entries_after}
+use Rattle.m3_runs.specs.Keeping.{Keeps}
 use Rattle.m3_runs.specs.Follows as rel
-use Rattle.m3_runs.specs.Follows.{Each, none, more, Both, neither, both, AsDefined, Standing, SameNew, SameAction, SameAnswer, SameMove, SameThread, SameBegun, SameParts, SameCounts, Shows, IsActing, Needs, EntersSo, MakesSo, Room, Follows}
+use Rattle.m3_runs.specs.Follows.{Each, none, more, Both, neither, both, AsDefined, Standing, SameNew, SameAction, SameAnswer, SameMove, SameThread, SameBegun, SameParts, SameCounts, Shows, IsActing, Needs, EntersSo, MakesSo, Room, Invariant, Follows}
 use Rattle.m3_runs.specs.Answers as law
 use Rattle.m3_runs.specs.Answers.{Lacks, Answers, RunsTheSame}
+use Rattle.m3_runs.proofs.Keeping.{turns_keep}
 use Rattle.m3_runs.proofs.Rows.{each_length, each_behind, at_each, living_same, there}
 use Rattle.m3_runs.proofs.Choosing.{lowest_same, choice_same, unknown_so, by_test}
 use Rattle.m3_runs.proofs.Serving as serving
@@ -20,7 +22,7 @@ use Rattle.m3_runs.proofs.Serving.{SameDone, finding_so, answers_so, serves_so}
 use Rattle.m3_runs.proofs.Settling as settling
 use Rattle.m3_runs.proofs.Settling.{SameResult, FinishesSo, finishes_so, action_status}
 
-module _ {W SA VA MA SB VB MB : Type 0} (R : Standing W SA VA MA SB VB MB) (K : Language SA VA MA) (L : Language SB VB MB) (room : Room R) (F : Follows R K L room) (given : Given) where
+module _ {W SA VA MA SB VB MB : Type 0} (R : Standing W SA VA MA SB VB MB) (K : Language SA VA MA) (L : Language SB VB MB) (I : Invariant SA VA MA) (J : Invariant SB VB MB) (room : Room R) (F : Follows R K L I J room) (given : Given) (A : Keeps K given I) (B : Keeps L given J) where
   -- ---- the action of a thread
 
   -- what K does for an action of L
@@ -35,7 +37,7 @@ module _ {W SA VA MA SB VB MB : Type 0} (R : Standing W SA VA MA SB VB MB) (K : 
   counts_after : (s : State SA VA MA) (s' : State SB VB MB) (parts' : Parts SB VB MB) → SameCounts R s s' → SameCounts R s (with_parts s' parts')
   counts_after s s' parts' h = record { output = h.output; taken = h.taken; points = h.points; running = h.running; waits = h.waits }
 
-  module _ (w : W) (s : State SA VA MA) (s' : State SB VB MB) (n : ℕ) (t : Thread SA VA) (t' : Thread SB VB) (sh : Shows R w s s') (acting : IsActing R w s.parts s'.parts n t t') where
+  module _ (w : W) (s : State SA VA MA) (s' : State SB VB MB) (n : ℕ) (t : Thread SA VA) (t' : Thread SB VB) (sh : Shows R w s s') (acting : IsActing R w s.parts s'.parts n t t') (good : I.acting s n) (good' : J.acting s' n) where
     entered_so : (p : ℕ) (v : VA) (formals : List VA) (entered' : Entered SB VB MB) (done' : Done SB VB MB) →
         EntersSo R K w t.stack t'.stack p v formals s.parts.memory (room.no_frame s.parts n) entered' →
         ((move' : Move SB VB MB) → entered' ≡ Begins move' → done' ≡ Comes_to s' t'.stack move') → (entered' ≡ Overflows → done' ≡ Stops s' outcome.StackFull) →
@@ -96,25 +98,25 @@ module _ {W SA VA MA SB VB MB : Type 0} (R : Standing W SA VA MA SB VB MB) (K : 
     does_so a a' done' is rel.passes run.passes =
         did w (answers s t (Gives None)) (answers s' t' (Gives None)) run.passes (answers_so R w s s' t t' (Gives None) (Gives None) sh acting.same (rel.gives None None neither))
     does_so a a' done' is (rel.calls p v v' vs vs' h hs) (run.begins _ _ _ move' e) =
-        entered_so p v vs (Begins move') (Comes_to s' t'.stack move') (F.enters w s.parts s'.parts n t t' p v v' vs vs' (Begins move') acting is h hs e)
+        entered_so p v vs (Begins move') (Comes_to s' t'.stack move') (F.enters w s s' n t t' p v v' vs vs' (Begins move') good good' acting is h hs e)
         (λ m e. let same : move' ≡ m = cc in ap (Comes_to s' t'.stack) same) (λ e. absurd (let bad : Begins move' ≡ Overflows = e in cc))
     does_so a a' done' is (rel.calls p v v' vs vs' h hs) (run.overflows _ _ _ e) =
-        entered_so p v vs Overflows (Stops s' outcome.StackFull) (F.enters w s.parts s'.parts n t t' p v v' vs vs' Overflows acting is h hs e)
+        entered_so p v vs Overflows (Stops s' outcome.StackFull) (F.enters w s s' n t t' p v v' vs vs' Overflows good good' acting is h hs e)
         (λ m e. absurd (let bad : Overflows ≡ Begins m = e in cc)) (λ e. refl)
     does_so a a' done' is (rel.makes new new' h) (run.makes _ v' parts' after' e at) =
-        made_so new v' parts' after' (F.makes w s.parts s'.parts parts' n t t' new new' v' acting (subst (λ i. Needs i new) (sym is) (rel.needs_new new)) h e) at
+        made_so new v' parts' after' (F.makes w s s' parts' n t t' new new' v' good good' acting (subst (λ i. Needs i new) (sym is) (rel.needs_new new)) h e) at
     does_so a a' done' is (rel.makes new new' h) (run.finds_no_room _ parts' e) =
-        lacks_cell (with_parts s' parts') (F.full w s.parts s'.parts parts' n t t' new new' acting (subst (λ i. Needs i new) (sym is) (rel.needs_new new)) h e) (counts_after s s' parts' sh.counts)
+        lacks_cell (with_parts s' parts') (F.full w s s' parts' n t t' new new' good good' acting (subst (λ i. Needs i new) (sym is) (rel.needs_new new)) h e) (counts_after s s' parts' sh.counts)
     does_so a a' done' is (rel.forks c c' h) (run.too_many _ few) =
         did w (Stops s outcome.ThreadsFull) (Stops s' outcome.ThreadsFull) (run.too_many c (subst (λ i. given.threads ≤ i) (sym living_too) few)) (serving.stops s s' outcome.ThreadsFull sh.counts)
     does_so a a' done' is (rel.forks c c' h) (run.forks _ v' parts' after' moved' few e at forks) =
         forks_so c v' parts' after' moved' (subst (λ i. i < given.threads) (sym living_too) few)
-        (F.makes w s.parts s'.parts parts' n t t' (ThreadCell (length s.parts.threads)) (ThreadCell (length s'.parts.threads)) v' acting (subst (λ i. Needs i (ThreadCell (length s.parts.threads))) (sym is) (rel.needs_cell c (length s.parts.threads))) cell_asked e) at forks
+        (F.makes w s s' parts' n t t' (ThreadCell (length s.parts.threads)) (ThreadCell (length s'.parts.threads)) v' good good' acting (subst (λ i. Needs i (ThreadCell (length s.parts.threads))) (sym is) (rel.needs_cell c (length s.parts.threads))) cell_asked e) at forks
     does_so a a' done' is (rel.forks c c' h) (run.finds_no_cell _ parts' few e) =
         lacks_cell (with_parts s' parts')
-        (F.full w s.parts s'.parts parts' n t t' (ThreadCell (length s.parts.threads)) (ThreadCell (length s'.parts.threads)) acting (subst (λ i. Needs i (ThreadCell (length s.parts.threads))) (sym is) (rel.needs_cell c (length s.parts.threads))) cell_asked e) (counts_after s s' parts' sh.counts)
+        (F.full w s s' parts' n t t' (ThreadCell (length s.parts.threads)) (ThreadCell (length s'.parts.threads)) good good' acting (subst (λ i. Needs i (ThreadCell (length s.parts.threads))) (sym is) (rel.needs_cell c (length s.parts.threads))) cell_asked e) (counts_after s s' parts' sh.counts)
     does_so a a' done' is (rel.serves service other h) (run.served _) =
-        did w (serves K given n t service s) (serves L given n t' other s') (run.served service) (serves_so R K L room F w given n t t' acting.same service other s s' h sh)
+        did w (serves K given n t service s) (serves L given n t' other s') (run.served service) (serves_so R K L I J room F w given n t t' acting.same service other s s' (λ form v v' e k. F.bytes w s s' n t t' form v v' good good' acting (is ∙ ap Serves e) k) (λ v v' holder k few. F.hold w s s' n holder v v' good good' sh.parts.memory k few) h sh)
 
   -- ---- a turn
 
@@ -123,18 +125,21 @@ module _ {W SA VA MA SB VB MB : Type 0} (R : Standing W SA VA MA SB VB MB) (K : 
     lacks_cell : (u' : State SB VB MB) → room.no_cell s.parts n → SameCounts R s u' → CarriesSo n s (Ends u' outcome.HeapFull)
     lacks_frame : (u' : State SB VB MB) → room.no_frame s.parts n → SameCounts R s u' → CarriesSo n s (Ends u' outcome.StackFull)
 
-  finish : (n : ℕ) (s : State SA VA MA) (t : Thread SA VA) (done' : Done SB VB MB) (r' : Result SB VB MB) → thread_at s.parts.threads n ≡ Some t → DoesSo n t s t.action done' → Finishes L n done' r' → CarriesSo n s r'
-  finish n s t done' r' at (did w done _ does same) fin =
-      let k = finishes_so R K L room F w n done done' r' same fin in
+  finish : (n : ℕ) (s : State SA VA MA) (s' : State SB VB MB) (t : Thread SA VA) (t' : Thread SB VB) (done' : Done SB VB MB) (r' : Result SB VB MB) → I.acting s n → J.acting s' n → thread_at s.parts.threads n ≡ Some t → thread_at s'.parts.threads n ≡ Some t' → Does L given n t' s' t'.action done' →
+      DoesSo n t s t.action done' → Finishes L n done' r' → CarriesSo n s r'
+  finish n s s' t t' done' r' good good' at at' does' (did w done _ does same) fin =
+      let k = finishes_so R K L I J room F given A B w n done done' r'
+      (λ u stack move e. A.does n t s u stack move good at (subst (λ d. Does K given n t s t.action d) e does))
+      (λ u stack move e. B.does n t' s' u stack move good' at' (subst (λ d. Does L given n t' s' t'.action d) e does')) same fin in
       carried k.result r' (run.carries_out t done k.result at does k.finishes) k.same
-  finish n s t done' r' at (lacks_cell u' known counts) (run.stops _ _) = lacks_cell u' known counts
-  finish n s t done' r' at (lacks_frame u' known counts) (run.stops _ _) = lacks_frame u' known counts
+  finish n s s' t t' done' r' good good' at at' does' (lacks_cell u' known counts) (run.stops _ _) = lacks_cell u' known counts
+  finish n s s' t t' done' r' good good' at at' does' (lacks_frame u' known counts) (run.stops _ _) = lacks_frame u' known counts
 
-  carries_so : (w : W) (n : ℕ) (s : State SA VA MA) (s' : State SB VB MB) (r' : Result SB VB MB) → Shows R w s s' → Carries_out L given n s' r' → CarriesSo n s r'
-  carries_so w n s s' r' sh (run.carries_out t' done' _ at does fin) =
+  carries_so : (w : W) (n : ℕ) (s : State SA VA MA) (s' : State SB VB MB) (r' : Result SB VB MB) → I.acting s n → J.acting s' n → Shows R w s s' → Carries_out L given n s' r' → CarriesSo n s r'
+  carries_so w n s s' r' good good' sh (run.carries_out t' done' _ at does fin) =
       let k = there (SameThread R w) (thread_at s.parts.threads n) (thread_at s'.parts.threads n) t' (at_each (SameThread R w) s.parts.threads s'.parts.threads n sh.parts.threads) at in
-      let acting : IsActing R w s.parts s'.parts n k.0 t' = record { state = sh.parts; there = k.1; same = k.2 } in
-      finish n s k.0 done' r' k.1 (does_so w s s' n k.0 t' sh acting (k.0).action t'.action done' refl (k.2).action does) fin
+      let acting : IsActing R w s.parts s'.parts n k.0 t' = record { state = sh.parts; there = k.1; there' = at; same = k.2 } in
+      finish n s s' k.0 t' done' r' good good' k.1 at does (does_so w s s' n k.0 t' sh acting good good' (k.0).action t'.action done' refl (k.2).action does) fin
 
   data TurnsSo (s : State SA VA MA) (entry : Entry) : Result SB VB MB → Type 0 where
     turned : (r : Result SA VA MA) (r' : Result SB VB MB) → Turns K given s entry r → SameResult R r r' → TurnsSo s entry r'
@@ -153,25 +158,25 @@ module _ {W SA VA MA SB VB MB : Type 0} (R : Standing W SA VA MA SB VB MB) (K : 
   gone s entry k n r' known low few coll chosen (lacks_cell u' lacks counts) = lacks_cell n u' chosen lacks counts.output (sym counts.points)
   gone s entry k n r' known low few coll chosen (lacks_frame u' lacks counts) = lacks_frame n u' chosen lacks counts.output (sym counts.points)
 
-  turn_known : (w : W) (s : State SA VA MA) (s' : State SB VB MB) (entry : Entry) (r' : Result SB VB MB) → Shows R w s s' → all_known K s.parts.memory s.parts.threads ≡ true → Turns L given s' entry r' → TurnsSo s entry r'
-  turn_known w s s' entry r' sh known (run.unknown e) =
-      absurd (let bad : true ≡ false = sym known ∙ unknown_so R K L room F w s.parts s'.parts sh.parts e in cc)
-  turn_known w s s' entry r' sh known (run.nobody e low) =
-      turned (Ends s outcome.Deadlock) (Ends s' outcome.Deadlock) (run.nobody known (lowest_same R K L room F w s.parts s'.parts sh.parts known ∙ low)) (settling.ends s s' outcome.Deadlock sh.counts.output sh.counts.points)
-  turn_known w s s' entry r' sh known (run.spent k e low full) =
-      turned (Ends s outcome.Spent) (Ends s' outcome.Spent) (run.spent k known (lowest_same R K L room F w s.parts s'.parts sh.parts known ∙ low) (subst (λ i. given.points ≤ i) (sym sh.counts.points) full)) (settling.ends s s' outcome.Spent sh.counts.output sh.counts.points)
-  turn_known w s s' entry r' sh known (run.goes k n parts' _ e low few coll chosen carries) =
+  turn_known : (w : W) (s : State SA VA MA) (s' : State SB VB MB) (entry : Entry) (r' : Result SB VB MB) → I.between s → J.between s' → Shows R w s s' → all_known K s.parts.memory s.parts.threads ≡ true → Turns L given s' entry r' → TurnsSo s entry r'
+  turn_known w s s' entry r' good good' sh known (run.unknown e) =
+      absurd (let bad : true ≡ false = sym known ∙ unknown_so R K L I J room F w s.parts s'.parts sh.parts e in cc)
+  turn_known w s s' entry r' good good' sh known (run.nobody e low) =
+      turned (Ends s outcome.Deadlock) (Ends s' outcome.Deadlock) (run.nobody known (lowest_same R K L I J room F w s.parts s'.parts sh.parts known ∙ low)) (settling.ends s s' outcome.Deadlock sh.counts.output sh.counts.points)
+  turn_known w s s' entry r' good good' sh known (run.spent k e low full) =
+      turned (Ends s outcome.Spent) (Ends s' outcome.Spent) (run.spent k known (lowest_same R K L I J room F w s.parts s'.parts sh.parts known ∙ low) (subst (λ i. given.points ≤ i) (sym sh.counts.points) full)) (settling.ends s s' outcome.Spent sh.counts.output sh.counts.points)
+  turn_known w s s' entry r' good good' sh known (run.goes k n parts' _ e low few coll chosen carries) =
       let c = collected_so w s.parts s'.parts parts' entry.collect sh.parts coll in
       let same : choice K s.parts entry.to s.running ≡ Some n =
-      choice_same R K L room F c.1 s.parts parts' c.2 entry.to s.running known ∙ ap (choice L parts' entry.to) sh.counts.running ∙ chosen in
+      choice_same R K L I J room F c.1 s.parts parts' c.2 entry.to s.running known ∙ ap (choice L parts' entry.to) sh.counts.running ∙ chosen in
       let u = runs_on n (passed (with_parts s s.parts)) in
       let u' = runs_on n (passed (with_parts s' parts')) in
       let shows : Shows R c.1 u u' = record { parts = c.2; counts = record { output = sh.counts.output; taken = sh.counts.taken; points = ap (λ i. i + 1) sh.counts.points; running = refl; waits = sh.counts.waits } } in
-      gone s entry k n r' known (lowest_same R K L room F w s.parts s'.parts sh.parts known ∙ low) (subst (λ i. i < given.points) (sym sh.counts.points) few) c.0 same (carries_so c.1 n u u' r' shows carries)
+      gone s entry k n r' known (lowest_same R K L I J room F w s.parts s'.parts sh.parts known ∙ low) (subst (λ i. i < given.points) (sym sh.counts.points) few) c.0 same (carries_so c.1 n u u' r' (A.begins s entry n s.parts good (subst (λ i. i < given.points) (sym sh.counts.points) few) c.0 same) (B.begins s' entry n parts' good' few coll chosen) shows carries)
 
-  turn_so : (w : W) (s : State SA VA MA) (s' : State SB VB MB) (entry : Entry) (r' : Result SB VB MB) → Shows R w s s' → Turns L given s' entry r' → TurnsSo s entry r'
-  turn_so w s s' entry r' sh turns = by_test (all_known K s.parts.memory s.parts.threads) (TurnsSo s entry r')
-      (λ known. turn_known w s s' entry r' sh known turns)
+  turn_so : (w : W) (s : State SA VA MA) (s' : State SB VB MB) (entry : Entry) (r' : Result SB VB MB) → I.between s → J.between s' → Shows R w s s' → Turns L given s' entry r' → TurnsSo s entry r'
+  turn_so w s s' entry r' good good' sh turns = by_test (all_known K s.parts.memory s.parts.threads) (TurnsSo s entry r')
+      (λ known. turn_known w s s' entry r' good good' sh known turns)
       (λ unknown. turned Undefined r' (run.unknown unknown) (settling.undefined_so r'))
 
   -- ---- a run
@@ -211,12 +216,12 @@ module _ {W SA VA MA SB VB MB : Type 0} (R : Standing W SA VA MA SB VB MB) (K : 
   behind s u schedule turns r' turn (law.no_frame u' h) = law.no_frame u' (lacks_behind room.no_frame s u schedule turns u' turn h)
   behind s u schedule turns r' turn (law.undefined _ runs) = law.undefined r' (run.turn s u schedule turns Undefined turn runs)
 
-  pub runs_so : RunsTheSame R K L room given
-  runs_so w s s' schedule turns r' sh (run.stays _ _) = law.comes w s s' (run.stays s schedule) sh
-  runs_so w s s' schedule (suc turns) r' sh (run.turn _ u' _ _ _ turn later) =
+  pub runs_so : RunsTheSame R K L room given I J
+  runs_so w s s' schedule turns r' good good' sh (run.stays _ _) = law.comes w s s' (run.stays s schedule) sh
+  runs_so w s s' schedule (suc turns) r' good good' sh (run.turn _ u' _ _ _ turn later) =
       ⊎_elim
-      (λ k. behind s k.1 schedule turns r' k.2 (runs_so k.0 k.1 u' (later_entries schedule) turns r' k.3 later))
+      (λ k. behind s k.1 schedule turns r' k.2 (runs_so k.0 k.1 u' (later_entries schedule) turns r' (turns_keep K given I A s k.1 (first_entry schedule) good k.2) (turns_keep L given J B s' u' (first_entry schedule) good' turn) k.3 later))
       (λ k. law.undefined r' (run.breaks_off s schedule turns k))
-      (turn_there s u' (first_entry schedule) (turn_so w s s' (first_entry schedule) (Goes u') sh turn))
-  runs_so w s s' schedule (suc turns) r' sh (run.ends _ u' _ _ o turn) = ended s u' schedule turns o (turn_so w s s' (first_entry schedule) (Ends u' o) sh turn)
-  runs_so w s s' schedule (suc turns) r' sh (run.breaks_off _ _ _ turn) = broken s schedule turns Undefined (turn_so w s s' (first_entry schedule) Undefined sh turn)
+      (turn_there s u' (first_entry schedule) (turn_so w s s' (first_entry schedule) (Goes u') good good' sh turn))
+  runs_so w s s' schedule (suc turns) r' good good' sh (run.ends _ u' _ _ o turn) = ended s u' schedule turns o (turn_so w s s' (first_entry schedule) (Ends u' o) good good' sh turn)
+  runs_so w s s' schedule (suc turns) r' good good' sh (run.breaks_off _ _ _ turn) = broken s schedule turns Undefined (turn_so w s s' (first_entry schedule) Undefined good good' sh turn)

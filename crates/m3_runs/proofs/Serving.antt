@@ -1,15 +1,21 @@
 -- Services of states that show one another leave such states.
-use Rattle.std.proofs.Common.{◌≡◌, ℕ, suc, ◌+◌, Bool, true, false, List, [], ◌++◌, length, Option, Some, None, refl, ap, ◌∙◌, subst}
+use Rattle.std.proofs.Common.{◌≡◌, ℕ, suc, ◌+◌, Bool, true, false, List, [], ◌++◌, length, Option, Some, None, refl, ap, ◌∙◌, subst, ◌≤◌, arith}
 use Rattle.std.specs.Prelude.{◌==◌, ◌&&◌, nat_le, if◌then◌else◌, slice_get}
 use Rattle.std.specs.Option.{option_map}
 use Rattle.m3_base.specs.declared.outcomes.Outcome.{Outcome}
 use Rattle.m3_base.specs.declared.outcomes.FaultKind.TheVariants.{Index, NotHeld, JoinTwice}
-use Rattle.m3_runs.specs.Languages.{Service, Answer, Gives, Raises, Fails, Move, Leaves, Breaks, Status, Thread, Life, Language}
+use Rattle.m3_runs.specs.Languages.{Service, Answer, Gives, Raises, Fails, Move, Leaves, Breaks, Status, Thread, Life, Language, Form, Put}
 use Rattle.m3_runs.specs.States.{Given, State, with_memory, changing}
 use Rattle.m3_runs.specs.Services.{Done, Comes_to, Rests, Stops, answers, finding, flag, alert_cleared, alerted_at, alert_marked, woken_at, woken, asleep, Sleeper, earlier, sleeps_on_at, place_at, sleeper_if, longest_from, woken_by, signalled, woken_on, broadcasted, done, tells, is_alerted, takes, held_by, holding, falls_asleep, waits_at, joins_if, serves}
 use Rattle.m3_runs.specs.Follows as rel
-use Rattle.m3_runs.specs.Follows.{Each, none, more, Both, neither, both, AsDefined, undefined, defined, IsOne, Standing, SameService, SameAnswer, SameMove, SameStatus, SameThread, SameLife, SameParts, SameCounts, Shows, Room, Follows}
+use Rattle.m3_runs.specs.Follows.{Each, none, more, Both, neither, both, AsDefined, undefined, defined, IsOne, Standing, SameService, SameAnswer, SameMove, SameStatus, SameThread, SameLife, SameParts, SameCounts, Shows, Room, Invariant, Follows}
 use Rattle.m3_runs.proofs.Rows.{updated_each, map_each, option_both}
+
+none_more : (n : ℕ) → 0 ≤ n + 1
+none_more n = omega arith
+
+as_much : (n : ℕ) → n + 1 ≤ n + 1
+as_much n = omega arith
 
 module _ {W SA VA MA SB VB MB : Type 0} (R : Standing W SA VA MA SB VB MB) where
   -- what an action leaves on the one side, and on the other
@@ -72,7 +78,7 @@ module _ {W SA VA MA SB VB MB : Type 0} (R : Standing W SA VA MA SB VB MB) (w : 
   asleep_so : (v u : VA) (v' u' : VB) (place : ℕ) (alertable : Bool) → R.value w v v' → R.value w u u' → (t : Thread SA VA) (t' : Thread SB VB) → SameThread R w t t' → SameThread R w (asleep v u place alertable t) (asleep v' u' place alertable t')
   asleep_so v u v' u' place alertable h k t t' th = record { action = th.action; status = rel.waits v u v' u' place alertable h k; alerted = th.alerted; cell = th.cell; stack = th.stack }
 
-module _ {W SA VA MA SB VB MB : Type 0} (R : Standing W SA VA MA SB VB MB) (K : Language SA VA MA) (L : Language SB VB MB) (room : Room R) (F : Follows R K L room) (w : W) where
+module _ {W SA VA MA SB VB MB : Type 0} (R : Standing W SA VA MA SB VB MB) (K : Language SA VA MA) (L : Language SB VB MB) (I : Invariant SA VA MA) (J : Invariant SB VB MB) (room : Room R) (F : Follows R K L I J room) (w : W) where
   -- ---- sleepers
 
   module _ (m : MA) (m' : MB) (mem : R.memory w m m') where
@@ -154,11 +160,11 @@ module _ {W SA VA MA SB VB MB : Type 0} (R : Standing W SA VA MA SB VB MB) (K : 
       counts = record { output = sh.counts.output; taken = ap (λ i. i + 1) sh.counts.taken; points = sh.counts.points; running = sh.counts.running; waits = sh.counts.waits };
     })
 
-    held_so : (holder : ℕ) (v : VA) (v' : VB) (s : State SA VA MA) (s' : State SB VB MB) (go : State SA VA MA → Done SA VA MA) (go' : State SB VB MB → Done SB VB MB) → R.value w v v' → Shows R w s s' →
+    held_so : (holder : ℕ) (v : VA) (v' : VB) (s : State SA VA MA) (s' : State SB VB MB) → AsDefined (R.memory w) (K.hold s.parts.memory v holder) (L.hold s'.parts.memory v' holder) → (go : State SA VA MA → Done SA VA MA) (go' : State SB VB MB → Done SB VB MB) → R.value w v v' → Shows R w s s' →
         ((u : State SA VA MA) (u' : State SB VB MB) → Shows R w u u' → SameDone R w (go u) (go' u')) → SameDone R w (held_by K given n t holder v s go) (held_by L given n t' holder v' s' go')
-    held_so holder v v' s s' go go' h sh k =
+    held_so holder v v' s s' holds go go' h sh k =
         finding_so R w (R.memory w) (K.hold s.parts.memory v holder) (L.hold s'.parts.memory v' holder) s s' (λ m. go (with_memory s m)) (λ m. go' (with_memory s' m))
-        (F.hold holder w s.parts.memory s'.parts.memory v v' sh.parts.memory h) (λ m m' mem. k (with_memory s m) (with_memory s' m') (memory_so R w s s' m m' sh mem))
+        holds (λ m m' mem. k (with_memory s m) (with_memory s' m') (memory_so R w s s' m m' sh mem))
 
     holding_so : (v : VA) (v' : VB) (s : State SA VA MA) (s' : State SB VB MB) (go : Done SA VA MA) (go' : Done SB VB MB) → R.value w v v' → Shows R w s s' → SameDone R w go go' → SameDone R w (holding K given n t v s go) (holding L given n t' v' s' go')
     holding_so v v' s s' go go' h sh k =
@@ -180,24 +186,24 @@ module _ {W SA VA MA SB VB MB : Type 0} (R : Standing W SA VA MA SB VB MB) (K : 
     marked_and : (alertable : Bool) → (alertable && t.alerted) ≡ (alertable && t'.alerted)
     marked_and alertable = ap (λ b. alertable && b) th.alerted
 
-    first_so : (v u : VA) (v' u' : VB) (alertable : Bool) (s : State SA VA MA) (s' : State SB VB MB) → R.value w v v' → R.value w u u' → Shows R w s s' →
+    first_so : (v u : VA) (v' u' : VB) (alertable : Bool) (s : State SA VA MA) (s' : State SB VB MB) → ((holder : ℕ) → holder ≤ n + 1 → AsDefined (R.memory w) (K.hold s.parts.memory v holder) (L.hold s'.parts.memory v' holder)) → R.value w v v' → R.value w u u' → Shows R w s s' →
         SameDone R w (holding K given n t v s (if alertable && t.alerted then is_alerted K given n t s else held_by K given n t 0 v s (falls_asleep K given n t v u alertable)))
         (holding L given n t' v' s' (if alertable && t'.alerted then is_alerted L given n t' s' else held_by L given n t' 0 v' s' (falls_asleep L given n t' v' u' alertable)))
-    first_so v u v' u' alertable s s' h k sh =
+    first_so v u v' u' alertable s s' holds h k sh =
         let yielding = held_by K given n t 0 v s (falls_asleep K given n t v u alertable) in
         let yielding' = held_by L given n t' 0 v' s' (falls_asleep L given n t' v' u' alertable) in
         holding_so v v' s s' (if alertable && t.alerted then is_alerted K given n t s else yielding) (if alertable && t'.alerted then is_alerted L given n t' s' else yielding') h sh
         (if_so R w (alertable && t.alerted) (alertable && t'.alerted) (is_alerted K given n t s) yielding (is_alerted L given n t' s') yielding' (marked_and alertable) (alerted_so s s' sh)
-        (held_so 0 v v' s s' (falls_asleep K given n t v u alertable) (falls_asleep L given n t' v' u' alertable) h sh (λ x x' shows. sleeps_so v u v' u' alertable x x' h k shows)))
+        (held_so 0 v v' s s' (holds 0 (none_more n)) (falls_asleep K given n t v u alertable) (falls_asleep L given n t' v' u' alertable) h sh (λ x x' shows. sleeps_so v u v' u' alertable x x' h k shows)))
 
-    waits_so : (st : Status VA) (st' : Status VB) (v u : VA) (v' u' : VB) (alertable : Bool) (s : State SA VA MA) (s' : State SB VB MB) → SameStatus R w st st' → R.value w v v' → R.value w u u' → Shows R w s s' →
+    waits_so : (st : Status VA) (st' : Status VB) (v u : VA) (v' u' : VB) (alertable : Bool) (s : State SA VA MA) (s' : State SB VB MB) → ((holder : ℕ) → holder ≤ n + 1 → AsDefined (R.memory w) (K.hold s.parts.memory v holder) (L.hold s'.parts.memory v' holder)) → SameStatus R w st st' → R.value w v v' → R.value w u u' → Shows R w s s' →
         SameDone R w (waits_at K given n t st v u alertable s) (waits_at L given n t' st' v' u' alertable s')
-    waits_so st st' v u v' u' alertable s s' rel.ready h k sh = first_so v u v' u' alertable s s' h k sh
-    waits_so st st' v u v' u' alertable s s' (rel.wants m m' q) h k sh =
-        held_so (n + 1) v v' s s' (λ x. if alertable && t.alerted then is_alerted K given n t x else done K given n t x) (λ x. if alertable && t'.alerted then is_alerted L given n t' x else done L given n t' x) h sh
+    waits_so st st' v u v' u' alertable s s' holds rel.ready h k sh = first_so v u v' u' alertable s s' holds h k sh
+    waits_so st st' v u v' u' alertable s s' holds (rel.wants m m' q) h k sh =
+        held_so (n + 1) v v' s s' (holds (n + 1) (as_much n)) (λ x. if alertable && t.alerted then is_alerted K given n t x else done K given n t x) (λ x. if alertable && t'.alerted then is_alerted L given n t' x else done L given n t' x) h sh
         (λ x x' shows. if_so R w (alertable && t.alerted) (alertable && t'.alerted) (is_alerted K given n t x) (done K given n t x) (is_alerted L given n t' x') (done L given n t' x') (marked_and alertable) (alerted_so x x' shows) (done_so x x' shows))
-    waits_so st st' v u v' u' alertable s s' (rel.waits m c m' c' place a q r) h k sh = first_so v u v' u' alertable s s' h k sh
-    waits_so st st' v u v' u' alertable s s' (rel.joins m m' a q) h k sh = first_so v u v' u' alertable s s' h k sh
+    waits_so st st' v u v' u' alertable s s' holds (rel.waits m c m' c' place a q r) h k sh = first_so v u v' u' alertable s s' holds h k sh
+    waits_so st st' v u v' u' alertable s s' holds (rel.joins m m' a q) h k sh = first_so v u v' u' alertable s s' holds h k sh
 
     joins_so : (v : VA) (v' : VB) (s : State SA VA MA) (s' : State SB VB MB) (x : Life VA) (y : Life VB) → R.value w v v' → Shows R w s s' → SameLife R w x y → SameDone R w (joins_if K given n t v s x) (joins_if L given n t' v' s' y)
     joins_so v v' s s' x y h sh rel.alive = breaks s [] (joins_if L given n t' v' s' y)
@@ -207,31 +213,32 @@ module _ {W SA VA MA SB VB MB : Type 0} (R : Standing W SA VA MA SB VB MB) (K : 
         (F.join w s.parts.memory s'.parts.memory v v' sh.parts.memory h)
         (λ m m' mem. answers_so R w (with_memory s m) (with_memory s' m') t t' (Gives (Some r)) (Gives (Some r')) (memory_so R w s s' m m' sh mem) th (rel.gives (Some r) (Some r') (both r r' k)))
 
-    pub serves_so : (service : Service VA) (other : Service VB) (s : State SA VA MA) (s' : State SB VB MB) → SameService R w service other → Shows R w s s' → SameDone R w (serves K given n t service s) (serves L given n t' other s')
-    serves_so service other s s' (rel.put form v v' h) sh =
+    pub serves_so : (service : Service VA) (other : Service VB) (s : State SA VA MA) (s' : State SB VB MB) → ((form : Form) (v : VA) (v' : VB) → service ≡ Put form v → R.value w v v' → AsDefined IsOne (K.bytes s.parts.memory form v) (L.bytes s'.parts.memory form v')) →
+        ((v : VA) (v' : VB) (holder : ℕ) → R.value w v v' → holder ≤ n + 1 → AsDefined (R.memory w) (K.hold s.parts.memory v holder) (L.hold s'.parts.memory v' holder)) → SameService R w service other → Shows R w s s' → SameDone R w (serves K given n t service s) (serves L given n t' other s')
+    serves_so service other s s' puts holds (rel.put form v v' h) sh =
         finding_so R w IsOne (K.bytes s.parts.memory form v) (L.bytes s'.parts.memory form v') s s' (λ x. done K given n t (record s { output = s.output ++ x })) (λ x. done L given n t' (record s' { output = s'.output ++ x }))
-        (F.bytes form w s.parts.memory s'.parts.memory v v' sh.parts.memory h) (λ x y e. put_so s s' x y sh e)
-    serves_so service other s s' rel.get_byte sh =
+        (puts form v v' refl h) (λ x y e. put_so s s' x y sh e)
+    serves_so service other s s' puts holds rel.get_byte sh =
         subst (λ i. SameDone R w (takes K given n t (slice_get given.input s.taken) s) (takes L given n t' (slice_get given.input i) s')) sh.counts.taken (takes_so (slice_get given.input s.taken) s s' sh)
-    serves_so service other s s' rel.end_of_input sh =
+    serves_so service other s s' puts holds rel.end_of_input sh =
         subst (λ i. SameDone R w (tells K given n t (flag (nat_le (length given.input) s.taken)) s) (tells L given n t' (flag (nat_le (length given.input) i)) s')) sh.counts.taken (tells_so (flag (nat_le (length given.input) s.taken)) s s' sh)
-    serves_so service other s s' (rel.acquire v v' h) sh = held_so (n + 1) v v' s s' (done K given n t) (done L given n t') h sh done_so
-    serves_so service other s s' (rel.release v v' h) sh =
-        holding_so v v' s s' (held_by K given n t 0 v s (done K given n t)) (held_by L given n t' 0 v' s' (done L given n t')) h sh (held_so 0 v v' s s' (done K given n t) (done L given n t') h sh done_so)
-    serves_so service other s s' (rel.wait v u v' u' alertable h k) sh = waits_so t.status t'.status v u v' u' alertable s s' th.status h k sh
-    serves_so service other s s' (rel.signal v v' h) sh = done_so (signalled K v s) (signalled L v' s') (signalled_so v v' s s' h sh)
-    serves_so service other s s' (rel.broadcast v v' h) sh = done_so (broadcasted K v s) (broadcasted L v' s') (broadcasted_so v v' s s' h sh)
-    serves_so service other s s' (rel.join v v' alertable h) sh =
+    serves_so service other s s' puts holds (rel.acquire v v' h) sh = held_so (n + 1) v v' s s' (holds v v' (n + 1) h (as_much n)) (done K given n t) (done L given n t') h sh done_so
+    serves_so service other s s' puts holds (rel.release v v' h) sh =
+        holding_so v v' s s' (held_by K given n t 0 v s (done K given n t)) (held_by L given n t' 0 v' s' (done L given n t')) h sh (held_so 0 v v' s s' (holds v v' 0 h (none_more n)) (done K given n t) (done L given n t') h sh done_so)
+    serves_so service other s s' puts holds (rel.wait v u v' u' alertable h k) sh = waits_so t.status t'.status v u v' u' alertable s s' (λ holder few. holds v v' holder h few) th.status h k sh
+    serves_so service other s s' puts holds (rel.signal v v' h) sh = done_so (signalled K v s) (signalled L v' s') (signalled_so v v' s s' h sh)
+    serves_so service other s s' puts holds (rel.broadcast v v' h) sh = done_so (broadcasted K v s) (broadcasted L v' s') (broadcasted_so v v' s s' h sh)
+    serves_so service other s s' puts holds (rel.join v v' alertable h) sh =
         if_so R w (alertable && t.alerted) (alertable && t'.alerted) (is_alerted K given n t s) (finding s (K.life s.parts.memory v) (joins_if K given n t v s)) (is_alerted L given n t' s') (finding s' (L.life s'.parts.memory v') (joins_if L given n t' v' s'))
         (marked_and alertable) (alerted_so s s' sh)
         (finding_so R w (SameLife R w) (K.life s.parts.memory v) (L.life s'.parts.memory v') s s' (joins_if K given n t v s) (joins_if L given n t' v' s')
         (F.life w s.parts.memory s'.parts.memory v v' sh.parts.memory h) (λ x y k. joins_so v v' s s' x y h sh k))
-    serves_so service other s s' rel.my_self sh = answers_so R w s s' t t' (Gives (Some t.cell)) (Gives (Some t'.cell)) sh th (rel.gives (Some t.cell) (Some t'.cell) (both t.cell t'.cell th.cell))
-    serves_so service other s s' (rel.alert v v' h) sh =
+    serves_so service other s s' puts holds rel.my_self sh = answers_so R w s s' t t' (Gives (Some t.cell)) (Gives (Some t'.cell)) sh th (rel.gives (Some t.cell) (Some t'.cell) (both t.cell t'.cell th.cell))
+    serves_so service other s s' puts holds (rel.alert v v' h) sh =
         finding_so R w IsOne (K.number_of s.parts.memory v) (L.number_of s'.parts.memory v') s s' (λ k. done K given n t (changing alert_marked k s)) (λ k. done L given n t' (changing alert_marked k s'))
         (F.number_of w s.parts.memory s'.parts.memory v v' sh.parts.memory h)
         (λ i j e. subst (λ k. SameDone R w (done K given n t (changing alert_marked i s)) (done L given n t' (changing alert_marked k s'))) e
         (done_so (changing alert_marked i s) (changing alert_marked i s') (changing_so R w alert_marked alert_marked i s s' (marked_so R w) sh)))
-    serves_so service other s s' rel.test_alert sh =
+    serves_so service other s s' puts holds rel.test_alert sh =
         subst (λ b. SameDone R w (tells K given n t (flag t.alerted) (changing alert_cleared n s)) (tells L given n t' (flag b) (changing alert_cleared n s'))) th.alerted
         (tells_so (flag t.alerted) (changing alert_cleared n s) (changing alert_cleared n s') (changing_so R w alert_cleared alert_cleared n s s' (cleared_so R w) sh))

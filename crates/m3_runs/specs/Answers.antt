@@ -8,7 +8,7 @@ use Rattle.m3_runs.specs.Languages.{Parts, Language}
 use Rattle.m3_runs.specs.States.{Given, State, shown}
 use Rattle.m3_runs.specs.Choice.{choice}
 use Rattle.m3_runs.specs.Runs.{Result, Goes, Ends, Undefined, Runs, first_entry, entries_after}
-use Rattle.m3_runs.specs.Follows.{Each, Standing, SameShown, Shows, Room}
+use Rattle.m3_runs.specs.Follows.{Each, Invariant, Standing, SameShown, Shows, Room}
 
 module _ {W SA VA MA SB VB MB : Type 0} (R : Standing W SA VA MA SB VB MB)
     (K : Language SA VA MA) (L : Language SB VB MB) (room : Room R) (given : Given) where
@@ -46,16 +46,17 @@ module _ {W SA VA MA SB VB MB : Type 0} (R : Standing W SA VA MA SB VB MB)
     undefined : (r' : Result SB VB MB) → Runs K given s schedule turns Undefined
         → Answers s schedule turns r'
 
-  abbrev pub RunsTheSame : Type 0
-  RunsTheSame =
+  abbrev pub RunsTheSame : Invariant SA VA MA → Invariant SB VB MB → Type 0
+  RunsTheSame I J =
       (w : W) (s : State SA VA MA) (s' : State SB VB MB) →
       (schedule : List Entry) (turns : ℕ) (r' : Result SB VB MB) →
-      Shows R w s s' → Runs L given s' schedule turns r' → Answers s schedule turns r'
+      I.between s → J.between s' → Shows R w s s' → Runs L given s' schedule turns r' → Answers s schedule turns r'
 
 -- States of which one shows the other show the same variables, activation by activation, with
 -- values that stand for one another.
 abbrev pub ShownTheSame : {W SA VA MA SB VB MB : Type 0} → Standing W SA VA MA SB VB MB
-    → Language SA VA MA → Language SB VB MB → Type 0
-ShownTheSame {W} {SA} {VA} {MA} {SB} {VB} {MB} R K L =
-    (w : W) (s : State SA VA MA) (s' : State SB VB MB) → Shows R w s s' →
+    → Language SA VA MA → Language SB VB MB → Invariant SA VA MA → Invariant SB VB MB → Type 0
+ShownTheSame {W} {SA} {VA} {MA} {SB} {VB} {MB} R K L I J =
+    (w : W) (s : State SA VA MA) (s' : State SB VB MB) →
+    I.between s → J.between s' → Shows R w s s' →
     Each (Each (Each (SameShown R w))) (shown K s) (shown L s')

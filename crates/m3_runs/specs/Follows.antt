@@ -1,5 +1,5 @@
 -- What it means that one language follows another: what the second one does, the first one does.
-use Rattle.std.specs.Prelude.{◌≡◌, ℕ, Bool, List, [], ◌∷◌, length, map, Option, Some, None}
+use Rattle.std.specs.Prelude.{◌≡◌, ◌≤◌, ◌+◌, ℕ, Bool, List, [], ◌∷◌, length, map, Option, Some, None}
 use Rattle.m3_base.specs.declared.outcomes.FaultKind.{FaultKind}
 use Rattle.m3_runs.specs.Languages.{Form, New, Cell, Concatenated, ByteText, Subtext, ThreadCell, Service, Put, GetByte, EndOfInput, Join, Acquire, Release, Wait, Signal, Broadcast, MySelf, Alert, TestAlert, Action, Calls, Makes, Forks, Serves, Passes, Answer, Gives, Raises, Fails, Move, Acts, Leaves, Faults, Breaks, Entered, Begins, Overflows, Status, Ready, Wants, Waits, Joins, Thread, Life, Alive, Ended, Joined, Begun, Parts, Language}
 use Rattle.m3_runs.specs.States.{State, thread_at}
@@ -29,6 +29,24 @@ IsOne x y = x ≡ y
 pub data Needs {V : Type 0} : Action V → New V → Type 0 where
   needs_new : (new : New V) → Needs (Makes new) new
   needs_cell : (closure : V) (number : ℕ) → Needs (Forks closure) (ThreadCell number)
+
+-- ---- what holds wherever runs come
+
+-- Of a state between two turns; in the turn of a thread, before its action; and behind that, of the
+-- move to which its activations came, over the older ones. That a language keeps it is a law
+-- (Keeping).
+pub record Invariant (S V M : Type 0) : Type 1 where
+  pub between : State S V M → Type 0
+  pub acting : State S V M → (thread : ℕ) → Type 0
+  pub within : State S V M → (thread : ℕ) → List S → Move S V M → Type 0
+
+-- nothing is asked
+abbrev pub anything : {S V M : Type 0} → Invariant S V M
+anything = record {
+  between = λ s. Unit {0};
+  acting = λ s n. Unit {0};
+  within = λ s n stack move. Unit {0};
+}
 
 -- ---- what stands for what
 
@@ -164,6 +182,7 @@ module _ {W SA VA MA SB VB MB : Type 0} (R : Standing W SA VA MA SB VB MB) where
       (t : Thread SA VA) (t' : Thread SB VB) : Type 0 where
     pub state : SameParts w parts parts'
     pub there : thread_at parts.threads n ≡ Some t
+    pub there' : thread_at parts'.threads n ≡ Some t'
     pub same : SameThread w t t'
 
   -- what the first language does as the second one moves so
@@ -206,8 +225,10 @@ module _ {W SA VA MA SB VB MB : Type 0} (R : Standing W SA VA MA SB VB MB) where
 
   -- A LANGUAGE L FOLLOWS A LANGUAGE K, activation by activation and cell by cell: what L does, K
   -- does. Worlds grow as cells are made. A collection of L leaves the state of K as it is, in
-  -- another world.
-  pub record Follows (K : Language SA VA MA) (L : Language SB VB MB) (room : Room) : Type 0 where
+  -- another world. What is asked is asked of states that a run may come to: an invariant of each
+  -- language holds there.
+  pub record Follows (K : Language SA VA MA) (L : Language SB VB MB) (I : Invariant SA VA MA)
+      (J : Invariant SB VB MB) (room : Room) : Type 0 where
     -- moments
     pub same_moment : (w : W) → R.later w w
     pub later_still : (w w' w2 : W) → R.later w w' → R.later w' w2 → R.later w w2
@@ -218,32 +239,39 @@ module _ {W SA VA MA SB VB MB : Type 0} (R : Standing W SA VA MA SB VB MB) where
     -- activations
     pub as_deep : (w : W) (ss : List SA) (ss' : List SB) → R.stack w ss ss'
         → length ss ≡ length ss'
-    pub enters : (w : W) (parts : Parts SA VA MA) (parts' : Parts SB VB MB) (n : ℕ)
+    pub enters : (w : W) (u : State SA VA MA) (u' : State SB VB MB) (n : ℕ)
         (t : Thread SA VA) (t' : Thread SB VB)
         (p : ℕ) (v : VA) (v' : VB) (formals : List VA) (others : List VB)
         (entered : Entered SB VB MB)
-        → IsActing w parts parts' n t t' → t.action ≡ Calls p v formals → R.value w v v'
+        → I.acting u n → J.acting u' n
+        → IsActing w u.parts u'.parts n t t' → t.action ≡ Calls p v formals → R.value w v v'
         → Each (R.value w) formals others
-        → L.enters t'.stack p v' others parts'.memory entered
-        → EntersSo K w t.stack t'.stack p v formals parts.memory (room.no_frame parts n) entered
+        → L.enters t'.stack p v' others u'.parts.memory entered
+        → EntersSo K w t.stack t'.stack p v formals u.parts.memory (room.no_frame u.parts n) entered
     pub goes : (w : W) (s : SA) (s' : SB) (rest : List SA) (rest' : List SB) (a : Answer VA)
         (a' : Answer VB) (m : MA) (m' : MB) (move' : Move SB VB MB)
+        (u : State SA VA MA) (u' : State SB VB MB) (n : ℕ)
+        → I.within u n (s ∷ rest) (Leaves a m) → J.within u' n (s' ∷ rest') (Leaves a' m')
         → R.stack w (s ∷ rest) (s' ∷ rest') → SameAnswer w a a' → R.memory w m m'
         → L.goes s' a' m' move' → GoesSo K w s rest rest' a m move'
-    pub shows : (w : W) (ss : List SA) (ss' : List SB) (m : MA) (m' : MB)
-        → R.stack w ss ss' → R.memory w m m'
-        → Each (Each (SameShown w)) (map (K.shows m) ss) (map (L.shows m') ss')
+    pub shows : (w : W) (u : State SA VA MA) (u' : State SB VB MB) (n : ℕ)
+        (t : Thread SA VA) (t' : Thread SB VB)
+        → I.between u → J.between u' → IsActing w u.parts u'.parts n t t'
+        → Each (Each (SameShown w)) (map (K.shows u.parts.memory) t.stack)
+        (map (L.shows u'.parts.memory) t'.stack)
     -- cells
-    pub makes : (w : W) (parts : Parts SA VA MA) (parts' after' : Parts SB VB MB) (n : ℕ)
+    pub makes : (w : W) (u : State SA VA MA) (u' : State SB VB MB) (after' : Parts SB VB MB) (n : ℕ)
         (t : Thread SA VA) (t' : Thread SB VB) (new : New VA) (new' : New VB) (v' : VB)
-        → IsActing w parts parts' n t t' → Needs t.action new → SameNew w new new'
-        → L.makes parts' n new' (Some v') after'
-        → MakesSo K parts n new v' after'
-    pub full : (w : W) (parts : Parts SA VA MA) (parts' after' : Parts SB VB MB) (n : ℕ)
+        → I.acting u n → J.acting u' n
+        → IsActing w u.parts u'.parts n t t' → Needs t.action new → SameNew w new new'
+        → L.makes u'.parts n new' (Some v') after'
+        → MakesSo K u.parts n new v' after'
+    pub full : (w : W) (u : State SA VA MA) (u' : State SB VB MB) (after' : Parts SB VB MB) (n : ℕ)
         (t : Thread SA VA) (t' : Thread SB VB) (new : New VA) (new' : New VB)
-        → IsActing w parts parts' n t t' → Needs t.action new → SameNew w new new'
-        → L.makes parts' n new' None after'
-        → room.no_cell parts n
+        → I.acting u n → J.acting u' n
+        → IsActing w u.parts u'.parts n t t' → Needs t.action new → SameNew w new new'
+        → L.makes u'.parts n new' None after'
+        → room.no_cell u.parts n
     pub collects : (w : W) (parts : Parts SA VA MA) (parts' after' : Parts SB VB MB)
         → SameParts w parts parts' → L.collects parts' after'
         → (w' : W) × SameParts w' parts after'
@@ -252,18 +280,26 @@ module _ {W SA VA MA SB VB MB : Type 0} (R : Standing W SA VA MA SB VB MB) where
     pub number : (w : W) (n : ℕ) → R.value w (K.number n) (L.number n)
     pub is_same : (w : W) (m : MA) (m' : MB) (v u : VA) (v' u' : VB) → R.memory w m m'
         → R.value w v v' → R.value w u u' → K.is_same v u ≡ L.is_same v' u'
-    pub bytes : (form : Form)
-        → ReadsSo (λ w. IsOne) (λ m v. K.bytes m form v) (λ m v. L.bytes m form v)
+    pub bytes : (w : W) (u : State SA VA MA) (u' : State SB VB MB) (n : ℕ)
+        (t : Thread SA VA) (t' : Thread SB VB) (form : Form) (v : VA) (v' : VB)
+        → I.acting u n → J.acting u' n
+        → IsActing w u.parts u'.parts n t t' → t.action ≡ Serves (Put form v) → R.value w v v'
+        → AsDefined IsOne (K.bytes u.parts.memory form v) (L.bytes u'.parts.memory form v')
     -- mutexes
     pub holder : ReadsSo (λ w. IsOne) K.holder L.holder
-    pub hold : (holder : ℕ)
-        → ReadsSo R.memory (λ m v. K.hold m v holder) (λ m v. L.hold m v holder)
+    pub hold : (w : W) (u : State SA VA MA) (u' : State SB VB MB) (n holder : ℕ) (v : VA) (v' : VB)
+        → I.acting u n → J.acting u' n → R.memory w u.parts.memory u'.parts.memory
+        → R.value w v v' → holder ≤ n + 1
+        → AsDefined (R.memory w) (K.hold u.parts.memory v holder) (L.hold u'.parts.memory v' holder)
     -- threads
     pub number_of : ReadsSo (λ w. IsOne) K.number_of L.number_of
     pub life : ReadsSo SameLife K.life L.life
     pub join : ReadsSo R.memory K.join L.join
-    pub end_with : (w : W) (m : MA) (m' : MB) (v u : VA) (v' u' : VB) → R.memory w m m'
-        → R.value w v v' → R.value w u u'
-        → AsDefined (R.memory w) (K.end_with m v u) (L.end_with m' v' u')
+    pub end_with : (w : W) (u : State SA VA MA) (u' : State SB VB MB) (n : ℕ) (m : MA)
+        (m' : MB) (v x : VA) (v' x' : VB)
+        → I.within u n [] (Leaves (Gives (Some x)) m)
+        → J.within u' n [] (Leaves (Gives (Some x')) m')
+        → R.memory w m m' → R.value w v v' → R.value w x x'
+        → AsDefined (R.memory w) (K.end_with m v x) (L.end_with m' v' x')
     pub begins : ReadsSo SameBegun K.begins L.begins
     pub alerted : K.alerted ≡ L.alerted

@@ -6,3 +6,5 @@ pub mod Runs
 pub mod Follows
 pub mod Answers
 pub mod Laws
+pub mod Keeping
+pub mod Served

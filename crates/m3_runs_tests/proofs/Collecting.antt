@@ -5,11 +5,12 @@ use Rattle.std.proofs.lemmas.Bool.{cases_lt}
 use Rattle.std.proofs.lemmas.Bool.Decides.{nat_tests}
 use Rattle.m3_runs.specs.Languages.{New, Thread, Answer, Move, Entered}
 use Rattle.m3_runs.specs.Follows as rel
-use Rattle.m3_runs.specs.Follows.{Each, none, more, Both, AsDefined, undefined, Standing, SameNew, SameAnswer, SameMove, SameThread, SameParts, SameShown, IsActing, GoesSo, EntersSo, MakesSo, Follows}
+use Rattle.m3_runs.specs.Follows.{Each, none, more, Both, AsDefined, undefined, Standing, SameNew, SameAnswer, SameMove, SameThread, SameParts, SameShown, IsActing, GoesSo, EntersSo, MakesSo, anything, Follows}
 use Rattle.m3_runs.proofs.Rows.{each_mapped, each_length, map_each}
 use Rattle.m3_runs.proofs.Composing.{each_through, threads_through}
 use Rattle.m3_runs.proofs.Settling.{threads_stay}
 use Rattle.m3_runs.proofs.Lifting.{runs_so}
+use Rattle.m3_runs.proofs.Keeping.{keeps_anything}
 use Rattle.m3_runs_tests.specs.Code.{Kind, Numeric, Pointer, Derived, Code}
 use Rattle.m3_runs_tests.specs.Meaning.{Tagged, Tidy, Waiting, Activation, words_of}
 use Rattle.m3_runs_tests.specs.Named as named
@@ -295,33 +296,33 @@ module _ (c : Code) (k : Machine) (check : Sound c k.places k.limit) where
   shows_there ss ss' w m m' st = map_each (ActivationAs c k.places k.limit w) (Each (SameShown Here w)) ((named c k.limit).shows m) ((moving c k).shows m') ss ss' (λ s s' h. shows_so c k.places k.limit w s s' h) st
 
   -- THE LANGUAGE OF MOVING CELLS FOLLOWS that of named ones
-  pub follows : Follows Here (named c k.limit) (moving c k) (room c k.places k.limit k.depth)
+  pub follows : Follows Here (named c k.limit) (moving c k) anything anything (room c k.places k.limit k.depth)
   follows = record {
     same_moment = λ w e a we. we;
     later_still = λ w w' w2 h l e a we. l e a (h e a we);
     value_stays = λ w w' v v' h. value_stays c k.places k.limit w w' h v v';
     stack_stays = λ w w' ss ss' h st. each_mapped (ActivationAs c k.places k.limit w) (ActivationAs c k.places k.limit w') ss ss' (activation_stays c k.places k.limit w w' h) st;
     as_deep = λ w ss ss' st. each_length (ActivationAs c k.places k.limit w) ss ss' st;
-    enters = λ w parts parts' n t t' q v v' vs vs' entered acting is h hs e. enters_there w parts parts' n t t' q v vs vs' entered acting hs e;
-    goes = goes_there;
-    shows = λ w ss ss' m m' st mem. shows_there ss ss' w m m' st;
-    makes = λ w parts parts' after' n t t' new new' v' acting needs same e. makes_so w parts parts' after' n new new' v' (Some v') refl acting.state (words_same c k.places k.limit w new new' same) e;
-    full = λ w parts parts' after' n t t' new new' acting needs same e. tt;
+    enters = λ w u u' n t t' q v v' vs vs' entered good good' acting is h hs e. enters_there w u.parts u'.parts n t t' q v vs vs' entered acting hs e;
+    goes = λ w s s' rest rest' a a' m m' move' u u' n known known' st. goes_there w s s' rest rest' a a' m m' move' st;
+    shows = λ w u u' n t t' good good' acting. shows_there t.stack t'.stack w u.parts.memory u'.parts.memory acting.same.stack;
+    makes = λ w u u' after' n t t' new new' v' good good' acting needs same e. makes_so w u.parts u'.parts after' n new new' v' (Some v') refl acting.state (words_same c k.places k.limit w new new' same) e;
+    full = λ w u u' after' n t t' new new' good good' acting needs same e. tt;
     collects = λ w parts parts' after' same e. collects_so c k.places k.limit w parts parts' after' same e;
     ignores = λ parts. refl;
     number = λ w n. sound.plain n;
     is_same = λ w m m' v u v' u' mem h q. is_same_so c k.places k.limit w m m' mem v u v' u' h q;
-    bytes = λ form w m m' v v' mem h. bytes_so c k.places k.limit w m m' mem form v v' h;
+    bytes = λ w u u' n t t' form v v' good good' acting is h. bytes_so c k.places k.limit w u.parts.memory u'.parts.memory acting.state.memory form v v' h;
     holder = λ w m m' v v' mem h. holder_so c k.places k.limit w m m' mem v v' h;
-    hold = λ n w m m' v v' mem h. hold_so c k.places k.limit w m m' mem v v' n h;
+    hold = λ w u u' n holder v v' good good' mem h few. hold_so c k.places k.limit w u.parts.memory u'.parts.memory mem v v' holder h;
     number_of = λ w m m' v v' mem h. undefined None;
     life = λ w m m' v v' mem h. life_so c k.places k.limit w m m' mem v v' h;
     join = λ w m m' v v' mem h. join_so c k.places k.limit w m m' mem check.heap v v' h;
-    end_with = λ w m m' v u v' u' mem h q. end_so c k.places k.limit w m m' mem check.heap v u v' u' h q;
+    end_with = λ w s s' n m m' v u v' u' known known' mem h q. end_so c k.places k.limit w m m' mem check.heap v u v' u' h q;
     begins = λ w m m' v v' mem h. begins_so c k.places k.limit w m m' mem v v' h;
     alerted = refl;
   }
 
 pub unseen : MovesUnseen
 unseen c k given check w s s' schedule turns r' sh h =
-    runs_so (standing c k.places k.limit) (named c k.limit) (moving c k) (room c k.places k.limit k.depth) (follows c k check) given w s s' schedule turns r' sh h
+    runs_so (standing c k.places k.limit) (named c k.limit) (moving c k) anything anything (room c k.places k.limit k.depth) (follows c k check) given (keeps_anything (named c k.limit) given) (keeps_anything (moving c k) given) w s s' schedule turns r' tt tt sh h

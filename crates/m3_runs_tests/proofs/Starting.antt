@@ -2,7 +2,7 @@
 use Rattle.std.proofs.Common.{◌≡◌, ℕ, [], ◌∷◌, Some, None, refl}
 use Rattle.m3_runs.specs.States.{start, beginning}
 use Rattle.m3_runs.specs.Follows as rel
-use Rattle.m3_runs.specs.Follows.{Each, none, more, Both, both, Shows}
+use Rattle.m3_runs.specs.Follows.{Each, none, more, Both, both, anything, Shows}
 use Rattle.m3_runs.proofs.Showing.{shown_so}
 use Rattle.m3_runs_tests.specs.Code.{Code}
 use Rattle.m3_runs_tests.specs.Meaning.{Plain, Lowest}
@@ -48,4 +48,4 @@ pub program_unseen : ProgramsMoveUnseen
 program_unseen c k given check schedule turns r' h = unseen c k given check (Nowhere c k check) (start (named c k.limit)) (start (moving c k)) schedule turns r' (starts_so c k check) h
 
 pub shows_same : ShowsTheSame
-shows_same c k check = shown_so (standing c k.places k.limit) (named c k.limit) (moving c k) (room c k.places k.limit k.depth) (follows c k check)
+shows_same c k check = shown_so (standing c k.places k.limit) (named c k.limit) (moving c k) anything anything (room c k.places k.limit k.depth) (follows c k check)

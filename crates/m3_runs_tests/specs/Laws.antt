@@ -3,7 +3,7 @@ use Rattle.std.specs.Prelude.{ℕ, List}
 use Rattle.m3_base.specs.declared.outcomes.Entry.{Entry}
 use Rattle.m3_runs.specs.States.{Given, start}
 use Rattle.m3_runs.specs.Runs.{Result, Runs}
-use Rattle.m3_runs.specs.Follows.{Shows}
+use Rattle.m3_runs.specs.Follows.{anything, Shows}
 use Rattle.m3_runs.specs.Answers.{Answers, ShownTheSame}
 use Rattle.m3_runs.specs.Laws as law
 use Rattle.m3_runs_tests.specs.Code.{Code}
@@ -40,7 +40,7 @@ ProgramsMoveUnseen =
 -- States that show one another show the same variables.
 abbrev pub ShowsTheSame : Type 0
 ShowsTheSame = (c : Code) (k : Machine) → Sound c k.places k.limit
-    → ShownTheSame (standing c k.places k.limit) (named c k.limit) (moving c k)
+    → ShownTheSame (standing c k.places k.limit) (named c k.limit) (moving c k) anything anything
 
 abbrev pub Chooses : Type 0
 Chooses = (c : Code) (k : Machine) → law.Chooses (named c k.limit) × law.Chooses (moving c k)

@@ -1,7 +1,7 @@
 -- THE LANGUAGE OF CHECKED PROGRAMS, and with it the run of one: how activations begin and go on,
 -- how cells are made, and what everybody reads of the store. The rest of a run is that of all
 -- languages.
-use Rattle.std.specs.Prelude.{◌≡◌, ℕ, Bool, true, false, List, [], ◌∷◌, ◌++◌, length, map, take, drop, Option, Some, None}
+use Rattle.std.specs.Prelude.{◌≡◌, ◌==◌, ℕ, Bool, true, false, List, [], ◌∷◌, ◌++◌, length, map, take, drop, Option, Some, None}
 use Rattle.std.specs.Option.{option_map, option_and_then}
 use Rattle.std.specs.Fmt.{signed_decimal}
 use Rattle.m3_base.specs.declared.outcomes.Entry.{Entry}
@@ -12,7 +12,7 @@ use Rattle.m3_runs.specs.Languages as run
 use Rattle.m3_runs.specs.Languages.{Action, Calls, Passes, New, Answer, Gives, Raises, Fails, Move, Acts, Leaves, Faults, Breaks, Entered, Begins, Form, Life, Alive, Ended, Joined, Begun, Parts, Language}
 use Rattle.m3_runs.specs.States.{Given, State, start}
 use Rattle.m3_runs.specs.Runs.{Result, Runs}
-use Rattle.m3_values.specs.Values.{Value, Ordinal, Nil, Pointer, MainThread, Procedure, same, number}
+use Rattle.m3_values.specs.Values.{Value, Ordinal, Nil, Pointer, MainThread, Procedure, number}
 use Rattle.m3_values.specs.Integers.{count_of}
 use Rattle.m3_values.specs.Programs.{Program, program_of, procedure_at}
 use Rattle.m3_values.specs.Constants.{zero_of}
@@ -134,8 +134,9 @@ module _ (p : Program) where
 
   -- ---- what everybody reads
 
+  -- references to cells that are the same, as conditions are compared
   abbrev pub is_same : Thing → Thing → Bool
-  is_same (Is v) (Is u) = same v u
+  is_same (Is (Pointer c)) (Is (Pointer d)) = c == d
   is_same _ _ = false
 
   abbrev pub digits : Value → Option (List ℕ)
