@@ -2,6 +2,7 @@ use bumpalo::Bump;
 use m3_alloc::allocate;
 use m3_base::{NoMemory, place_number};
 use m3_core::Core;
+use m3_cse::share;
 use m3_derive::derive;
 use m3_emit::{Links, Part, Places, SpanPart, emit};
 use m3_gen_parts::Constants;
@@ -140,7 +141,8 @@ fn compile<'s>(
     number: u32,
 ) -> Result<Compiled, NoMemory> {
     let arena = Bump::new(alloc);
-    let proc = lower_proc(alloc, &arena, core, storage, number)?;
+    let lowered = lower_proc(alloc, &arena, core, storage, number)?;
+    let proc = share(alloc, &arena, &lowered)?;
     let derived = derive(alloc, &arena, &proc)?;
     let placed = allocate(alloc, &derived)?;
     let links = Links {
