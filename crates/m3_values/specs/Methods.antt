@@ -52,10 +52,15 @@ module _ (p : Program) where
   abbrev pub overriding : List Bound → Override → List Bound
   overriding bs o = rebound o.name.now (procedure_in (node_at p.nodes o.value.0)) bs
 
+  -- of two overrides of one method in one type the first counts
+  abbrev pub overridden : List Bound → List Override → List Bound
+  overridden bs [] = bs
+  overridden bs (o ∷ os) = overriding (overridden bs os) o
+
   -- with a type that stands below: what it binds anew, and what it adds
   abbrev pub with_type : List Bound → ℕ → List Bound
   with_type bs t =
-      fold overriding bs (overrides_in (node_of p t)) ++ map declared (methods_in (node_of p t))
+      overridden bs (overrides_in (node_of p t)) ++ map declared (methods_in (node_of p t))
 
   -- the methods of a type, those of its ancestors first
   abbrev pub methods_of : ℕ → List Bound
