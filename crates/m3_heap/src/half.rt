@@ -1,4 +1,4 @@
-ghost use Rattle.std.specs.Prelude.{◌≡◌, ◌+◌, ◌-◌, ◌^◌, ◌<◌, ◌≤◌, true, List, [], ◌∷◌, ◌++◌, length, take, drop, replicate, IfOk, IfSome, is_some, if◌then◌else◌};
+ghost use Rattle.std.specs.Prelude.{◌≡◌, ℕ, ◌+◌, ◌-◌, ◌^◌, ◌<◌, ◌≤◌, true, List, [], ◌∷◌, ◌++◌, length, take, drop, replicate, IfOk, IfSome, is_some, if◌then◌else◌, vec_items, vec_len, vec_capacity};
 ghost use Rattle.m3_heap.specs.Cells.{header, is_start, is_writable, cell_word_at, words_from, with_word, total_words};
 ghost use Rattle.m3_heap.specs.CollectorSpace.{AreLaid};
 
@@ -7,11 +7,16 @@ use m3_base::NoMemory;
 use std::alloc::Global;
 use std::marker::Model;
 
+/// How many words more than are needed are cleared at once.
+const AHEAD: usize = 4096;
+
 /// One half of a heap's memory. Its cells follow one another from its first address on, and one mark
-/// for each word tells where a cell starts.
+/// for each word tells where a cell starts. All of its memory is taken when it is made, but a word is
+/// cleared only when cells come near it.
 #[derive(Drop)]
 pub struct Half {
     base: u64,
+    size: usize,
     used: usize,
     words: Vec<u64>,
     starts: Marks,
@@ -29,6 +34,21 @@ impl Model for Half {
     ghost invariant = { IsHalf };
 }
 
+// Clears words up to an end, and some behind it, of so many that there may be. It takes no memory.
+#[cold]
+#[inline(never)]
+fn clear_to(words: &mut Vec<u64>, end: usize, size: usize)
+    requires more { vec_len words.old < end }
+    requires end { end ≤ size }
+    requires room { size ≤ vec_capacity words.old }
+    ensures words { (count : ℕ) × (vec_items words.new ≡ vec_items words.old ++ replicate count 0) }
+    ensures end { end ≤ vec_len words.new }
+    ensures within { vec_len words.new ≤ size }
+    ensures room { size ≤ vec_capacity words.new }
+{
+    words.resize(end + AHEAD.min(size - end), 0).unwrap();
+}
+
 // A header and zeros.
 fn write_cell(words: &mut [u64], at: usize, end: usize, header: u64)
     requires some { at < end }
@@ -37,9 +57,7 @@ fn write_cell(words: &mut [u64], at: usize, end: usize, header: u64)
     ensures words { take end words.new ≡ take at words.old ++ header ∷ replicate (end - (at + 1)) 0 }
 {
     words[at] = header;
-    for i in at + 1..end {
-        words[i] = 0;
-    }
+    words[at + 1..end].fill(0);
 }
 
 // So many words of a source, from a place on.
@@ -59,11 +77,11 @@ impl Half {
         ensures { IfOk result (λ half. half ≡ record { base = base; size = words; cells = [] }) }
     {
         let starts = Marks::new(alloc, words)?;
-        let words = vec![in alloc; 0u64; words]?;
         Ok(Half {
             base,
+            size: words,
             used: 0,
-            words,
+            words: Vec::with_capacity(alloc, words)?,
             starts,
         })
     }
@@ -79,7 +97,7 @@ impl Half {
     pub fn size(&self) -> u64
         ensures { result ≡ self.now.size }
     {
-        self.words.len() as u64
+        self.size as u64
     }
 
     /// The words of all cells.
@@ -96,7 +114,7 @@ impl Half {
     pub fn free(&self) -> u64
         ensures { result + total_words self.now.cells ≡ self.now.size }
     {
-        (self.words.len() - self.used) as u64
+        (self.size - self.used) as u64
     }
 
     /// The word at an address. None comes exactly outside a cell.
@@ -177,8 +195,11 @@ impl Half {
     {
         let at = self.used;
         let end = at + count as usize;
-        write_cell(&mut self.words, at, end, header);
         self.starts.set(at);
+        if self.words.len() < end {
+            clear_to(&mut self.words, end, self.size);
+        }
+        write_cell(&mut self.words, at, end, header);
         self.used = end;
         self.base + at as u64
     }
@@ -196,8 +217,11 @@ impl Half {
         let at = self.used;
         let end = at + count as usize;
         let first = (from - source.base) as usize;
-        copy_words(&mut self.words, at, &source.words, first, count as usize);
         self.starts.set(at);
+        if self.words.len() < end {
+            clear_to(&mut self.words, end, self.size);
+        }
+        copy_words(&mut self.words, at, &source.words, first, count as usize);
         self.used = end;
         self.base + at as u64
     }
