@@ -1,11 +1,17 @@
 ghost use Rattle.std.specs.Prelude.{◌≡◌, ℕ, ◌+◌, ◌-◌, ◌^◌, ◌<◌, ◌≤◌, true, List, [], ◌∷◌, ◌++◌, length, take, drop, replicate, IfOk, IfSome, is_some, if◌then◌else◌, vec_items, vec_len, vec_capacity};
 ghost use Rattle.m3_heap.specs.Cells.{header, is_start, is_writable, cell_word_at, words_from, with_word, total_words};
 ghost use Rattle.m3_heap.specs.CollectorSpace.{AreLaid};
+ghost use Rattle.m3_heap.specs.CollectorMoving.{CanMove, MovesCell};
 
 use crate::marks::Marks;
+use crate::steps::Steps;
 use m3_base::NoMemory;
 use std::alloc::Global;
 use std::marker::Model;
+use std::sync::ledger::Ledger;
+
+/// The first address of heaps: a word from here on is a reference or nothing.
+pub const HEAP_BASE: u64 = 1 << 60;
 
 /// How many words more than are needed are cleared at once.
 const AHEAD: usize = 4096;
@@ -224,6 +230,31 @@ impl Half {
         copy_words(&mut self.words, at, &source.words, first, count as usize);
         self.used = end;
         self.base + at as u64
+    }
+
+    /// Moves the cell that starts at an address behind the last one of another half, unless it was moved
+    /// before, and tells its new start: its header gives way to that, which no header reaches (Cheney 1970).
+    /// None comes exactly where no cell starts there. It takes a step for each word that is copied.
+    pub fn move_cell<L: Ledger>(
+        &mut self,
+        to: &mut Half,
+        at: u64,
+        steps: &mut Steps<L>,
+    ) -> Option<u64>
+        requires { CanMove self.old to.old at }
+        ensures { MovesCell self.old to.old at steps.old result self.new to.new steps.new }
+    {
+        let Some(header) = self.header(at) else {
+            return None;
+        };
+        if header >= HEAP_BASE {
+            return Some(header);
+        }
+        let words = header >> 32;
+        let start = to.append_copy(self, at, words);
+        self.put(at, start);
+        steps.add(words);
+        Some(start)
     }
 
     /// Leaves no cell.

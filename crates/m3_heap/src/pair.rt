@@ -7,13 +7,10 @@ ghost use Rattle.m3_heap.specs.CollectorScanning.{Scans, Grows, met, ArePlain};
 ghost use Rattle.m3_heap.specs.CollectorTracing.{IsTracing, old_cells, copies, moves, Keeps};
 
 use crate::copying::{Copying, scan};
-use crate::half::Half;
+use crate::half::{HEAP_BASE, Half};
 use crate::maps::Maps;
 use crate::steps::Steps;
 use std::sync::ledger::Ledger;
-
-/// The first address of heaps: a word from here on is a reference or nothing.
-pub const HEAP_BASE: u64 = 1 << 60;
 
 /// Two halves: the cells of one are copied to the other.
 #[derive(Drop)]
@@ -35,17 +32,7 @@ impl Copying for Pair {
         if word < HEAP_BASE {
             return Some(word);
         }
-        let Some(header) = self.here.header(word) else {
-            return None;
-        };
-        if header >= HEAP_BASE {
-            return Some(header);
-        }
-        let words = header >> 32;
-        let start = self.there.append_copy(&self.here, word, words);
-        self.here.put(word, start);
-        steps.add(words);
-        Some(start)
+        self.here.move_cell(&mut self.there, word, steps)
     }
 
     fn word(&self, at: u64) -> Option<u64> {
