@@ -1,5 +1,5 @@
 -- A cell that moves from one space to another, and what a word that is forwarded makes of both.
-use Rattle.std.specs.Prelude.{◌≡◌, ℕ, ◌+◌, ◌/◌, ◌<◌, ◌≤◌, ◌↔◌, ◌^◌, true, false, List, [], ◌∷◌, ◌++◌, length, Option, None, Some, IsNone, IfSome}
+use Rattle.std.specs.Prelude.{◌≡◌, ℕ, ◌+◌, ◌/◌, ◌<◌, ◌≤◌, ◌↔◌, ◌^◌, true, false, [], ◌∷◌, ◌++◌, length, Option, None, Some, IsNone, IfSome}
 use Rattle.std.specs.Option.{IfNone}
 use Rattle.m3_heap.specs.Cells.{heap_base, header, is_start, words_from, with_word, total_words}
 use Rattle.m3_heap.specs.Moves.{forwarded}

@@ -1,5 +1,8 @@
-ghost use Rattle.std.specs.Prelude.{◌≡◌, ℕ, ◌+◌, ◌-◌, ◌^◌, ◌<◌, ◌≤◌, true, List, [], ◌∷◌, ◌++◌, length, take, drop, replicate, IfOk, IfSome, is_some, if◌then◌else◌, vec_items, vec_len, vec_capacity};
-ghost use Rattle.m3_heap.specs.Cells.{header, is_start, is_writable, cell_word_at, words_from, with_word, total_words};
+ghost use Rattle.std.specs.Prelude.{◌≡◌, ℕ, ◌+◌, ◌-◌, ◌^◌, ◌<◌, ◌≤◌, true, List, [], ◌∷◌, ◌++◌};
+ghost use Rattle.std.specs.Prelude.{length, take, drop, replicate, IfOk, IfSome, is_some};
+ghost use Rattle.std.specs.Prelude.{if◌then◌else◌, vec_items, vec_len, vec_capacity};
+ghost use Rattle.m3_heap.specs.Cells.{header, is_start, is_writable, cell_word_at, words_from};
+ghost use Rattle.m3_heap.specs.Cells.{with_word, total_words};
 ghost use Rattle.m3_heap.specs.CollectorSpace.{AreLaid};
 ghost use Rattle.m3_heap.specs.CollectorMoving.{CanMove, MovesCell};
 
@@ -16,9 +19,9 @@ pub const HEAP_BASE: u64 = 1 << 60;
 /// How many words more than are needed are cleared at once.
 const AHEAD: usize = 4096;
 
-/// One half of a heap's memory. Its cells follow one another from its first address on, and one mark
-/// for each word tells where a cell starts. All of its memory is taken when it is made, but a word is
-/// cleared only when cells come near it.
+/// One half of a heap's memory. Its cells follow one another from its first address on, and one
+/// mark for each word tells where a cell starts. All of its memory is taken when it is made, but a
+/// word is cleared only when cells come near it.
 #[derive(Drop)]
 pub struct Half {
     base: u64,
@@ -60,7 +63,8 @@ fn write_cell(words: &mut [u64], at: usize, end: usize, header: u64)
     requires some { at < end }
     requires room { end ≤ length words.old }
     ensures length { length words.new ≡ length words.old }
-    ensures words { take end words.new ≡ take at words.old ++ header ∷ replicate (end - (at + 1)) 0 }
+    ensures words { take end words.new
+        ≡ take at words.old ++ header ∷ replicate (end - (at + 1)) 0 }
 {
     words[at] = header;
     words[at + 1..end].fill(0);
@@ -71,7 +75,8 @@ fn copy_words(words: &mut [u64], at: usize, source: &[u64], first: usize, count:
     requires room { at + count ≤ length words.old }
     requires there { first + count ≤ length source.now }
     ensures length { length words.new ≡ length words.old }
-    ensures words { take (at + count) words.new ≡ take at words.old ++ take count (drop first source.now) }
+    ensures words { take (at + count) words.new
+        ≡ take at words.old ++ take count (drop first source.now) }
 {
     words[at..at + count].copy_from_slice(&source[first..first + count]);
 }
@@ -82,13 +87,12 @@ impl Half {
         requires { base + words ≤ 2 ^ 63 }
         ensures { IfOk result (λ half. half ≡ record { base = base; size = words; cells = [] }) }
     {
-        let starts = Marks::new(alloc, words)?;
         Ok(Half {
             base,
             size: words,
             used: 0,
             words: Vec::with_capacity(alloc, words)?,
-            starts,
+            starts: Marks::new(alloc, words)?,
         })
     }
 
@@ -161,13 +165,15 @@ impl Half {
         self.base + self.starts.last(place) as u64
     }
 
-    /// Sets the word at an address, and says whether it did: it doesn't outside a cell and at a header.
+    /// Sets the word at an address, and says whether it did: it doesn't outside a cell and at a
+    /// header.
     #[inline]
     pub fn replace(&mut self, at: u64, word: u64) -> bool
         ensures base { self.new.base ≡ self.old.base }
         ensures size { self.new.size ≡ self.old.size }
         ensures answer { result ≡ is_writable self.old.cells at }
-        ensures cells { self.new.cells ≡ (if result then with_word self.old.cells at word else self.old.cells) }
+        ensures cells { self.new.cells
+            ≡ (if result then with_word self.old.cells at word else self.old.cells) }
     {
         let place = at.wrapping_sub(self.base);
         if place >= self.used as u64 || self.starts.get(place as usize) {
@@ -197,7 +203,9 @@ impl Half {
         ensures start { result ≡ self.old.base + total_words self.old.cells }
         ensures base { self.new.base ≡ self.old.base }
         ensures size { self.new.size ≡ self.old.size }
-        ensures cells { self.new.cells ≡ self.old.cells ++ record { start = result; words = header ∷ replicate (count - 1) 0 } ∷ [] }
+        ensures cells { self.new.cells
+            ≡ self.old.cells ++ record { start = result; words = header ∷ replicate (count - 1) 0 }
+            ∷ [] }
     {
         let at = self.used;
         let end = at + count as usize;
@@ -218,7 +226,9 @@ impl Half {
         ensures start { result ≡ self.old.base + total_words self.old.cells }
         ensures base { self.new.base ≡ self.old.base }
         ensures size { self.new.size ≡ self.old.size }
-        ensures cells { self.new.cells ≡ self.old.cells ++ record { start = result; words = words_from source.now.cells from } ∷ [] }
+        ensures cells { self.new.cells
+            ≡ self.old.cells ++ record { start = result; words = words_from source.now.cells from }
+            ∷ [] }
     {
         let at = self.used;
         let end = at + count as usize;
@@ -232,9 +242,10 @@ impl Half {
         self.base + at as u64
     }
 
-    /// Moves the cell that starts at an address behind the last one of another half, unless it was moved
-    /// before, and tells its new start: its header gives way to that, which no header reaches (Cheney 1970).
-    /// None comes exactly where no cell starts there. It takes a step for each word that is copied.
+    /// Moves the cell that starts at an address behind the last one of another half, unless it was
+    /// moved before, and tells its new start: its header gives way to that, which no header
+    /// reaches (Cheney 1970). None comes exactly where no cell starts there. It takes a step for
+    /// each word that is copied.
     pub fn move_cell<L: Ledger>(
         &mut self,
         to: &mut Half,
@@ -244,9 +255,7 @@ impl Half {
         requires { CanMove self.old to.old at }
         ensures { MovesCell self.old to.old at steps.old result self.new to.new steps.new }
     {
-        let Some(header) = self.header(at) else {
-            return None;
-        };
+        let header = self.header(at)?;
         if header >= HEAP_BASE {
             return Some(header);
         }

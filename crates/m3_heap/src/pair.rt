@@ -48,16 +48,26 @@ impl Copying for Pair {
     }
 }
 
-/// Copies all that the copies lead to, and forwards their pointers. False says that a reached cell has a
-/// pointer that can't be one.
+/// Copies all that the copies lead to, and forwards their pointers. False says that a reached cell
+/// has a pointer that can't be one.
 pub fn trace<M: Maps, L: Ledger>(pair: &mut Pair, maps: &M, steps: &mut Steps<L>) -> bool
     requires tracing { IsTracing pair.old.here pair.old.there }
-    requires plain { ArePlain (old_cells pair.old.here pair.old.there) (copies pair.old.here pair.old.there) }
+    requires plain { ArePlain (old_cells pair.old.here pair.old.there)
+        (copies pair.old.here pair.old.there) }
     ensures tracing { IsTracing pair.new.here pair.new.there }
     ensures grows { Grows pair.old.here pair.old.there pair.new.here pair.new.there }
-    ensures bad { result ≡ false → HasBadPointer (M.shapes maps.now) (old_cells pair.old.here pair.old.there) (kept_starts (moves pair.old.here pair.old.there)) }
-    ensures traced { OnTrue result (Scans (M.shapes maps.now) (kept_starts (moves pair.old.here pair.old.there)) pair.new.here pair.new.there (pair.new.there.base + total_words pair.new.there.cells)) }
-    ensures cost { OnTrue result (steps.new + total_words pair.old.there.cells ≡ steps.old + met (M.shapes maps.now) pair.new.here pair.new.there (pair.new.there.base + total_words pair.new.there.cells) + total_words pair.new.there.cells) }
+    ensures bad { result ≡ false
+        → HasBadPointer (M.shapes maps.now) (old_cells pair.old.here pair.old.there)
+        (kept_starts (moves pair.old.here pair.old.there)) }
+    ensures traced { OnTrue result
+        (Scans (M.shapes maps.now) (kept_starts (moves pair.old.here pair.old.there)) pair.new.here
+        pair.new.there (pair.new.there.base + total_words pair.new.there.cells)) }
+    ensures cost { OnTrue result
+        (steps.new + total_words pair.old.there.cells
+        ≡ steps.old
+        + met (M.shapes maps.now) pair.new.here pair.new.there
+        (pair.new.there.base + total_words pair.new.there.cells)
+        + total_words pair.new.there.cells) }
 {
     let base = pair.there.base();
     scan(pair, base, maps, steps)

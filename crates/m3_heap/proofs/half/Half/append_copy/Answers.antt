@@ -15,9 +15,9 @@ overflow_sub-first c = (source-fits c.source.inside c.source.invariant c.args.so
 
 pub copy_words-requires-clause-room : goal.copy_words-requires-clause-room
 copy_words-requires-clause-room c = elim c.if-len-end.branch [
-      | then-len-end w ↦ omega (arith, c.deref_mut.ensures.len, w.clear_to.ensures.end, ap (λ (now : Inside). vec_len now.words) w.self-inside-is)
-      | else-len-end w ↦ omega (arith, c.deref_mut.ensures.len, w.if-len-end.false, c.len.ensures, ap (λ (now : Inside). vec_len now.words) w.self-inside-is)
-    ]
+  | then-len-end w ↦ omega (arith, c.deref_mut.ensures.len, w.clear_to.ensures.end, ap (λ (now : Inside). vec_len now.words) w.self-inside-is)
+  | else-len-end w ↦ omega (arith, c.deref_mut.ensures.len, w.if-len-end.false, c.len.ensures, ap (λ (now : Inside). vec_len now.words) w.self-inside-is)
+]
 
 pub copy_words-requires-clause-there : goal.copy_words-requires-clause-there
 copy_words-requires-clause-there c =
@@ -36,23 +36,23 @@ cleared c =
     let P : Inside → Type 0 = λ now. IsCleared half now (half.used + c.args.count) in
     elim c.if-len-end.branch [
       | then-len-end w ↦ subst P (sym w.self-inside-is) (record {
-            base = refl;
-            size = refl;
-            starts = c.set.ensures;
-            kept = cleared-more half c.self.invariant half.words.items _ refl w.clear_to.ensures.words.0 w.clear_to.ensures.words.1;
-            reach = w.clear_to.ensures.end;
-            within = w.clear_to.ensures.within;
-            room = w.clear_to.ensures.room;
-          })
+        base = refl;
+        size = refl;
+        starts = c.set.ensures;
+        kept = cleared-more half c.self.invariant half.words.items _ refl w.clear_to.ensures.words.0 w.clear_to.ensures.words.1;
+        reach = w.clear_to.ensures.end;
+        within = w.clear_to.ensures.within;
+        room = w.clear_to.ensures.room;
+      })
       | else-len-end w ↦ subst P (sym w.self-inside-is) (record {
-            base = refl;
-            size = refl;
-            starts = c.set.ensures;
-            kept = refl;
-            reach = omega (arith, w.if-len-end.false, c.len.ensures);
-            within = omega (arith, c.self.invariant.within, half.words.ok.0);
-            room = c.self.invariant.room;
-          })
+        base = refl;
+        size = refl;
+        starts = c.set.ensures;
+        kept = refl;
+        reach = omega (arith, w.if-len-end.false, c.len.ensures);
+        within = omega (arith, c.self.invariant.within, half.words.ok.0);
+        room = c.self.invariant.room;
+      })
     ]
 
 kept : (c : goal.After-self-2-1) → (with_items c.if-len-end.self-inside.words c.copy_words.new.words).items ≡ c.copy_words.new.words
