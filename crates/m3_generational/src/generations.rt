@@ -256,6 +256,7 @@ impl Generations {
         let is_traced = trace_full(&mut self.spaces, maps, steps);
         self.is_open = false;
         self.asked = 0;
+        self.remembered.clear(self.spaces.here.size() as usize);
         if !is_traced {
             self.spaces.here.clear();
             self.spaces.nursery.clear();
@@ -264,8 +265,6 @@ impl Generations {
         self.left = Snapshot::of(&self.spaces);
         mem::swap(&mut self.spaces.here, &mut self.spaces.there);
         self.spaces.nursery.clear();
-        let size = self.spaces.here.size() as usize;
-        self.remembered.clear(size);
         self.fulls = one_more(self.fulls);
         true
     }
@@ -286,6 +285,7 @@ impl Generations {
         let is_traced = trace_minor(&mut self.spaces, &self.remembered, maps, steps);
         self.is_open = false;
         self.asked = 0;
+        self.remembered.clear(self.spaces.here.size() as usize);
         if !is_traced {
             self.spaces.here.clear();
             self.spaces.nursery.clear();
@@ -293,7 +293,6 @@ impl Generations {
         }
         self.left = Snapshot::of(&self.spaces);
         self.spaces.nursery.clear();
-        self.remembered.clear(self.spaces.here.size() as usize);
         self.minors = one_more(self.minors);
         true
     }
