@@ -6,9 +6,8 @@ use Rattle.m3_heap.specs.Cells.{Cell, heap_base, header, cell_from, is_start, wo
 use Rattle.m3_heap.specs.CellWords.{layout_stays}
 use Rattle.m3_heap.specs.Heap.{nursery_base}
 use Rattle.m3_heap.specs.CollectorSpace.{Space, AreLaid}
-use Rattle.m3_heap.specs.CollectorTracing.{old_cells, copies, moves, IsTracing, marked_words}
+use Rattle.m3_heap.specs.CollectorTracing.{IsTracing, marked_words}
 use Rattle.m3_heap.proofs.SpaceLemmas.{is_start-outside}
-use Rattle.m3_heap.proofs.TracingLemmas.{total-append}
 use Rattle.m3_heap.specs.CollectorMoving.{CanMove, MovesCell, no_cell, moved_before, moves_now, Forwards as ForwardsIn}
 use Rattle.m3_heap.proofs.MovingLemmas.{is-low, is-refused, is-kept, can-move, is-fresh}
 use Rattle.m3_heap.proofs.WordLemmas.{kept-laid}

@@ -620,4 +620,3 @@ put-inside i v here at w b p set =
 
 pub put-total : (i : Inside) (v : Remembering) (here : Space) (at w : ℕ) (b : Bool) → IsPut i v here at w b → total_words here.cells ≡ total_words i.spaces.here.cells
 put-total i v here at w b p = (rest-replace i.spaces.here here at w b (put-resting i v here at w b p).old p.answer p.base p.size p.cells).1
-

@@ -1,13 +1,11 @@
 -- For the heap of generations alone: its parts in a collection.
-use Rattle.std.specs.Prelude.{◌≡◌, ℕ, ◌+◌, ◌/◌, ◌≤◌, ◌⊎◌, ◌↔◌, if◌then◌else◌, true, List, [], ◌∷◌, ◌++◌, Option, Some, IsNone, IfSome}
-use Rattle.std.specs.Option.{IfNone}
+use Rattle.std.specs.Prelude.{◌≡◌, ℕ, ◌+◌, ◌/◌, ◌≤◌, ◌⊎◌, if◌then◌else◌, true, List, [], ◌∷◌, ◌++◌, Option, Some}
 use Rattle.m3_heap.specs.Cells.{Cell, layout, words_from, total_words}
-use Rattle.m3_heap.specs.Moves.{forwarded, kept_starts}
+use Rattle.m3_heap.specs.Moves.{kept_starts}
 use Rattle.m3_heap.specs.Shapes.{Shape, pointer_words}
-use Rattle.m3_heap.specs.Reach.{IsBadPointer}
 use Rattle.m3_heap.specs.Heap.{first_base, second_base, nursery_base}
 use Rattle.m3_heap.specs.CollectorSpace.{Space, AreLaid}
-use Rattle.m3_heap.specs.CollectorTracing.{old_cells, moves, marked_words, IsTracing, Keeps}
+use Rattle.m3_heap.specs.CollectorTracing.{moves, marked_words, IsTracing}
 use Rattle.m3_heap.specs.CollectorMoving.{Forwards as ForwardsIn}
 use Rattle.m3_heap.specs.CollectorScanning.{Scans, Grows}
 use Rattle.m3_heap.specs.CollectorHalves.{AreMoving}

@@ -34,9 +34,9 @@ fn keep_tenured<L: Ledger>(spaces: &mut Spaces, word: u64, steps: &mut Steps<L>)
     }
 }
 
-/// The new value of a word in the collection that is open: in a minor one an old cell stays and a young one
-/// is copied behind the old ones, in a full one every cell is copied to the other half, unless it was. None
-/// comes exactly where the word lies where heaps lie and is no cell's start.
+/// The new value of a word in the collection that is open: in a minor one an old cell stays and a
+/// young one is copied behind the old ones, in a full one every cell is copied to the other half,
+/// unless it was. None comes exactly where the word lies where heaps lie and is no cell's start.
 pub fn forward_word<L: Ledger>(spaces: &mut Spaces, word: u64, steps: &mut Steps<L>) -> Option<u64>
     requires tracing { IsTracing (left_of spaces.old) (kept_of spaces.old) }
     requires keeping { IsKeeping spaces.old }
