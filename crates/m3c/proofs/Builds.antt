@@ -11,6 +11,7 @@ use Rattle.m3c_words.specs.Orders.{Order, build}
 use Rattle.m3c_image_commands.specs.declared.answers.Answer.{Answer}
 use Rattle.m3c_image_commands.specs.declared.answers.Refusal.{Refusal}
 use Rattle.m3c_image_commands.specs.Statuses.{CountRose, StoresNothing, Tells, Unfetched, read_fault, no_memory, absent, too_long}
+use Rattle.m3c_source_commands.specs.Judging.{ByChecker}
 use Rattle.m3c_source_commands.specs.Orders.{Commands, usage, no_words, carried_out, Fulfils}
 use Rattle.m3c_source_commands.specs.SourceCommands.{AreTextsOf, BuildAnswer, not_built, stored, BuildRefuses, IsImageOf, IsNotPlain, OfFiles}
 use Rattle.m3c.specs.Command.{Call, IsBuildComplete, IsCalm, Stored, file_cap}
@@ -31,7 +32,7 @@ module _ (call : Call) (status : ℕ) (files : Files) (image name text : List �
   is_plain : (texts : List (List ℕ)) → AreTextsOf call.shelf.held.0 (name ∷ []) texts → IsNotPlain (name ∷ []) texts → ⊥
   is_plain texts read other = other name text puts refl (read_text texts read) plain
 
-  its_image : (texts : List (List ℕ)) → AreTextsOf call.shelf.held.0 (name ∷ []) texts → IsImageOf (name ∷ []) texts call.image → read_of call.image ≡ Ok (plain_image name puts)
+  its_image : (texts : List (List ℕ)) → AreTextsOf call.shelf.held.0 (name ∷ []) texts → IsImageOf ByChecker (name ∷ []) texts call.image → read_of call.image ≡ Ok (plain_image name puts)
   its_image texts read (inr others) = absurd (is_plain texts read others.0)
   its_image texts read (inl i) =
       let p = i.program in
@@ -40,7 +41,7 @@ module _ (call : Call) (status : ℕ) (files : Files) (image name text : List �
       let q : puts ≡ i.puts = p.only puts (subst (λ (x : List ℕ). IsPlain x puts) t plain) in
       subst (λ (n : List ℕ). read_of call.image ≡ Ok (plain_image n puts)) same (subst (λ (ps : List Term). read_of call.image ≡ Ok (plain_image i.name ps)) (sym q) i.bytes)
 
-  built : (texts : List (List ℕ)) (code : ℕ) (line : List ℕ) → AreTextsOf call.shelf.held.0 (name ∷ []) texts → BuildAnswer call.shelf (name ∷ []) texts image call.image code line → call.out.taken.1 ≡ call.out.taken.0 → status ≡ code → Complete
+  built : (texts : List (List ℕ)) (code : ℕ) (line : List ℕ) → AreTextsOf call.shelf.held.0 (name ∷ []) texts → BuildAnswer ByChecker call.shelf (name ∷ []) texts image call.image code line → call.out.taken.1 ≡ call.out.taken.0 → status ≡ code → Complete
   built texts code line read (not_built l other r s) p e = absurd (is_plain texts read other)
   built texts code line read (stored is s) p e = inl (e, record { bytes = its_image texts read is; under = s; silent = p })
 
@@ -63,16 +64,16 @@ module _ (call : Call) (status : ℕ) (files : Files) (image name text : List �
   refused r (inr (inl lacks)) e = inr (e ∙ lacks.0.status, lacks.1)
   refused r (inr (inr failed)) e = absurd (store failed.1.0)
 
-  of_result : (result : Result Answer Refusal) → Fulfils (build image (name ∷ [])) call.shelf call.out call.image result → Tells call.err result status → Complete
+  of_result : (result : Result Answer Refusal) → Fulfils ByChecker (build image (name ∷ [])) call.shelf call.out call.image result → Tells call.err result status → Complete
   of_result (Ok a) h (inl t) = built h.0.0 a.status a.line.items h.0.1 h.0.2 h.1 t.0
   of_result (Ok a) h (inr t) = absurd (calm.err t.1)
   of_result (Err r) h (inl t) = refused r h.0 t.0
   of_result (Err r) h (inr t) = absurd (calm.err t.1)
 
-pub build_of : (call : Call) (status : ℕ) → Commands call.words call.shelf call.out call.err call.image status → IsBuildComplete call status
+pub build_of : (call : Call) (status : ℕ) → Commands ByChecker call.words call.shelf call.out call.err call.image status → IsBuildComplete call status
 build_of call status (usage told none s p says) files image name text puts asks held got short plain calm store = absurd (some_none (build image (name ∷ [])) (sym asks ∙ none))
 build_of call status (no_words told s p (inl t)) files image name text puts asks held got short plain calm store = inr (t.0, s)
 build_of call status (no_words told s p (inr t)) files image name text puts asks held got short plain calm store = absurd (calm.err t.1)
 build_of call status (carried_out order result told ordered h t) files image name text puts asks held got short plain calm store =
     let is : order ≡ build image (name ∷ []) = some_same order (build image (name ∷ [])) (sym ordered ∙ asks) in
-    of_result call told files image name text puts held got short plain calm store result (subst (λ (o : Order). Fulfils o call.shelf call.out call.image result) is h) t
+    of_result call told files image name text puts held got short plain calm store result (subst (λ (o : Order). Fulfils ByChecker o call.shelf call.out call.image result) is h) t

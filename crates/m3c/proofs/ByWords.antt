@@ -19,6 +19,7 @@ use Rattle.m3c_image_commands.specs.Reports.{Setting, Ended, within}
 use Rattle.m3c_image_commands.specs.ImageCommands.{by_schedule, on_input}
 use Rattle.m3c_image_commands.specs.Complete.{CutsShort}
 use Rattle.m3c_image_commands.proofs.CompleteLemmas.{runs_whole, dumps_whole}
+use Rattle.m3c_source_commands.specs.Judging.{ByChecker}
 use Rattle.m3c_source_commands.specs.Orders.{Commands, usage, no_words, carried_out, Fulfils}
 use Rattle.m3c_source_commands.proofs.UsageLemmas.{never_usage}
 use Rattle.m3c.specs.Command.{Call, UsageByWords, IsCalm, IsBuildComplete, IsRunComplete, IsDumpComplete, RanImage, DumpedImage, RanOut, file_of, is_name}
@@ -86,13 +87,13 @@ exec_builds_none call status files options asks held image name text puts build_
 -- ---- any other command
 
 module _ (call : Call) (status : ℕ) where
-  pub usage_of : Commands call.words call.shelf call.out call.err call.image status → UsageAsked call status
+  pub usage_of : Commands ByChecker call.words call.shelf call.out call.err call.image status → UsageAsked call status
   usage_of (usage told none s p (inl h)) = record { only = λ e. none; always = λ a. inl h.0 }
   usage_of (usage told none s p (inr h)) = record { only = λ e. none; always = λ a. inr (inr h) }
   usage_of (no_words told s p (inl h)) = record { only = λ e. (let five = h.0 in absurd (omega arith)); always = λ a. inr (inl h.0) }
   usage_of (no_words told s p (inr h)) = record { only = λ e. (let four = h.0 in absurd (omega arith)); always = λ a. inr (inr h) }
   usage_of (carried_out order result told asks h t) =
-      usage_never call told order asks (λ e. never_usage order call.shelf call.out call.err call.image result told h t e)
+      usage_never call told order asks (λ e. never_usage ByChecker order call.shelf call.out call.err call.image result told h t e)
 
 ran_told : (call : Call) (status : ℕ) (i : Image) (setting : Setting) (tells : Bool) (result : Result Answer Refusal) → MatchResult result (λ a. Ended i setting tells call.out a.status a.line.items) (CutsShort call.out)
     → Tells call.err result status → IsCalm call → RanImage call i setting tells status ⊎ RanOut call status
@@ -112,10 +113,10 @@ dumped_told call status i (Err r) h (inl t) calm = inr (t.0 ∙ h.0.status, h.1)
 dumped_told call status i (Err r) h (inr t) calm = absurd (calm.err t.1)
 
 fulfilled_as : (call : Call) (order other : Order) (result : Result Answer Refusal) → asked call.words ≡ Some order → asked call.words ≡ Some other
-    → Fulfils order call.shelf call.out call.image result → Fulfils other call.shelf call.out call.image result
-fulfilled_as call order other result a b h = subst (λ (o : Order). Fulfils o call.shelf call.out call.image result) (some_same order other (sym a ∙ b)) h
+    → Fulfils ByChecker order call.shelf call.out call.image result → Fulfils ByChecker other call.shelf call.out call.image result
+fulfilled_as call order other result a b h = subst (λ (o : Order). Fulfils ByChecker o call.shelf call.out call.image result) (some_same order other (sym a ∙ b)) h
 
-pub run_of : (call : Call) (status : ℕ) → Commands call.words call.shelf call.out call.err call.image status → IsRunComplete call status
+pub run_of : (call : Call) (status : ℕ) → Commands ByChecker call.words call.shelf call.out call.err call.image status → IsRunComplete call status
 run_of call status (usage told none s p says) name options i schedule given asks ready calm = absurd (some_none (run name options) (sym asks ∙ none))
 run_of call status (no_words told s p (inl h)) name options i schedule given asks ready calm = inr (h.0, p)
 run_of call status (no_words told s p (inr h)) name options i schedule given asks ready calm = absurd (calm.err h.1)
@@ -124,7 +125,7 @@ run_of call status (carried_out order result told ordered h t) name options i sc
     ran_told call told i (by_schedule (on_input (within options.bounds) given) schedule) (is_some options.switches) result
     (runs_whole call.shelf call.out name options.switches options.input (within options.bounds) call.image result runs i schedule given ready calm.shelf calm.out) t calm
 
-pub dump_of : (call : Call) (status : ℕ) → Commands call.words call.shelf call.out call.err call.image status → IsDumpComplete call status
+pub dump_of : (call : Call) (status : ℕ) → Commands ByChecker call.words call.shelf call.out call.err call.image status → IsDumpComplete call status
 dump_of call status (usage told none s p says) name i bytes asks held read calm = absurd (some_none (dump name) (sym asks ∙ none))
 dump_of call status (no_words told s p (inl h)) name i bytes asks held read calm = inr (h.0, p)
 dump_of call status (no_words told s p (inr h)) name i bytes asks held read calm = absurd (calm.err h.1)
@@ -133,5 +134,5 @@ dump_of call status (carried_out order result told ordered h t) name i bytes ask
     dumped_told call told i result (dumps_whole call.shelf call.out name call.image result dumps i bytes held read calm.shelf calm.out) t calm
 
 -- the same words
-pub commands_of : (words given : List (List ℕ)) (shelf : Shelving) (out err : Putting) (image : List ℕ) (status : ℕ) → given ≡ words → Commands given shelf out err image status → Commands words shelf out err image status
-commands_of words given shelf out err image status e h = subst (λ (w : List (List ℕ)). Commands w shelf out err image status) e h
+pub commands_of : (words given : List (List ℕ)) (shelf : Shelving) (out err : Putting) (image : List ℕ) (status : ℕ) → given ≡ words → Commands ByChecker given shelf out err image status → Commands ByChecker words shelf out err image status
+commands_of words given shelf out err image status e h = subst (λ (w : List (List ℕ)). Commands ByChecker w shelf out err image status) e h

@@ -17,6 +17,7 @@ use Rattle.m3c_image_commands.specs.declared.answers.Answer.{Answer}
 use Rattle.m3c_image_commands.specs.declared.answers.Refusal.{Refusal}
 use Rattle.m3c_image_commands.specs.Statuses.{CountRose, Tells, Took}
 use Rattle.m3c_image_commands.specs.Reports.{end_status}
+use Rattle.m3c_source_commands.specs.Judging.{ByChecker}
 use Rattle.m3c_source_commands.specs.Orders.{Commands, Fulfils}
 use Rattle.m3c_source_commands.proofs.UsageLemmas.{never_usage}
 use Rattle.m3c.specs.Command.{Call, IsSilent, IsRead, Ran, Answers, AnswersOther, IsComplete, NotPlainText, PutFailed, of_words, of_text, IsOther, file_of, Promises, file_cap}
@@ -136,20 +137,20 @@ other_complete : (call : Call) (status : ℕ) → AnswersOther call status → I
 other_complete call status answers files name text puts f h g short p a b c = absurd (not_plain call files name text puts f h g p (is_other call status answers))
 
 pub text_promised_by : (call : Call) (status : ℕ) (name : List ℕ) (result : Result Answer Refusal) → AreTexts call.words → file_of call.words ≡ Some name → call.file ≡ Some name → NotPlainText call.file call.shelf.held.0
-    → Fulfils (exec (name ∷ []) usual_options) call.shelf call.out call.image result → Tells call.err result status → Promises call status
+    → Fulfils ByChecker (exec (name ∷ []) usual_options) call.shelf call.out call.image result → Tells call.err result status → Promises call status
 text_promised_by call status name result texts words named text carried told =
     let asks = exec_words call.words name words in
     let answers : AnswersOther call status = of_text name status result named text carried told in
     record {
       table = inr answers;
-      usage = by_sentences call status texts (usage_never call status _ asks (λ e. never_usage (exec (name ∷ []) usual_options) call.shelf call.out call.err call.image result status carried told e));
+      usage = by_sentences call status texts (usage_never call status _ asks (λ e. never_usage ByChecker (exec (name ∷ []) usual_options) call.shelf call.out call.err call.image result status carried told e));
       complete = other_complete call status answers;
       run_complete = exec_runs_none call status _ _ asks;
       dump_complete = exec_dumps_none call status _ _ asks;
       build_complete = exec_builds_none call status _ _ asks;
     }
 
-pub words_promised : (call : Call) (status : ℕ) → AreTexts call.words → call.file ≡ None → Commands call.words call.shelf call.out call.err call.image status → Promises call status
+pub words_promised : (call : Call) (status : ℕ) → AreTexts call.words → call.file ≡ None → Commands ByChecker call.words call.shelf call.out call.err call.image status → Promises call status
 words_promised call status texts none commands =
     let answers : AnswersOther call status = of_words status none commands in
     record {

@@ -18,6 +18,7 @@ use Rattle.m3c_image_commands.specs.declared.answers.Refusal.{Refusal}
 use Rattle.m3c_image_commands.specs.Statuses.{Shelving, Putting, StoresNothing, Only, Refuses, Unfetched, read_fault, no_memory, absent, too_long, Says, Tells}
 use Rattle.m3c_image_commands.specs.ImageCommands.{by_schedule, on_input}
 use Rattle.m3c_image_commands.specs.Reports.{Ended, RanAsFar}
+use Rattle.m3c_source_commands.specs.Judging.{ByChecker}
 use Rattle.m3c_source_commands.specs.Orders.{Commands, usage, no_words, carried_out, Fulfils, usual_setting}
 use Rattle.m3c_image_commands.specs.Refusals.{IsScheduleLine}
 use Rattle.m3c_source_commands.specs.SourceCommands.{AreTextsOf, ExecAnswer, not_run, no_schedule, run_ended, IsImageOf, IsNotPlain, IsPlainImage, OfExec, TextsRanAsFar}
@@ -69,12 +70,12 @@ module _ (call : Call) (name : List ℕ) (named : call.file ≡ Some name) where
       (as_usual i (plain_image image.name image.puts) [] [] call.out status line (same_image i (plain_image image.name image.puts) call.image read image.bytes) refl refl ended) says
 
   answer_row : (texts : List (List ℕ)) (switches bytes : List ℕ) (status told : ℕ) (line : List ℕ) → AreTextsOf call.shelf.held.0 (name ∷ []) texts → switches ≡ [] → bytes ≡ []
-      → ExecAnswer (name ∷ []) texts call.image switches (IsSchedule switches) (on_input usual_setting bytes) false call.out status line → Says call.err status line told
+      → ExecAnswer ByChecker (name ∷ []) texts call.image switches (IsSchedule switches) (on_input usual_setting bytes) false call.out status line → Says call.err status line told
       → Answers call told ⊎ NotPlainText call.file call.shelf.held.0
   answer_row texts switches bytes status told line read s b (not_run l other r p) says =
       let one = one_text call.shelf.held.0 name texts read in
       inr (not_plain call.file call.shelf.held.0 name one.0 texts named one.1 one.2 other)
-  answer_row texts switches bytes status told line read s b (no_schedule n l h) says = absurd (is_schedule l (subst (λ (x : List ℕ). IsScheduleLine x l) s h.1))
+  answer_row texts switches bytes status told line read s b (no_schedule n l accepted h) says = absurd (is_schedule l (subst (λ (x : List ℕ). IsScheduleLine x l) s h.1))
   answer_row texts switches bytes status told line read s b (run_ended i schedule n l (inl image) of may ended) says =
       let one = one_text call.shelf.held.0 name texts read in
       inl (plain_row texts one.0 one.1 one.2 image i n told l of (as_usual i i schedule bytes call.out n l refl (no_entries switches schedule s may) b ended) says)
@@ -116,20 +117,20 @@ module _ (call : Call) (name : List ℕ) (named : call.file ≡ Some name) where
       (subst (λ (x : List ℕ). RanAsFar i (by_schedule (on_input usual_setting x) schedule) call.out) b h)
 
   failed_row : (texts : List (List ℕ)) (switches bytes : List ℕ) → AreTextsOf call.shelf.held.0 (name ∷ []) texts → switches ≡ [] → bytes ≡ []
-      → TextsRanAsFar (name ∷ []) texts call.image (IsSchedule switches) (on_input usual_setting bytes) call.out → CountRose call.out.faults → PutFailed call ⊎ NotPlainText call.file call.shelf.held.0
+      → TextsRanAsFar ByChecker (name ∷ []) texts call.image (IsSchedule switches) (on_input usual_setting bytes) call.out → CountRose call.out.faults → PutFailed call ⊎ NotPlainText call.file call.shelf.held.0
   failed_row texts switches bytes read s b far rose = go far.1
     where
       one : (text : List ℕ) × (texts ≡ text ∷ []) × HasText call.shelf.held.0 name text
       one = one_text call.shelf.held.0 name texts read
 
-      go : IsImageOf (name ∷ []) texts call.image → PutFailed call ⊎ NotPlainText call.file call.shelf.held.0
+      go : IsImageOf ByChecker (name ∷ []) texts call.image → PutFailed call ⊎ NotPlainText call.file call.shelf.held.0
       go (inl image) = inl (plain_failed texts one.0 one.1 one.2 image far.3.0 far.3.1 (far_as_usual far.3.0 far.0 bytes (no_entries switches far.0 s far.2) b far.3.2) rose)
       go (inr others) = inr (not_plain call.file call.shelf.held.0 name one.0 texts named one.1 one.2 others.0)
 
 -- ---- the command
 
 module _ (call : Call) (name : List ℕ) (words : file_of call.words ≡ Some name) (named : call.file ≡ Some name) (texts : AreTexts call.words) (status : ℕ) where
-  exec_promised : (result : Result Answer Refusal) → Fulfils (exec (name ∷ []) usual_options) call.shelf call.out call.image result → Tells call.err result status → Promises call status
+  exec_promised : (result : Result Answer Refusal) → Fulfils ByChecker (exec (name ∷ []) usual_options) call.shelf call.out call.image result → Tells call.err result status → Promises call status
   exec_promised (Ok a) h told =
       let g = h.answer in
       elim (answer_row call name named g.0 g.2.0 g.2.1 a.status status a.line.items g.1 g.2.2 g.2.3 g.2.4 told) [
@@ -148,15 +149,15 @@ module _ (call : Call) (name : List ℕ) (words : file_of call.words ≡ Some na
             | inr text ↦ text_promised_by call status name (Err r) texts words named text h told
           ]
 
-  commanded : Commands call.words call.shelf call.out call.err call.image status → Promises call status
+  commanded : Commands ByChecker call.words call.shelf call.out call.err call.image status → Promises call status
   commanded (usage told none s p says) = absurd (some_none (exec (name ∷ []) usual_options) (sym (exec_words call.words name words) ∙ none))
   commanded (no_words told s p says) = memory_promised call told name texts words p says
   commanded (carried_out order result told asks h t) =
       let is : order ≡ exec (name ∷ []) usual_options = some_same order (exec (name ∷ []) usual_options) (sym asks ∙ exec_words call.words name words) in
-      exec_promised result (subst (λ (o : Order). Fulfils o call.shelf call.out call.image result) is h) t
+      exec_promised result (subst (λ (o : Order). Fulfils ByChecker o call.shelf call.out call.image result) is h) t
 
 -- what the words say
-pub command_promised : (call : Call) (status : ℕ) → AreTexts call.words → call.file ≡ file_of call.words → Commands call.words call.shelf call.out call.err call.image status → Promises call status
+pub command_promised : (call : Call) (status : ℕ) → AreTexts call.words → call.file ≡ file_of call.words → Commands ByChecker call.words call.shelf call.out call.err call.image status → Promises call status
 command_promised call status texts is commands = go (file_of call.words) refl
   where
     go : (o : Option (List ℕ)) → file_of call.words ≡ o → Promises call status
@@ -169,14 +170,14 @@ are_texts [] = tt
 are_texts (word ∷ words) = (IsUtf8-string_bytes word, are_texts words)
 
 -- `exec FILE` stores nothing
-exec_stays : (words : List (List ℕ)) (shelf : Shelving) (out err : Putting) (image name : List ℕ) (status : ℕ) → file_of words ≡ Some name → Commands words shelf out err image status → StoresNothing shelf
+exec_stays : (words : List (List ℕ)) (shelf : Shelving) (out err : Putting) (image name : List ℕ) (status : ℕ) → file_of words ≡ Some name → Commands ByChecker words shelf out err image status → StoresNothing shelf
 exec_stays words shelf out err image name status e (usage told none s p says) = s
 exec_stays words shelf out err image name status e (no_words told s p says) = s
 exec_stays words shelf out err image name status e (carried_out order result told asks h t) =
     let is : order ≡ exec (name ∷ []) usual_options = some_same order (exec (name ∷ []) usual_options) (sym asks ∙ exec_words words name e) in
-    (subst (λ (o : Order). Fulfils o shelf out image result) is h).held
+    (subst (λ (o : Order). Fulfils ByChecker o shelf out image result) is h).held
 
-pub stays : (words : List (List ℕ)) (shelf : Shelving) (out err : Putting) (image : List ℕ) (status : ℕ) → Commands words shelf out err image status → (file_of words ≡ None) ⊎ StoresNothing shelf
+pub stays : (words : List (List ℕ)) (shelf : Shelving) (out err : Putting) (image : List ℕ) (status : ℕ) → Commands ByChecker words shelf out err image status → (file_of words ≡ None) ⊎ StoresNothing shelf
 stays words shelf out err image status commands = go (file_of words) refl
   where
     go : (o : Option (List ℕ)) → file_of words ≡ o → (file_of words ≡ None) ⊎ StoresNothing shelf

@@ -28,6 +28,7 @@ use Rattle.m3c_image_commands.specs.Complete.{IsHeld, HoldsAll}
 use Rattle.m3c_words.specs.Orders.{Options, Order, build, run, exec, dump}
 use Rattle.m3c_words.specs.Asked.{asked, usual_options}
 use Rattle.m3c_words_laws.specs.Reads.{Reads}
+use Rattle.m3c_source_commands.specs.Judging.{ByChecker}
 use Rattle.m3c_source_commands.specs.Orders.{Fulfils, Commands, usual_setting}
 
 -- ---- the words
@@ -156,9 +157,9 @@ IsComplete call status =
 
 -- any other command than exec FILE; or exec FILE with a text that isn't in the plain form
 pub data AnswersOther (call : Call) : ℕ → Type 0 where
-  of_words : (status : ℕ) → call.file ≡ None → Commands call.words call.shelf call.out call.err call.image status → AnswersOther call status
+  of_words : (status : ℕ) → call.file ≡ None → Commands ByChecker call.words call.shelf call.out call.err call.image status → AnswersOther call status
   of_text : (name : List ℕ) (status : ℕ) (result : Result Answer Refusal) → call.file ≡ Some name → NotPlainText call.file call.shelf.held.0
-      → Fulfils (exec (name ∷ []) usual_options) call.shelf call.out call.image result → Tells call.err result status → AnswersOther call status
+      → Fulfils ByChecker (exec (name ∷ []) usual_options) call.shelf call.out call.image result → Tells call.err result status → AnswersOther call status
 
 -- ---- every command
 

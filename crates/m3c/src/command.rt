@@ -7,7 +7,7 @@ ghost use Rattle.m3c.specs.Command.{Promises, call_of, file_of};
 use m3_base::NoMemory;
 use m3_ports::{Shelf, Sink};
 use m3c_image_commands::{Refusal, tell};
-use m3c_source_commands::command;
+use m3c_source_commands::{Checker, command};
 use std::alloc::Global;
 
 /// Carries out the command that the words give, without the program's name, and gives its status.
@@ -32,7 +32,7 @@ pub fn m3c<F: Shelf, O: Sink, E: Sink>(
         (F.held shelf.new ≡ F.held shelf.old) }
 {
     match texts_of(alloc, &words) {
-        Ok(texts) => command(alloc, &texts, shelf, out, err, image),
+        Ok(texts) => command::<Checker, F, O, E>(alloc, &texts, shelf, out, err, image),
         Err(NoMemory) => tell(err, Err(Refusal::NO_MEMORY)),
     }
 }

@@ -109,6 +109,10 @@ take_all (f ∷ files) = ap (λ (xs : List (List ℕ)). f ∷ xs) (take_all file
 pub all_named : (a : Shelving) (files names texts : List (List ℕ)) (k left : ℕ) → Reading a files names texts k left → k ≡ length files → names ≡ files
 all_named a files names texts k left r e = r.named ∙ ap (λ (n : ℕ). take n files) e ∙ take_all files
 
+-- each has a text
+pub all_even : (a : Shelving) (files names texts : List (List ℕ)) (k left : ℕ) → Reading a files names texts k left → k ≡ length files → length texts ≡ length names
+all_even a files names texts k left r e = r.count ∙ e ∙ ap (λ (ns : List (List ℕ)). length ns) (sym (all_named a files names texts k left r e))
+
 -- none was read yet
 pub reading_start : (a : Shelving) (files names texts : List (List ℕ)) → names ≡ [] → texts ≡ [] → Rises a → Reading a files names texts 0 sources_cap
 reading_start a files names texts n e k =

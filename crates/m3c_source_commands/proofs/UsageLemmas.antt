@@ -10,6 +10,7 @@ use Rattle.m3c_image_commands.specs.declared.answers.Refusal.{Refusal}
 use Rattle.m3c_image_commands.specs.Statuses.{Shelving, Putting, PutsNothing, Only, IsRead, image_cap, LacksMemory, LacksOutput, Cuts, Refuses, Unfetched, read_fault, no_memory, absent, too_long, Tells}
 use Rattle.m3c_image_commands.specs.Reports.{Setting, Ended, end_status, within}
 use Rattle.m3c_image_commands.specs.ImageCommands.{on_input, ImageAnswer, image_refused, ended, RunAnswer, DumpAnswer, not_dumped, dumped, CutsDump, no_memory as no_more, not_put}
+use Rattle.m3c_source_commands.specs.Judging.{Judgement, OfSome}
 use Rattle.m3c_source_commands.specs.SourceCommands.{BuildAnswer, not_built, stored, ExecAnswer, not_run, no_schedule, run_ended, IsOfNumber}
 use Rattle.m3c_source_commands.specs.Orders.{Order, build, run, exec, dump, bench, Fulfils, bench_setting}
 
@@ -44,14 +45,14 @@ dump_other : (image : List ℕ) (out : Putting) (status : ℕ) (line : List ℕ)
 dump_other image out status line (not_dumped r bad p) e = omega arith
 dump_other image out status line (dumped i text read says took) e = omega arith
 
-build_other : (shelf : Shelving) (files texts : List (List ℕ)) (name image : List ℕ) (status : ℕ) (line : List ℕ) → BuildAnswer shelf files texts name image status line → status ≡ 2 → ⊥
-build_other shelf files texts name image status line (not_built l other r s) e = omega arith
-build_other shelf files texts name image status line (stored ok s) e = omega arith
+build_other : (judges : Judgement) (shelf : Shelving) (files texts : List (List ℕ)) (name image : List ℕ) (status : ℕ) (line : List ℕ) → BuildAnswer judges shelf files texts name image status line → status ≡ 2 → ⊥
+build_other judges shelf files texts name image status line (not_built l other r s) e = omega arith
+build_other judges shelf files texts name image status line (stored ok s) e = omega arith
 
-exec_other : (files texts : List (List ℕ)) (image switches : List ℕ) (MayRunBy : List Entry → Type 0) (setting : Setting) (tells : Bool) (out : Putting) (status : ℕ) (line : List ℕ) → ExecAnswer files texts image switches MayRunBy setting tells out status line → status ≡ 2 → ⊥
-exec_other files texts image switches MayRunBy setting tells out status line (not_run l other r p) e = omega arith
-exec_other files texts image switches MayRunBy setting tells out status line (no_schedule s l h) e = nine_other status h.0 e
-exec_other files texts image switches MayRunBy setting tells out status line (run_ended i schedule s l of read may h) e = ended_other i _ tells out status line h e
+exec_other : (judges : Judgement) (files texts : List (List ℕ)) (image switches : List ℕ) (MayRunBy : List Entry → Type 0) (setting : Setting) (tells : Bool) (out : Putting) (status : ℕ) (line : List ℕ) → ExecAnswer judges files texts image switches MayRunBy setting tells out status line → status ≡ 2 → ⊥
+exec_other judges files texts image switches MayRunBy setting tells out status line (not_run l other r p) e = omega arith
+exec_other judges files texts image switches MayRunBy setting tells out status line (no_schedule s l of h) e = nine_other status h.0 e
+exec_other judges files texts image switches MayRunBy setting tells out status line (run_ended i schedule s l of read may h) e = ended_other i _ tells out status line h e
 
 -- ---- refusals
 
@@ -91,19 +92,19 @@ abbrev pub result_status : Result Answer Refusal → ℕ
 result_status (Ok a) = a.status
 result_status (Err r) = r.status
 
-fulfilled_other : (order : Order) (shelf : Shelving) (out : Putting) (image : List ℕ) (result : Result Answer Refusal) → Fulfils order shelf out image result → result_status result ≡ 2 → ⊥
-fulfilled_other (build name files) shelf out image (Ok a) h e = build_other shelf files h.0.0 name image a.status a.line.items h.0.2 e
-fulfilled_other (build name files) shelf out image (Err r) (inl f, p) e = unfetched_other shelf _ r.status r.front.now r.name.now f.0 e
-fulfilled_other (build name files) shelf out image (Err r) (inr (inl m), p) e = memory_other r m.0 e
-fulfilled_other (build name files) shelf out image (Err r) (inr (inr o), p) e = output_other r o.0 e
-fulfilled_other (run name options) shelf out image (Ok a) h e = run_other image h.answer.1.0 (on_input (within options.bounds) h.answer.1.1) (is_some options.switches) out a.status a.line.items h.answer.1.4 e
-fulfilled_other (run name options) shelf out image (Err r) h e = refused_other shelf _ out r h.refusal e
-fulfilled_other (exec files options) shelf out image (Ok a) h e = exec_other files h.answer.0 image _ _ _ (is_some options.switches) out a.status a.line.items h.answer.2.4 e
-fulfilled_other (exec files options) shelf out image (Err r) h e = refused_other shelf _ out r h.refusal e
-fulfilled_other (dump name) shelf out image (Ok a) h e = dump_other image out a.status a.line.items h.answer.1 e
-fulfilled_other (dump name) shelf out image (Err r) h e = not_dumped_other shelf name image out r h.refusal e
-fulfilled_other (bench number) shelf out image (Ok a) h e = exec_other [] [] image [] (IsOfNumber number) bench_setting false out a.status a.line.items h.0 e
-fulfilled_other (bench number) shelf out image (Err r) h e = cut_other out r h.0.0 e
+fulfilled_other : (judges : Judgement) (order : Order) (shelf : Shelving) (out : Putting) (image : List ℕ) (result : Result Answer Refusal) → Fulfils judges order shelf out image result → result_status result ≡ 2 → ⊥
+fulfilled_other judges (build name files) shelf out image (Ok a) h e = build_other judges shelf files h.0.0 name image a.status a.line.items h.0.2 e
+fulfilled_other judges (build name files) shelf out image (Err r) (inl f, p) e = unfetched_other shelf _ r.status r.front.now r.name.now f.0 e
+fulfilled_other judges (build name files) shelf out image (Err r) (inr (inl m), p) e = memory_other r m.0 e
+fulfilled_other judges (build name files) shelf out image (Err r) (inr (inr o), p) e = output_other r o.0 e
+fulfilled_other judges (run name options) shelf out image (Ok a) h e = run_other image h.answer.1.0 (on_input (within options.bounds) h.answer.1.1) (is_some options.switches) out a.status a.line.items h.answer.1.4 e
+fulfilled_other judges (run name options) shelf out image (Err r) h e = refused_other shelf _ out r h.refusal e
+fulfilled_other judges (exec files options) shelf out image (Ok a) h e = exec_other judges files h.answer.0 image _ _ _ (is_some options.switches) out a.status a.line.items h.answer.2.4 e
+fulfilled_other judges (exec files options) shelf out image (Err r) h e = refused_other shelf _ out r h.refusal e
+fulfilled_other judges (dump name) shelf out image (Ok a) h e = dump_other image out a.status a.line.items h.answer.1 e
+fulfilled_other judges (dump name) shelf out image (Err r) h e = not_dumped_other shelf name image out r h.refusal e
+fulfilled_other judges (bench number) shelf out image (Ok a) h e = exec_other (OfSome judges) [] [] image [] (IsOfNumber number) bench_setting false out a.status a.line.items h.0 e
+fulfilled_other judges (bench number) shelf out image (Err r) h e = cut_other out r h.0.0 e
 
 told_other : (err : Putting) (result : Result Answer Refusal) → Tells err result 2 → result_status result ≡ 2
 told_other err (Ok a) (inl h) = sym h.0
@@ -111,6 +112,6 @@ told_other err (Ok a) (inr h) = let no = h.0 in absurd (omega arith)
 told_other err (Err r) (inl h) = sym h.0
 told_other err (Err r) (inr h) = let no = h.0 in absurd (omega arith)
 
-pub never_usage : (order : Order) (shelf : Shelving) (out err : Putting) (image : List ℕ) (result : Result Answer Refusal) (told : ℕ) → Fulfils order shelf out image result → Tells err result told → told ≡ 2 → ⊥
-never_usage order shelf out err image result told h t e =
-    fulfilled_other order shelf out image result h (told_other err result (subst (λ (n : ℕ). Tells err result n) e t))
+pub never_usage : (judges : Judgement) (order : Order) (shelf : Shelving) (out err : Putting) (image : List ℕ) (result : Result Answer Refusal) (told : ℕ) → Fulfils judges order shelf out image result → Tells err result told → told ≡ 2 → ⊥
+never_usage judges order shelf out err image result told h t e =
+    fulfilled_other judges order shelf out image result h (told_other err result (subst (λ (n : ℕ). Tells err result n) e t))

@@ -1,3 +1,4 @@
+pub mod Judging
 pub mod SourceCommands
 pub mod Texts
 pub mod Orders

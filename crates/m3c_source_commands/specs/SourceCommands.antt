@@ -1,5 +1,5 @@
 -- What `build`, `exec` and `bench` answer.
-use Rattle.std.specs.Prelude.{ℕ, ◌≡◌, ◌+◌, ◌-◌, ◌⊎◌, min, Bool, Option, Some, is_some, Result, Ok, IfOk, IfErr, IsOk, MatchResult, List, [], ◌∷◌, ◌++◌, length, slice_get, codes, decimal}
+use Rattle.std.specs.Prelude.{ℕ, ◌≡◌, ◌+◌, ◌-◌, ◌⊎◌, min, Bool, Option, None, Some, is_some, Result, Ok, IfOk, IfErr, IsOk, MatchResult, List, [], ◌∷◌, ◌++◌, length, slice_get, codes, decimal}
 use Rattle.m3_ports.specs.Files.{Files}
 use Rattle.m3_image.specs.Images.{read_of}
 use Rattle.m3_image_sections.specs.Parts.{Image}
@@ -7,6 +7,9 @@ use Rattle.m3c_image_commands.specs.declared.answers.Answer.{Answer}
 use Rattle.m3c_image_commands.specs.declared.answers.Refusal.{Refusal}
 use Rattle.m3c_image_commands.specs.Statuses.{Shelving, Putting, StoresNothing, StoresUnder, StoresFront, PutsNothing, IsRead, IsGiven, OfOptions, Unfetched, LacksMemory, LacksOutput, Cuts, Refuses}
 use Rattle.m3_base.specs.declared.outcomes.Entry.{Entry}
+use Rattle.m3_base.specs.declared.refusals.Refusal.{Refusal as Broken}
+use Rattle.m3_base.specs.declared.refusals.Refused.{Refused}
+use Rattle.m3_base.specs.declared.refusals.Refused.TheVariants.{Rule}
 use Rattle.m3_base.specs.Rules.{rule_text_of}
 use Rattle.m3_base.specs.Schedules.{IsSchedule}
 use Rattle.m3_plain.specs.Terms.{Term}
@@ -16,6 +19,7 @@ use Rattle.m3_workload.specs.Schedules.{schedule_of}
 use Rattle.m3c_image_commands.specs.Refusals.{IsScheduleLine}
 use Rattle.m3c_image_commands.specs.Reports.{Setting, Ended}
 use Rattle.m3c_image_commands.specs.ImageCommands.{ImageRanAsFar, RefusesSwitches, by_schedule, on_input}
+use Rattle.m3c_source_commands.specs.Judging.{Judgement}
 
 -- ---- the FILEs
 
@@ -72,9 +76,16 @@ pub record IsPlainImage (files texts : List (List ℕ)) (image : List ℕ) : Typ
   pub program : IsPlainProgram files texts name puts
   pub bytes : read_of image ≡ Ok (plain_image name puts)
 
--- the bytes are the image of these files: of one in the plain form that of its puts; of others they are some image
-abbrev pub IsImageOf : List (List ℕ) → List (List ℕ) → List ℕ → Type 0
-IsImageOf files texts image = IsPlainImage files texts image ⊎ (IsNotPlain files texts × IsOk (read_of image))
+-- the only file is in the plain form, which breaks no rule; or none is, and the checker says of just these files, each
+-- with its own text, that they break none
+abbrev pub AreAccepted : Judgement → List (List ℕ) → List (List ℕ) → Type 0
+AreAccepted judges files texts =
+    ((name : List ℕ) × (puts : List Term) × IsPlainProgram files texts name puts) ⊎ (IsNotPlain files texts × judges files texts None)
+
+-- the bytes are the image of these files: of one in the plain form that of its puts; of others, which the checker
+-- accepted, they are some image
+abbrev pub IsImageOf : Judgement → List (List ℕ) → List (List ℕ) → List ℕ → Type 0
+IsImageOf judges files texts image = IsPlainImage files texts image ⊎ (IsNotPlain files texts × judges files texts None × IsOk (read_of image))
 
 -- ---- sources that are refused
 
@@ -82,27 +93,39 @@ abbrev pub rule_line : List ℕ → ℕ → ℕ → ℕ → List ℕ → List �
 rule_line name at column rule text =
     name ++ codes ":" ++ decimal at ++ codes ":" ++ decimal column ++ codes ": rule " ++ decimal rule ++ codes " " ++ text ++ codes "\n"
 
--- a line tells a rule, by its number and its text, and a line and a column of one of the files
-pub record IsRuleLine (files : List (List ℕ)) (line : List ℕ) : Type 0 where
-  pub file : ℕ
+-- a line tells this rule, by its number and its text, and its line and its column in one of the files
+pub record IsLineOf (files : List (List ℕ)) (broken : Broken) (line : List ℕ) : Type 0 where
   pub name : List ℕ
-  pub at : ℕ
-  pub column : ℕ
-  pub rule : ℕ
   pub text : List ℕ
-  pub named : slice_get files file ≡ Some name
-  pub listed : rule_text_of rule ≡ Some text
-  pub said : line ≡ rule_line name at column rule text
+  pub named : slice_get files broken.pos.file ≡ Some name
+  pub listed : rule_text_of broken.rule ≡ Some text
+  pub said : line ≡ rule_line name broken.pos.line broken.pos.col broken.rule text
 
--- the sources break a rule, or the switches are no schedule, as the line tells; or memory ran out
-abbrev pub RefusesSources : List (List ℕ) → List ℕ → Result Answer Refusal → Type 0
-RefusesSources files switches result =
-    MatchResult result (λ a. ((a.status ≡ 1) × IsRuleLine files a.line.items) ⊎ ((a.status ≡ 9) × IsScheduleLine switches a.line.items)) LacksMemory
+-- a line tells the very rule, and its place, that the checker says to be broken
+pub record IsRuleLine (Says : Option Broken → Type 0) (files : List (List ℕ)) (line : List ℕ) : Type 0 where
+  pub broken : Broken
+  pub judged : Says (Some broken)
+  pub told : IsLineOf files broken line
+
+-- the checker refused the sources so, and the line tells the rule; or memory ran out
+abbrev pub TellsRefused : List (List ℕ) → Refused → Result Answer Refusal → Type 0
+TellsRefused files refused result =
+    MatchResult result (λ a. (a.status ≡ 1) × (broken : Broken) × (refused ≡ Rule broken) × IsLineOf files broken a.line.items) LacksMemory
+
+-- the sources break a rule, as the checker says and the line tells; or memory ran out
+abbrev pub RefusesRule : (Option Broken → Type 0) → List (List ℕ) → Result Answer Refusal → Type 0
+RefusesRule Says files result = MatchResult result (λ a. (a.status ≡ 1) × IsRuleLine Says files a.line.items) LacksMemory
+
+-- so; or the checker says that they break none and the switches are no schedule, as the line tells
+abbrev pub RefusesSources : (Option Broken → Type 0) → List (List ℕ) → List ℕ → Result Answer Refusal → Type 0
+RefusesSources Says files switches result =
+    MatchResult result (λ a. ((a.status ≡ 1) × IsRuleLine Says files a.line.items) ⊎ ((a.status ≡ 9) × Says None × IsScheduleLine switches a.line.items)) LacksMemory
 
 -- the same of files with these texts, where one in the plain form breaks no rule
-abbrev pub RefusesFiles : List (List ℕ) → List (List ℕ) → List ℕ → Result Answer Refusal → Type 0
-RefusesFiles files texts switches result =
-    MatchResult result (λ a. ((a.status ≡ 1) × IsNotPlain files texts × IsRuleLine files a.line.items) ⊎ ((a.status ≡ 9) × IsScheduleLine switches a.line.items)) LacksMemory
+abbrev pub RefusesFiles : Judgement → List (List ℕ) → List (List ℕ) → List ℕ → Result Answer Refusal → Type 0
+RefusesFiles judges files texts switches result =
+    MatchResult result (λ a. ((a.status ≡ 1) × IsNotPlain files texts × IsRuleLine (judges files texts) files a.line.items)
+    ⊎ ((a.status ≡ 9) × AreAccepted judges files texts × IsScheduleLine switches a.line.items)) LacksMemory
 
 -- ---- build
 
@@ -113,9 +136,9 @@ Stores shelf name bytes result =
     (λ r. (LacksMemory r × StoresNothing shelf) ⊎ (LacksOutput r × StoresFront shelf name bytes))
 
 -- the sources break a rule; or their image was stored
-pub data BuildAnswer (shelf : Shelving) (files texts : List (List ℕ)) (name image : List ℕ) : ℕ → List ℕ → Type 0 where
-  not_built : (line : List ℕ) → IsNotPlain files texts → IsRuleLine files line → StoresNothing shelf → BuildAnswer shelf files texts name image 1 line
-  stored : IsImageOf files texts image → StoresUnder shelf name image → BuildAnswer shelf files texts name image 0 []
+pub data BuildAnswer (judges : Judgement) (shelf : Shelving) (files texts : List (List ℕ)) (name image : List ℕ) : ℕ → List ℕ → Type 0 where
+  not_built : (line : List ℕ) → IsNotPlain files texts → IsRuleLine (judges files texts) files line → StoresNothing shelf → BuildAnswer judges shelf files texts name image 1 line
+  stored : IsImageOf judges files texts image → StoresUnder shelf name image → BuildAnswer judges shelf files texts name image 0 []
 
 -- a file can't be read or memory ran out, and all stays; or the store failed
 abbrev pub BuildRefuses : Shelving → List (List ℕ) → List ℕ → List ℕ → Refusal → Type 0
@@ -124,9 +147,9 @@ BuildRefuses shelf files name image r =
     ⊎ ((LacksMemory r × StoresNothing shelf) ⊎ (LacksOutput r × StoresFront shelf name image × AreAllRead shelf.held.0 files))
 
 -- `build`: where a rule is broken or an image was stored, all of the files were read
-abbrev pub Builds : Shelving → List ℕ → List (List ℕ) → List ℕ → Result Answer Refusal → Type 0
-Builds shelf name files image result =
-    MatchResult result (λ a. (texts : List (List ℕ)) × AreTextsOf shelf.held.0 files texts × BuildAnswer shelf files texts name image a.status a.line.items)
+abbrev pub Builds : Judgement → Shelving → List ℕ → List (List ℕ) → List ℕ → Result Answer Refusal → Type 0
+Builds judges shelf name files image result =
+    MatchResult result (λ a. (texts : List (List ℕ)) × AreTextsOf shelf.held.0 files texts × BuildAnswer judges shelf files texts name image a.status a.line.items)
     (BuildRefuses shelf files name image)
 
 -- ---- exec and bench
@@ -135,23 +158,23 @@ Builds shelf name files image result =
 abbrev pub IsOfNumber : ℕ → List Entry → Type 0
 IsOfNumber number schedule = schedule ≡ schedule_of number
 
--- the sources break a rule; the switches are no schedule; or the run of the sources' image by a schedule ended
-pub data ExecAnswer (files texts : List (List ℕ)) (image switches : List ℕ) (MayRunBy : List Entry → Type 0) (setting : Setting) (tells : Bool) (out : Putting) : ℕ → List ℕ → Type 0 where
-  not_run : (line : List ℕ) → IsNotPlain files texts → IsRuleLine files line → PutsNothing out → ExecAnswer files texts image switches MayRunBy setting tells out 1 line
-  no_schedule : (status : ℕ) (line : List ℕ) → RefusesSwitches switches out status line → ExecAnswer files texts image switches MayRunBy setting tells out status line
-  run_ended : (i : Image) (schedule : List Entry) (status : ℕ) (line : List ℕ) → IsImageOf files texts image → read_of image ≡ Ok i → MayRunBy schedule
-      → Ended i (by_schedule setting schedule) tells out status line → ExecAnswer files texts image switches MayRunBy setting tells out status line
+-- the sources break a rule; they are accepted and the switches are no schedule; or the run of the sources' image by a schedule ended
+pub data ExecAnswer (judges : Judgement) (files texts : List (List ℕ)) (image switches : List ℕ) (MayRunBy : List Entry → Type 0) (setting : Setting) (tells : Bool) (out : Putting) : ℕ → List ℕ → Type 0 where
+  not_run : (line : List ℕ) → IsNotPlain files texts → IsRuleLine (judges files texts) files line → PutsNothing out → ExecAnswer judges files texts image switches MayRunBy setting tells out 1 line
+  no_schedule : (status : ℕ) (line : List ℕ) → AreAccepted judges files texts → RefusesSwitches switches out status line → ExecAnswer judges files texts image switches MayRunBy setting tells out status line
+  run_ended : (i : Image) (schedule : List Entry) (status : ℕ) (line : List ℕ) → IsImageOf judges files texts image → read_of image ≡ Ok i → MayRunBy schedule
+      → Ended i (by_schedule setting schedule) tells out status line → ExecAnswer judges files texts image switches MayRunBy setting tells out status line
 
 -- a put of the run of the sources' image failed: out has a front of this run's output
-abbrev pub TextsRanAsFar : List (List ℕ) → List (List ℕ) → List ℕ → (List Entry → Type 0) → Setting → Putting → Type 0
-TextsRanAsFar files texts image MayRunBy setting out =
-    (schedule : List Entry) × IsImageOf files texts image × MayRunBy schedule × ImageRanAsFar image (by_schedule setting schedule) out
+abbrev pub TextsRanAsFar : Judgement → List (List ℕ) → List (List ℕ) → List ℕ → (List Entry → Type 0) → Setting → Putting → Type 0
+TextsRanAsFar judges files texts image MayRunBy setting out =
+    (schedule : List Entry) × IsImageOf judges files texts image × MayRunBy schedule × ImageRanAsFar image (by_schedule setting schedule) out
 
 -- what comes of sources and switches that are there
-abbrev pub ExecsTexts : List (List ℕ) → List (List ℕ) → List ℕ → List ℕ → (List Entry → Type 0) → Setting → Bool → Putting → Result Answer Refusal → Type 0
-ExecsTexts files texts image switches MayRunBy setting tells out result =
-    MatchResult result (λ a. ExecAnswer files texts image switches MayRunBy setting tells out a.status a.line.items)
-    (λ r. Cuts out r × (r.status ≡ 4 → TextsRanAsFar files texts image MayRunBy setting out))
+abbrev pub ExecsTexts : Judgement → List (List ℕ) → List (List ℕ) → List ℕ → List ℕ → (List Entry → Type 0) → Setting → Bool → Putting → Result Answer Refusal → Type 0
+ExecsTexts judges files texts image switches MayRunBy setting tells out result =
+    MatchResult result (λ a. ExecAnswer judges files texts image switches MayRunBy setting tells out a.status a.line.items)
+    (λ r. Cuts out r × (r.status ≡ 4 → TextsRanAsFar judges files texts image MayRunBy setting out))
 
 -- the files that `exec` reads, in this order: the FILEs, and once all of them were read, those of the options
 abbrev pub OfExec : Option Files → List (List ℕ) → Option (List ℕ) → Option (List ℕ) → List ℕ → ℕ → Type 0
@@ -159,12 +182,12 @@ OfExec held files switches input n c = OfFiles held files n c ⊎ (AreAllRead he
 
 -- `exec`: the switches and the input are those that are named, and the line tells collections where switches are named.
 -- So too where a put failed: out has a front of this run's output.
-pub record Execs (shelf : Shelving) (out : Putting) (files : List (List ℕ)) (switches input : Option (List ℕ)) (limits : Setting) (image : List ℕ) (result : Result Answer Refusal) : Type 0 where
+pub record Execs (judges : Judgement) (shelf : Shelving) (out : Putting) (files : List (List ℕ)) (switches input : Option (List ℕ)) (limits : Setting) (image : List ℕ) (result : Result Answer Refusal) : Type 0 where
   pub held : StoresNothing shelf
   pub answer : IfOk result (λ a. (texts : List (List ℕ)) × AreTextsOf shelf.held.0 files texts
       × ((text : List ℕ) × (bytes : List ℕ) × IsGiven shelf.held.0 switches text × IsGiven shelf.held.0 input bytes
-      × ExecAnswer files texts image text (IsSchedule text) (on_input limits bytes) (is_some switches) out a.status a.line.items))
+      × ExecAnswer judges files texts image text (IsSchedule text) (on_input limits bytes) (is_some switches) out a.status a.line.items))
   pub refusal : IfErr result (Refuses shelf (OfExec shelf.held.0 files switches input) out)
   pub cut : IfErr result (λ r. r.status ≡ 4 → (texts : List (List ℕ)) × AreTextsOf shelf.held.0 files texts
       × ((text : List ℕ) × (bytes : List ℕ) × IsGiven shelf.held.0 switches text × IsGiven shelf.held.0 input bytes
-      × TextsRanAsFar files texts image (IsSchedule text) (on_input limits bytes) out))
+      × TextsRanAsFar judges files texts image (IsSchedule text) (on_input limits bytes) out))

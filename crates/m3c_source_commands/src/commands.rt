@@ -1,16 +1,18 @@
 //! The commands.
-ghost use Rattle.std.specs.Prelude.{◌≡◌, false, [], is_some, map};
+ghost use Rattle.std.specs.Prelude.{◌≡◌, false, [], is_some, length, map};
 ghost use Rattle.m3c_words.specs.Orders.{name_of};
 ghost use Rattle.m3c_image_commands.specs.Statuses.{LacksMemory, LacksOutput};
 ghost use Rattle.m3c_image_commands.specs.Statuses.{putting, shelving};
 ghost use Rattle.m3c_image_commands.specs.Reports.{setting_of};
 ghost use Rattle.m3_base.specs.Schedules.{IsSchedule};
 ghost use Rattle.m3c_image_commands.specs.ImageCommands.{on_input};
+ghost use Rattle.m3c_source_commands.specs.Judging.{OfSome};
 ghost use Rattle.m3c_source_commands.specs.SourceCommands.{Builds, Execs, ExecsTexts, IsOfNumber};
 ghost use Rattle.m3c_source_commands.specs.SourceCommands.{Stores};
 ghost use Rattle.m3c_source_commands.specs.Texts.{names_of, texts_of};
 ghost use Rattle.m3c_source_commands.specs.Orders.{Fulfils, Commands, bench_setting, order_of};
 
+use crate::checking::Checks;
 use crate::imaging::{compile_files, compile_into};
 use crate::sources::{Sources, fetch_sources, views_of_bytes};
 use m3_ports::{Shelf, ShelfFault, Sink};
@@ -48,25 +50,25 @@ fn store_refusal(fault: ShelfFault) -> Refusal<'static>
 }
 
 /// `build IMAGE FILE..`: stores the image of a program.
-fn build_files<'a, F: Shelf>(
+fn build_files<'a, C: Checks, F: Shelf>(
     alloc: Global,
     name: &'a str,
     files: &[&'a str],
     shelf: &mut F,
     image: &mut Vec<u8>,
 ) -> Result<Answer, Refusal<'a>>
-    ensures { Builds (shelving F.Shelf shelf.old shelf.new) name.now
+    ensures { Builds C.judges (shelving F.Shelf shelf.old shelf.new) name.now
         (map (λ n. n.now) files.entry.now) image.new.items result }
 {
     let sources = fetch_sources(alloc, shelf, files)?;
-    match compile_files(alloc, &sources, b"", image) {
+    match compile_files::<C>(alloc, &sources, b"", image) {
         Ok(_) => store_image(alloc, name, shelf, image),
         Err(answer) => answer,
     }
 }
 
 /// `exec FILE..`: runs a program from memory.
-fn exec_files<'a, F: Shelf, O: Sink>(
+fn exec_files<'a, C: Checks, F: Shelf, O: Sink>(
     alloc: Global,
     files: &[&'a str],
     options: RunOptions<'a>,
@@ -74,7 +76,7 @@ fn exec_files<'a, F: Shelf, O: Sink>(
     out: &mut O,
     image: &mut Vec<u8>,
 ) -> Result<Answer, Refusal<'a>>
-    ensures { Execs (shelving F.Shelf shelf.old shelf.new) (putting O.Sink out.old out.new)
+    ensures { Execs C.judges (shelving F.Shelf shelf.old shelf.new) (putting O.Sink out.old out.new)
         (map (λ n. n.now) files.entry.now) (name_of options.entry.switches)
         (name_of options.entry.input) (setting_of options.entry.limits) image.new.items result }
 {
@@ -86,12 +88,12 @@ fn exec_files<'a, F: Shelf, O: Sink>(
         Ok(given) => given,
         Err(refusal) => return Err(refusal),
     };
-    exec_sources(alloc, &sources, &given, options, out, image)
+    exec_sources::<C, O>(alloc, &sources, &given, options, out, image)
 }
 
 /// Runs a program whose files were fetched, with those of its options. The bytes of its image go to
 /// `image`.
-fn exec_sources<'a, O: Sink>(
+fn exec_sources<'a, C: Checks, O: Sink>(
     alloc: Global,
     sources: &Sources<'a>,
     given: &RunFiles,
@@ -99,12 +101,13 @@ fn exec_sources<'a, O: Sink>(
     out: &mut O,
     image: &mut Vec<u8>,
 ) -> Result<Answer, Refusal<'static>>
-    ensures { ExecsTexts (names_of sources.now) (texts_of sources.now) image.new.items given.now.switches.items
-        (IsSchedule given.now.switches.items)
+    requires { length (texts_of sources.now) ≡ length (names_of sources.now) }
+    ensures { ExecsTexts C.judges (names_of sources.now) (texts_of sources.now) image.new.items
+        given.now.switches.items (IsSchedule given.now.switches.items)
         (on_input (setting_of options.entry.limits) given.now.input.items)
         (is_some options.entry.switches) (putting O.Sink out.old out.new) result }
 {
-    match compile_files(alloc, sources, &given.switches, image) {
+    match compile_files::<C>(alloc, sources, &given.switches, image) {
         Ok(schedule) => {
             let run = Run {
                 limits: options.limits,
@@ -119,21 +122,23 @@ fn exec_sources<'a, O: Sink>(
 }
 
 /// `bench N`: runs the workload of a number.
-fn bench<O: Sink>(
+fn bench<C: Checks, O: Sink>(
     alloc: Global,
     number: u64,
     out: &mut O,
     image: &mut Vec<u8>,
 ) -> Result<Answer, Refusal<'static>>
-    ensures { ExecsTexts [] [] image.new.items [] (IsOfNumber number) bench_setting false
-        (putting O.Sink out.old out.new) result }
+    ensures { ExecsTexts (OfSome C.judges) [] [] image.new.items [] (IsOfNumber number)
+        bench_setting false (putting O.Sink out.old out.new) result }
 {
     let Ok(workload) = make(alloc, number) else {
         return Err(Refusal::NO_MEMORY);
     };
-    let views = views_of_bytes(alloc, &workload.names, &workload.texts);
+    let Ok(views) = views_of_bytes(alloc, &workload.names, &workload.texts) else {
+        return Err(Refusal::NO_MEMORY);
+    };
     // The workload breaks no rule, so no line names a file of it.
-    match compile_into(alloc, &[], views, b"", image) {
+    match compile_into::<C>(alloc, &[], &views, b"", image) {
         Ok(_) => {
             let run = Run {
                 limits: Limits::of_bench(),
@@ -147,7 +152,7 @@ fn bench<O: Sink>(
     }
 }
 
-fn carry_out<'a, F: Shelf, O: Sink>(
+fn carry_out<'a, C: Checks, F: Shelf, O: Sink>(
     alloc: Global,
     request: &Request<'a>,
     shelf: &mut F,
@@ -155,27 +160,29 @@ fn carry_out<'a, F: Shelf, O: Sink>(
     image: &mut Vec<u8>,
 ) -> Result<Answer, Refusal<'a>>
     requires { image.old.items ≡ [] }
-    ensures { Fulfils (order_of request.entry.now) (shelving F.Shelf shelf.old shelf.new)
+    ensures { Fulfils C.judges (order_of request.entry.now) (shelving F.Shelf shelf.old shelf.new)
         (putting O.Sink out.old out.new) image.new.items result }
 {
     match request {
-        Request::Build { image: name, files } => build_files(alloc, *name, files, shelf, image),
+        Request::Build { image: name, files } => build_files::<C, F>(
+            alloc, *name, files, shelf, image,
+        ),
         Request::Run {
             image: name,
             options,
         } => run_image(alloc, *name, *options, shelf, out, image),
         Request::Exec { files, options } => {
-            exec_files(alloc, files, *options, shelf, out, image)
+            exec_files::<C, F, O>(alloc, files, *options, shelf, out, image)
         }
         Request::Dump { image: name } => dump_image(alloc, *name, shelf, out, image),
-        Request::Bench { number } => bench(alloc, *number, out, image),
+        Request::Bench { number } => bench::<C, O>(alloc, *number, out, image),
     }
 }
 
-/// Carries out the command that some words say, without the program's name: output goes to `out`,
-/// one line to `err`, and the bytes of the image that was built, run or dumped to `image`, which is
-/// to be empty before. Gives the status.
-pub fn command<F: Shelf, O: Sink, E: Sink>(
+/// Carries out the command that some words say, without the program's name, by a checker: output
+/// goes to `out`, one line to `err`, and the bytes of the image that was built, run or dumped to
+/// `image`, which is to be empty before. Gives the status.
+pub fn command<C: Checks, F: Shelf, O: Sink, E: Sink>(
     alloc: Global,
     words: &[&str],
     shelf: &mut F,
@@ -184,13 +191,13 @@ pub fn command<F: Shelf, O: Sink, E: Sink>(
     image: &mut Vec<u8>,
 ) -> u8
     requires { image.old.items ≡ [] }
-    ensures { Commands (map (λ word. word.now) words.entry.now)
+    ensures { Commands C.judges (map (λ word. word.now) words.entry.now)
         (shelving F.Shelf shelf.old shelf.new) (putting O.Sink out.old out.new)
         (putting E.Sink err.old err.new) image.new.items result }
 {
     match read_words(alloc, words) {
         Ok(Some(request)) => {
-            let answer = carry_out(alloc, &request, shelf, out, image);
+            let answer = carry_out::<C, F, O>(alloc, &request, shelf, out, image);
             tell(err, answer)
         }
         Ok(None) => tell(err, Err(Refusal::USAGE)),

@@ -1,15 +1,17 @@
 //! From sources to the bytes of an image.
-ghost use Rattle.std.specs.Prelude.{◌≡◌, ◌<◌, ◌++◌, ℕ, List, true, length, map, All, IfOk};
+ghost use Rattle.std.specs.Prelude.{◌≡◌, ◌<◌, ◌++◌, true, None, length, map, All, IfOk};
 ghost use Rattle.std.specs.Prelude.{IfErr, IsOk, OnOk, codes, decimal};
 ghost use Rattle.m3_base.specs.Schedules.{IsSchedule};
 ghost use Rattle.m3_image.specs.Images.{read_of};
-ghost use Rattle.m3c_source_commands.specs.SourceCommands.{IsRuleLine, RefusesSources, rule_line};
+ghost use Rattle.m3c_source_commands.specs.Judging.{names_in, texts_in};
+ghost use Rattle.m3c_source_commands.specs.SourceCommands.{IsLineOf, RefusesRule, RefusesSources};
+ghost use Rattle.m3c_source_commands.specs.SourceCommands.{TellsRefused, rule_line};
 
+use crate::checking::Checks;
 use bumpalo::Bump;
 use bumpalo::collections::into_bump_slice;
 use m3_base::{Entry, NoMemory, Refusal as Broken, Refused, Source, gap, rule_text};
 use m3_build::build;
-use m3_checker::check;
 use m3_core::Core;
 use m3c_image_commands::{Answer, Refusal, push_number, schedule_of};
 use std::alloc::{AllocError, Global};
@@ -54,7 +56,7 @@ fn rule_line(alloc: Global, name: &str, broken: Broken, text: &str) -> Result<Ve
 
 /// The line of a broken rule of files of these names.
 fn line_of(alloc: Global, names: &[&str], broken: Broken) -> Result<Vec<u8>, NoMemory>
-    ensures { IfOk result (λ line. IsRuleLine (map (λ n. n.now) names.now) line.items) }
+    ensures { IfOk result (λ line. IsLineOf (map (λ n. n.now) names.now) broken line.items) }
 {
     let Some(name) = names.get(broken.pos.file as usize) else {
         return Err(gap());
@@ -65,9 +67,9 @@ fn line_of(alloc: Global, names: &[&str], broken: Broken) -> Result<Vec<u8>, NoM
     Ok(rule_line(alloc, *name, broken, text)?)
 }
 
+/// What is answered where the checker refused sources so.
 fn refuse(alloc: Global, names: &[&str], refused: Refused) -> Result<Answer, Refusal<'static>>
-    ensures { (switches : List ℕ)
-        → RefusesSources (map (λ n. n.now) names.now) switches result }
+    ensures { TellsRefused (map (λ n. n.now) names.now) refused result }
 {
     match refused {
         Refused::NoMemory => Err(Refusal::NO_MEMORY),
@@ -89,7 +91,10 @@ fn are_short(sources: &[Source<'_>]) -> bool
 }
 
 /// A copy of a source in the arena.
-fn copy_of<'a>(arena: &'a Bump, source: &Source<'_>) -> Result<Source<'a>, NoMemory> {
+fn copy_of<'a>(arena: &'a Bump, source: &Source<'_>) -> Result<Source<'a>, NoMemory>
+    ensures name { IfOk result (λ copy. copy.name.now ≡ source.now.name.now) }
+    ensures text { IfOk result (λ copy. copy.text.now ≡ source.now.text.now) }
+{
     let name = &*arena.try_alloc_slice_copy(source.name)?;
     let text = &*arena.try_alloc_slice_copy(source.text)?;
     Ok(Source { name, text })
@@ -100,7 +105,10 @@ fn copies<'a>(
     alloc: Global,
     arena: &'a Bump,
     sources: &[Source<'_>],
-) -> Result<Vec<Source<'a>>, NoMemory> {
+) -> Result<Vec<Source<'a>>, NoMemory>
+    ensures names { IfOk result (λ copies. names_in copies.items ≡ names_in sources.now) }
+    ensures texts { IfOk result (λ copies. texts_in copies.items ≡ texts_in sources.now) }
+{
     let mut copies = Vec::new(alloc);
     for source in sources {
         copies.push(copy_of(arena, source)?)?;
@@ -120,40 +128,52 @@ fn image_of<'a>(alloc: Global, arena: &'a Bump, core: Core<'a>) -> Result<Vec<u8
     }
 }
 
-/// The schedule that the lines of a switch file say.
-fn schedule_in(alloc: Global, switches: &[u8]) -> Step<'static, Vec<Entry>>
-    ensures ok { IfOk result (λ entries. IsSchedule switches.now entries.items) }
-    ensures err { (files : List (List ℕ)) → IfErr result (RefusesSources files switches.now) }
-{
-    schedule_of(alloc, switches)
-}
-
-/// The image of a program, and the schedule of a switch file, whose lines are read once the sources
-/// are accepted. The names are those of the sources.
-pub fn compile(
+/// The checked program of some sources, or what is answered where they break a rule. The names are
+/// those that a line has for them.
+fn checked<'a, C: Checks>(
     alloc: Global,
+    arena: &'a Bump,
     names: &[&str],
     sources: &[Source<'_>],
-    switches: &[u8],
-) -> Step<'static, (Vec<u8>, Vec<Entry>)>
-    ensures ok { IfOk result (λ built. IsOk (read_of built.0.items)) }
-    ensures schedule { IfOk result (λ built. IsSchedule switches.now built.1.items) }
-    ensures err { IfErr result
-        (RefusesSources (map (λ n. n.now) names.now) switches.now) }
+) -> Step<'static, Core<'a>>
+    ensures accepted { IfOk result
+        (λ core. C.judges (names_in sources.now) (texts_in sources.now) None) }
+    ensures refused { IfErr result
+        (RefusesRule (C.judges (names_in sources.now) (texts_in sources.now))
+        (map (λ n. n.now) names.now)) }
 {
-    let owner = Bump::new(alloc);
-    let arena = &owner;
     let Ok(copies) = copies(alloc, arena, sources) else {
         return Err(Err(Refusal::NO_MEMORY));
     };
     if !are_short(&copies) {
         return Err(Err(Refusal::NO_MEMORY));
     }
-    let core = match check(alloc, arena, copies.as_slice()) {
-        Ok(core) => core,
-        Err(refused) => return Err(refuse(alloc, names, refused)),
-    };
-    let schedule = schedule_in(alloc, switches)?;
+    match C::check(alloc, arena, copies.as_slice()) {
+        Ok(core) => Ok(core),
+        Err(refused) => Err(refuse(alloc, names, refused)),
+    }
+}
+
+/// The image of a program, and the schedule of a switch file, whose lines are read once the sources
+/// are accepted. The names are those that a line has for the sources.
+pub fn compile<C: Checks>(
+    alloc: Global,
+    names: &[&str],
+    sources: &[Source<'_>],
+    switches: &[u8],
+) -> Step<'static, (Vec<u8>, Vec<Entry>)>
+    ensures accepted { IfOk result
+        (λ built. C.judges (names_in sources.now) (texts_in sources.now) None) }
+    ensures image { IfOk result (λ built. IsOk (read_of built.0.items)) }
+    ensures schedule { IfOk result (λ built. IsSchedule switches.now built.1.items) }
+    ensures err { IfErr result
+        (RefusesSources (C.judges (names_in sources.now) (texts_in sources.now))
+        (map (λ n. n.now) names.now) switches.now) }
+{
+    let owner = Bump::new(alloc);
+    let arena = &owner;
+    let core = checked::<C>(alloc, arena, names, sources)?;
+    let schedule = schedule_of(alloc, switches)?;
     match image_of(alloc, arena, core) {
         Ok(image) => Ok((image, schedule)),
         Err(_) => Err(Err(Refusal::NO_MEMORY)),

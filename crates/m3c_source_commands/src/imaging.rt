@@ -1,18 +1,20 @@
 //! The image of FILEs: that of one text in the plain form comes from the generator that is proved,
 //! that of all others from the compiler.
-ghost use Rattle.std.specs.Prelude.{◌≡◌, ◌≤◌, Ok, map, IfOk, IfErr, IsOk, IsErrOf};
+ghost use Rattle.std.specs.Prelude.{◌≡◌, ◌≤◌, None, Ok, length, map, IfOk, IfErr, IsOk, IsErrOf};
 ghost use Rattle.m3_base.specs.Schedules.{IsSchedule};
 ghost use Rattle.m3_image.specs.Images.{read_of};
 ghost use Rattle.m3_plain.specs.Terms.{AreShallow, all_nodes, terms_of};
 ghost use Rattle.m3_plain_image.specs.Image.{plain_image};
 ghost use Rattle.m3c_image_commands.specs.Refusals.{RefusesSchedule};
+ghost use Rattle.m3c_source_commands.specs.Judging.{names_in, texts_in};
 ghost use Rattle.m3c_source_commands.specs.SourceCommands.{IsImageOf, IsNotPlain, IsPlainProgram};
 ghost use Rattle.m3c_source_commands.specs.SourceCommands.{RefusesFiles, RefusesSources};
 ghost use Rattle.m3c_source_commands.specs.Texts.{names_of, texts_of};
 
+use crate::checking::Checks;
 use crate::compiling::{Step, compile};
 use crate::sources::{Sources, views_of};
-use m3_base::{Entry, NoMemory, Source};
+use m3_base::{Entry, Source};
 use m3_plain::{Plain, PlainRefused, read_plain};
 use m3_plain_image::plain_image;
 use m3c_image_commands::{Refusal, schedule_of};
@@ -68,45 +70,48 @@ fn compile_plain(
 
 /// Puts the bytes of the image of sources into `image`, as the compiler makes it, and gives the
 /// schedule of a switch file.
-pub fn compile_into(
+pub fn compile_into<C: Checks>(
     alloc: Global,
     names: &[&str],
-    sources: Result<Vec<Source<'_>>, NoMemory>,
+    sources: &[Source<'_>],
     switches: &[u8],
     image: &mut Vec<u8>,
 ) -> Step<'static, Vec<Entry>>
+    ensures accepted { IfOk result
+        (λ entries. C.judges (names_in sources.now) (texts_in sources.now) None) }
     ensures ok { IfOk result (λ entries. IsOk (read_of image.new.items)) }
     ensures schedule { IfOk result (λ entries. IsSchedule switches.now entries.items) }
     ensures err { IfErr result
-        (RefusesSources (map (λ n. n.now) names.now) switches.now) }
+        (RefusesSources (C.judges (names_in sources.now) (texts_in sources.now))
+        (map (λ n. n.now) names.now) switches.now) }
 {
-    let Ok(sources) = sources else {
-        return Err(Err(Refusal::NO_MEMORY));
-    };
-    let (bytes, schedule) = compile(alloc, names, &sources, switches)?;
+    let (bytes, schedule) = compile::<C>(alloc, names, sources, switches)?;
     *image = bytes;
     Ok(schedule)
 }
 
-/// Puts the bytes of the image of FILEs into `image`, and gives the schedule of a switch file, whose
-/// lines are read once the FILEs are accepted.
-pub fn compile_files<'a>(
+/// Puts the bytes of the image of FILEs into `image`, and gives the schedule of a switch file,
+/// whose lines are read once the FILEs are accepted.
+pub fn compile_files<'a, C: Checks>(
     alloc: Global,
     sources: &Sources<'a>,
     switches: &[u8],
     image: &mut Vec<u8>,
 ) -> Step<'static, Vec<Entry>>
+    requires { length (texts_of sources.now) ≡ length (names_of sources.now) }
     ensures ok { IsOk result
-        → IsImageOf (names_of sources.now) (texts_of sources.now) image.new.items }
+        → IsImageOf C.judges (names_of sources.now) (texts_of sources.now) image.new.items }
     ensures schedule { IfOk result (λ entries. IsSchedule switches.now entries.items) }
     ensures err { IfErr result
-        (RefusesFiles (names_of sources.now) (texts_of sources.now) switches.now) }
+        (RefusesFiles C.judges (names_of sources.now) (texts_of sources.now) switches.now) }
 {
     match read_only(alloc, sources) {
         Ok((name, puts)) => compile_plain(alloc, name, &puts, switches, image),
         Err(PlainRefused::NotBuilt) => {
-            let views = views_of(alloc, &sources.names, &sources.texts);
-            compile_into(alloc, &sources.names, views, switches, image)
+            let Ok(views) = views_of(alloc, sources) else {
+                return Err(Err(Refusal::NO_MEMORY));
+            };
+            compile_into::<C>(alloc, &sources.names, &views, switches, image)
         }
         Err(PlainRefused::NoMemory) => Err(Err(Refusal::NO_MEMORY)),
     }

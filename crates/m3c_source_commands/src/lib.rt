@@ -2,9 +2,11 @@
 //! by its words.
 #![tactic(auto)]
 
+mod checking;
 mod commands;
 mod compiling;
 mod imaging;
 mod sources;
 
+pub use checking::{Checker, Checks};
 pub use commands::command;

@@ -1,6 +1,7 @@
 //! The FILEs of a command.
-ghost use Rattle.std.specs.Prelude.{◌≡◌, [], ◌∷◌, ◌++◌, OnOk, IfOk, map, min};
+ghost use Rattle.std.specs.Prelude.{◌≡◌, [], ◌∷◌, ◌++◌, OnOk, IfOk, length, map, min};
 ghost use Rattle.m3c_image_commands.specs.Statuses.{Fetches, Only, shelving};
+ghost use Rattle.m3c_source_commands.specs.Judging.{names_in, texts_in};
 ghost use Rattle.m3c_source_commands.specs.SourceCommands.{AreTextsOf, OfFiles, source_cap};
 ghost use Rattle.m3c_source_commands.specs.Texts.{names_of, texts_of, IsNext};
 
@@ -81,6 +82,8 @@ pub fn fetch_sources<'a, F: Shelf>(
     ensures read { IfOk result (λ sources.
         AreTextsOf (F.held shelf.old) (map (λ n. n.now) files.entry.now) (texts_of sources)) }
     ensures named { IfOk result (λ sources. names_of sources ≡ map (λ n. n.now) files.entry.now) }
+    ensures even { IfOk result (λ sources.
+        length (texts_of sources) ≡ length (names_of sources)) }
 {
     let mut sources = Sources::new(alloc);
     let mut left = SOURCES_CAP;
@@ -96,18 +99,26 @@ pub fn fetch_sources<'a, F: Shelf>(
     Ok(sources)
 }
 
-/// The files as the checker takes them.
-pub fn views_of<'s>(
-    alloc: Global,
-    names: &'s [&'s str],
-    texts: &'s [Vec<u8>],
-) -> Result<Vec<Source<'s>>, NoMemory> {
+/// A file as the checker takes it.
+fn view_of<'s>(name: &'s str, text: &'s [u8]) -> Source<'s>
+    ensures name { result.name.now ≡ name.now }
+    ensures text { result.text.now ≡ text.now }
+{
+    Source {
+        name: name.as_bytes(),
+        text,
+    }
+}
+
+/// The files as the checker takes them, each with its own text.
+pub fn views_of<'s>(alloc: Global, sources: &'s Sources<'s>) -> Result<Vec<Source<'s>>, NoMemory>
+    requires { length (texts_of sources.now) ≡ length (names_of sources.now) }
+    ensures names { IfOk result (λ views. names_in views.items ≡ names_of sources.now) }
+    ensures texts { IfOk result (λ views. texts_in views.items ≡ texts_of sources.now) }
+{
     let mut views = Vec::new(alloc);
-    for (name, text) in names.iter().zip(texts) {
-        views.push(Source {
-            name: name.as_bytes(),
-            text: text.as_slice(),
-        })?;
+    'files: for (place, name) in sources.names.iter().enumerate() {
+        views.push(view_of(name, &sources.texts[place]))?;
     }
     Ok(views)
 }

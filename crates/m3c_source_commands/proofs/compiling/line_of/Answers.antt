@@ -8,11 +8,7 @@ pub returns : goal.returns
 returns c =
     let here : c.args.broken.pos.file < length c.args.names.now = grind (arith, nat_tests, c.in-Some.ensures.lookup.0) in
     record {
-      file = c.args.broken.pos.file;
       name = c.in-Some.name.now.now;
-      at = c.args.broken.pos.line;
-      column = c.args.broken.pos.col;
-      rule = c.args.broken.rule;
       text = c.in-Some-rule_text.text.now;
       named = named_at c.args.names.now c.args.broken.pos.file c.in-Some.name.now (slice_get_read c.args.names.now _ _ _ refl here c.in-Some.ensures.lookup.1);
       listed = sym c.in-Some-rule_text.ensures;

@@ -4,7 +4,7 @@ use Rattle.std.proofs.lemmas.List.{length-map}
 use Rattle.std.proofs.lemmas.Option.{slice_get_read}
 use Rattle.m3c_image_commands.specs.Statuses.{Shelving, shelving}
 use Rattle.m3c_source_commands.specs.Texts.{names_of, texts_of}
-use Rattle.m3c_source_commands.proofs.SourceLemmas.{reading_start, reading_more, reading_failed, reading_done, all_read, all_named, named_at}
+use Rattle.m3c_source_commands.proofs.SourceLemmas.{reading_start, reading_more, reading_failed, reading_done, all_read, all_named, all_even, named_at}
 use Rattle.m3c_source_commands.proofs.sources.fetch_sources.Goals as goal
 
 pub files-init : goal.files-init
@@ -30,6 +30,7 @@ returns-in-Err g c =
           (named_at c.args.files.now c.files.place c.in-Some.name.now (slice_get_read c.args.files.now _ _ _ refl c.files-test.true c.in-Some.ensures.lookup.1));
       read = tt;
       named = tt;
+      even = tt;
     }
 
 pub returns : goal.returns
@@ -41,4 +42,5 @@ returns g c =
       fetches = reading_done _ _ _ _ _ _ _ _ c.files.invariant;
       read = all_read _ files _ _ _ _ c.files.invariant ended;
       named = all_named _ files _ _ _ _ c.files.invariant ended;
+      even = all_even _ files _ _ _ _ c.files.invariant ended;
     }
