@@ -1,5 +1,5 @@
 -- Sound phrases, and how they are put together.
-use Rattle.std.proofs.Common.{◌≡◌, ℕ, Bool, true, false, List, [], ◌∷◌, ◌++◌, Option, Some, None, refl, sym, ap, ◌∙◌, subst}
+use Rattle.std.proofs.Common.{◌≡◌, Bool, true, false, List, [], ◌∷◌, ◌++◌, Option, Some, None, refl, sym, ap, ◌∙◌, subst}
 use Rattle.m3_base.specs.declared.outcomes.FaultKind.{FaultKind}
 use Rattle.m3_base.specs.declared.places.Pos.{Pos}
 use Rattle.m3_runs.specs.Languages.{Action, Answer}
@@ -10,10 +10,10 @@ use Rattle.m3_values.specs.Store.{Store, Memory, value_now}
 use Rattle.m3_source_meaning.specs.Meanings.{Told, Around, Now, Exits, End, Evaluates, given, fault, there, computed, unless, seeing, valued, acting, holding, holding_all, standing, ◌>>=◌}
 use Rattle.m3_source_typing.specs.Stores.{IsLater, IsTyped}
 use Rattle.m3_source_typing.specs.Points.{Fits, AnswerFits, new_cell}
-use Rattle.m3_source_typing.specs.Sound.{IsGood, IsDefined, AllFit, IsSound, AreSound, Gives, IsReadable}
+use Rattle.m3_source_typing.specs.Sound.{Owned, IsGood, IsDefined, AllFit, IsSound, AreSound, Gives, IsReadable}
 use Rattle.m3_source_typing.proofs.Staying.{now_itself, and_later, type_stays}
 
-module _ (p : Program) (own : ℕ → Option ℕ) where
+module _ (p : Program) (own : Owned) where
   same_sound : (f g : Now → End) (now : Now) → ((answers : List Told) → f (record now { answers = answers }) ≡ g (record now { answers = answers })) → IsSound p g now → IsSound p f now
   same_sound f g now same sound fit =
       subst IsDefined (sym (same now.answers))
@@ -77,6 +77,7 @@ module _ (p : Program) (own : ℕ → Option ℕ) where
       (and_later s m.store told.store l one.later)
       (record {
         store = subst (λ new. IsTyped p new told.store) (old told.answer) one.typed;
+        room = good.room;
         variables = λ x t is. let v = good.variables x t is in record { value = v.value; is = v.is; typed = type_stays p m.store told.store one.later v.value t v.typed };
       })
       one.answer

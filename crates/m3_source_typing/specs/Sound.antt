@@ -1,5 +1,5 @@
 -- WHAT IS WELL TYPED IS DEFINED: what this says of a phrase.
-use Rattle.std.specs.Prelude.{◌≡◌, ℕ, Bool, true, List, ◌∷◌, ◌++◌, Option, Some, None}
+use Rattle.std.specs.Prelude.{◌≡◌, ◌≤◌, ℕ, Bool, true, List, ◌∷◌, ◌++◌, length, Option, Some, None}
 use Rattle.m3_runs.specs.Languages.{Action}
 use Rattle.m3_values.specs.Values.{Value}
 use Rattle.m3_values.specs.Programs.{Program}
@@ -11,6 +11,12 @@ use Rattle.m3_source_meaning.specs.Travelling.{argument_type}
 use Rattle.m3_source_typing.specs.ValueTypes.{HasType}
 use Rattle.m3_source_typing.specs.Stores.{IsLater, IsTyped}
 use Rattle.m3_source_typing.specs.Points.{Fits, IsArgument}
+
+-- The own variables of an activation: how many its procedure declares, and which of them are known
+-- to be made, with their types.
+pub record Owned : Type 0 where
+  pub count : ℕ
+  pub kind : ℕ → Option ℕ
 
 -- how statements may be left beside their end and exceptions: by EXIT, where they stand in a loop,
 -- and by RETURN, with a value of the type of a result where there is one
@@ -43,12 +49,13 @@ module _ (p : Program) where
     pub is : thing_in m.own x ≡ Some (Is value)
     pub typed : HasType p m.store value t
 
-module _ (p : Program) (own : ℕ → Option ℕ) where
+module _ (p : Program) (own : Owned) where
   -- Memory is well typed: the store is, and the own variables of the activation that are known to
-  -- be made hold values of their types.
+  -- be made hold values of their types. There is room for the others.
   pub record IsGood (m : Memory) : Type 0 where
     pub store : IsTyped p None m.store
-    pub variables : (x t : ℕ) → own x ≡ Some t → HasOwn p m x t
+    pub room : own.count ≤ length m.own
+    pub variables : (x t : ℕ) → own.kind x ≡ Some t → HasOwn p m x t
 
   -- what follows a phrase that gives such things is sound, in every later well typed store
   pub record AreSound {A : Type 0} (s : Store) (P : Store → A → Type 0) (exits : Exits A)
