@@ -11,7 +11,7 @@ use Rattle.m3_source_meaning.specs.Meanings.{Evaluates, Acts, given, fault, ◌>
 use Rattle.m3_source_meaning.specs.Phrases.{Here, Expression}
 use Rattle.m3_source_meaning.specs.Branches.{Otherwise, Labelled, Typed as TypeBranchOf, if_true, otherwise_or, is_labelled, chosen, case_of, case_value, is_of_any, with_variable, type_case}
 use Rattle.m3_source_typing.specs.ValueTypes.{class_of, HasType}
-use Rattle.m3_source_typing.specs.Sound.{Owned, Leaving, Gives, IsOfType, Does}
+use Rattle.m3_source_typing.specs.Sound.{Scope, Leaving, Gives, IsOfType, Does}
 use Rattle.m3_source_typing.specs.Operators as rule
 use Rattle.m3_source_typing.specs.Operators.{is_references}
 use Rattle.m3_source_typing.specs.Statements.{branch_type, AreReferences}
@@ -22,7 +22,7 @@ use Rattle.m3_source_typing.proofs.Rows.{narrowed, tested}
 use Rattle.m3_source_typing.proofs.Leaving.{Nothing, DoesAll, with_value, gives_does, does_bind}
 use Rattle.m3_base.specs.declared.outcomes.FaultKind.{FaultKind}
 
-module _ (p : Program) (own : Owned) (here : Here) where
+module _ (p : Program) (own : Scope) (here : Here) where
   pub choice : (a : Leaving) (b : Bool) (missing body : Acts) → DoesAll p own a missing → DoesAll p own a body → DoesAll p own a (otherwise_or missing b body)
   choice a true missing body h g = g
   choice a false missing body h g = h

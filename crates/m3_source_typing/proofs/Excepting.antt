@@ -18,7 +18,7 @@ use Rattle.m3_source_meaning.specs.Expressions.{expression}
 use Rattle.m3_source_typing.specs.ValueTypes.{HasType}
 use Rattle.m3_source_typing.specs.Stores.{IsLater}
 use Rattle.m3_source_typing.specs.Points.{IsArgument}
-use Rattle.m3_source_typing.specs.Sound.{Owned, Leaving, IsSound, IsGood, AreSoundFor, Does}
+use Rattle.m3_source_typing.specs.Sound.{Scope, Leaving, IsSound, IsGood, AreSoundFor, Does}
 use Rattle.m3_source_typing.specs.Statements.{and_variable, HaveArgument, IsOptional, IsNew}
 use Rattle.m3_source_typing.proofs.Staying.{now_itself, and_later, type_stays}
 use Rattle.m3_source_typing.proofs.Combining.{given_sound, bind_sound}
@@ -28,7 +28,7 @@ use Rattle.m3_source_typing.proofs.Leaving.{Nothing, DoesAll, later_for, gives_d
 use Rattle.std.specs.Prelude.{◌||◌}
 use Rattle.m3_source_typing.proofs.Making.{does_variable}
 
-module _ (p : Program) (own : Owned) (here : Here) where
+module _ (p : Program) (own : Scope) (here : Here) where
   pub argument_stays : (s t : Store) → IsLater s t → (v : Option Value) (k : Option ℕ) → IsArgument p s v k → IsArgument p t v k
   argument_stays s t l v None h = tt
   argument_stays s t l None (Some k) h = h

@@ -24,7 +24,7 @@ use Rattle.m3_source_meaning.specs.Assignment.{type_of_variable}
 use Rattle.m3_source_meaning.specs.Expressions.{expression, chain, plain, of_operations, type_of}
 use Rattle.m3_source_meaning.proofs.Trees as trees
 use Rattle.m3_source_typing.specs.ValueTypes.{class_in, class_of, HasType}
-use Rattle.m3_source_typing.specs.Sound.{Owned, Gives, IsReadable, IsOfType}
+use Rattle.m3_source_typing.specs.Sound.{Scope, Gives, IsReadable, IsOfType}
 use Rattle.m3_source_typing.specs.Operators as rule
 use Rattle.m3_source_typing.specs.Operators.{is_text_in}
 use Rattle.m3_source_typing.specs.Expressions as typed
@@ -36,7 +36,7 @@ use Rattle.m3_source_typing.proofs.Operands as operand
 use Rattle.m3_source_typing.proofs.Operating.{Typed, typed_given, text_node}
 use Rattle.m3_source_typing.proofs.Places.{IsGiven, thing_given, readable, global_place, given_stays}
 use Rattle.m3_source_typing.proofs.Chains as chains
-use Rattle.m3_source_typing.proofs.Chains.{TypedStep, TypedSteps, TypedBase, TypedChain, read_sound, keep_sound, field_sound, element_sound, chain_sound, of_chain_sound, own_sound}
+use Rattle.m3_source_typing.proofs.Chains.{TypedStep, TypedSteps, TypedBase, TypedChain, read_sound, keep_sound, field_sound, element_sound, dereference_sound, object_field_sound, chain_sound, of_chain_sound, own_sound, name_sound}
 use Rattle.m3_source_typing.proofs.Sameness.{share_values}
 use Rattle.m3_source_typing.proofs.Rows as rows
 use Rattle.m3_source_typing.proofs.Rows.{TypedRow, row_sound, prefix_form, range_form, narrow_form, test_form}
@@ -46,7 +46,7 @@ use Rattle.m3_source_typing.proofs.Constructing.{TypedElements, TypedFields, fie
 pub types_stay : TypesStay
 types_stay p s t v kind l h = type_stays p s t l v kind h
 
-module _ (p : Program) (own : Owned) (here : Here) where
+module _ (p : Program) (own : Scope) (here : Here) where
   -- what is no place can be read
   unread_sound : (e : Evaluates Value) (t : ℕ) → ((s : Store) → Gives p own s (Typed p t) e) → (s : Store) → Gives p own s (IsReadable p own) (e >>= (λ v. given (Is v)))
   unread_sound e t h s = bind_sound p own s (Typed p t) (IsReadable p own) _ _ (h s) (λ v k l q. given_sound p own k (IsReadable p own) (Is v) (λ m g. record { reads = λ n d typed. (v, refl) }))
@@ -157,15 +157,22 @@ module _ (p : Program) (own : Owned) (here : Here) where
         let g : Given = PlaceOf true (type_of_variable v.kind) in
         subst (λ b. TypedBase p own here b g) (sym (trees.base_is p here (layer.Global x kind)))
         (record {
-          thing = λ at s. thing_given p own g s (At (whole (Global x))) (global_place p own s x v is fixed);
-          unread = λ at s. given_sound p own s (IsReadable p own) (At (whole (Global x))) (λ u l. readable p own g u (At (whole (Global x))) (global_place p own u x v is fixed));
+          thing = λ at s. thing_given p own g s (At (whole (Global x))) (global_place p own.holds s x v is fixed);
+          unread = λ at s. given_sound p own s (IsReadable p own) (At (whole (Global x))) (λ u l. readable p own g u (At (whole (Global x))) (global_place p own.holds u x v is fixed));
         })
     base_typed _ _ (typed.own_variable level x kind t mine is fixed) =
         let g : Given = PlaceOf true t in
         subst (λ b. TypedBase p own here b g) (sym (trees.base_is p here (layer.Local level x kind)))
         (record {
           thing = λ at s. own_sound p own here level x t mine is fixed s;
-          unread = λ at s. bind_sound p own s (IsGiven p own g) (IsReadable p own) _ given (own_sound p own here level x t mine is fixed s) (λ thing u l q. given_sound p own u (IsReadable p own) thing (λ w k. readable p own g w thing (given_stays p own g u w thing k q)));
+          unread = λ at s. bind_sound p own s (IsGiven p own.holds g) (IsReadable p own) _ given (own_sound p own here level x t mine is fixed s) (λ thing u l q. given_sound p own u (IsReadable p own) thing (λ w k. readable p own g w thing (given_stays p own.holds g u w thing k q)));
+        })
+    base_typed _ _ (typed.own_name level x kind a mine is knows) =
+        let g : Given = PlaceOf a.is_variable a.kind in
+        subst (λ b. TypedBase p own here b g) (sym (trees.base_is p here (layer.Alias level x kind)))
+        (record {
+          thing = λ at s. name_sound p own here level x a mine is knows s;
+          unread = λ at s. bind_sound p own s (IsGiven p own.holds g) (IsReadable p own) _ given (name_sound p own here level x a mine is knows s) (λ thing u l q. given_sound p own u (IsReadable p own) thing (λ w k. readable p own g w thing (given_stays p own.holds g u w thing k q)));
         })
     base_typed _ _ (typed.inner c g is) =
         let known = chain_typed c.now g is in
@@ -175,7 +182,7 @@ module _ (p : Program) (own : Owned) (here : Here) where
         let known = expression_sound e.now t is in
         subst (λ b. TypedBase p own here b (ValueOf t)) (sym (trees.base_is p here (layer.Base::Value e)))
         (record {
-          thing = λ at s. bind_sound p own s (Typed p t) (IsGiven p own (ValueOf t)) _ _ (known.value s) (λ v u l q. thing_given p own (ValueOf t) u (Is v) q);
+          thing = λ at s. bind_sound p own s (Typed p t) (IsGiven p own.holds (ValueOf t)) _ _ (known.value s) (λ v u l q. thing_given p own (ValueOf t) u (Is v) q);
           unread = λ at s. known.unread s;
         })
 
@@ -193,6 +200,12 @@ module _ (p : Program) (own : Owned) (here : Here) where
     step_typed _ _ _ (typed.field n kind b t f is there fixed) =
         subst (λ x. TypedStep p own here (PlaceOf b t) x (PlaceOf b f.kind.0)) (sym (trees.step_is p here (layer.Field n kind)))
         (record { goes = λ before s thing g. field_sound p own here n b t f is there fixed s thing g })
+    step_typed _ _ _ (typed.dereference kind t k e objects) =
+        subst (λ x. TypedStep p own here (ValueOf t) x (PlaceOf true k)) (sym (trees.step_is p here (layer.Dereference kind)))
+        (record { goes = λ before s thing g. dereference_sound p own here before.pos t k e objects s thing g })
+    step_typed _ _ _ (typed.object_field owner n kind t u c have fixed) =
+        subst (λ x. TypedStep p own here (ValueOf t) x (PlaceOf true u)) (sym (trees.step_is p here (layer.ObjectField owner n kind)))
+        (record { goes = λ before s thing g. object_field_sound p own here before.pos owner.0 n t u c have fixed s thing g })
     step_typed _ _ _ (typed.element_of index kind b t e i is of indexed numbers) =
         subst (λ x. TypedStep p own here (PlaceOf b t) x (PlaceOf b e)) (sym (trees.step_is p here (layer.Element index kind)))
         (record { goes = λ before s thing g. element_sound p own here (expression p here index.now) b t e i is of (expression_sound index.now i indexed) numbers before.kind s thing g })

@@ -12,11 +12,11 @@ use Rattle.m3_source_meaning.specs.Travelling.{argument_type}
 use Rattle.m3_source_typing.specs.ValueTypes.{HasType}
 use Rattle.m3_source_typing.specs.Stores.{IsLater}
 use Rattle.m3_source_typing.specs.Points.{IsArgument}
-use Rattle.m3_source_typing.specs.Sound.{Owned, Leaving, IsDefined, IsSound, IsGood, Gives, AreSoundFor, Does, IsOfType}
+use Rattle.m3_source_typing.specs.Sound.{Owned, Knows, Becomes, Scope, Leaving, IsDefined, IsSound, IsGood, Gives, AreSoundFor, Does, IsOfType}
 use Rattle.m3_source_typing.proofs.Staying.{now_itself, and_later}
 use Rattle.m3_source_typing.proofs.Combining.{later_exits}
 use Rattle.m3_source_typing.proofs.Operating.{Typed}
-use Rattle.m3_source_typing.proofs.Places.{Becomes}
+use Rattle.m3_source_typing.proofs.Places.{good_after}
 
 length_front : {A : Type 0} (xs ys : List A) → length xs ≤ length (xs ++ ys)
 length_front [] ys = omega arith
@@ -32,7 +32,7 @@ same_so_far p f g now same sound fit =
     let less : length before ≤ length now.answers = subst (λ xs. length before ≤ length xs) (sym is) front in
     fit before after told action standing s is (same before less ∙ leads)))
 
-module _ (p : Program) (own : Owned) (a : Leaving) where
+module _ (p : Program) (own : Scope) (a : Leaving) where
   pub later_for : {A : Type 0} (s t : Store) (P : Store → A → Type 0) (exits : Exits A) → IsLater s t → AreSoundFor p own a s P exits → AreSoundFor p own a t P exits
   later_for s t P exits h b = record {
     after = later_exits p own s t P exits h b.after;
@@ -80,13 +80,13 @@ module _ (p : Program) (own : Owned) (a : Leaving) where
   pub does_return : (s : Store) (v : Option Value) → ((t : Store) → IsLater s t → IsArgument p t v a.result) → Does p own a s Nothing (returning v)
   does_return s v h = record { ends = λ around now exits l good b. b.return v now l good (h now.memory.store l) }
 
-  pub does_change : (s : Store) (change : Memory → Option Memory) → ((m : Memory) → IsLater s m.store → IsGood p own m → Becomes p own m (change m)) → Does p own a s Nothing (changing change)
-  does_change s change h = record {
+  pub does_change : (s : Store) (known : Owned) (change : Memory → Option Memory) → Knows known own.holds → ((m : Memory) → IsLater s m.store → IsGood p own m → Becomes p known m (change m)) → Does p own a s Nothing (changing change)
+  does_change s known change k h = record {
     ends = λ around now exits l good b.
         let n = h now.memory l good in
         same_so_far p (λ later. changing change around later exits) (λ later. exits.gives tt (record later { memory = n.after })) now
         (λ answers less. ap (λ o. (there o >>= (λ memory around later exits. exits.gives tt (record later { memory = memory }))) around (record now { answers = answers }) exits) n.is)
-        (b.after.gives tt (record now { memory = n.after }) (and_later s now.memory.store n.after.store l n.later) n.good tt);
+        (b.after.gives tt (record now { memory = n.after }) (and_later s now.memory.store n.after.store l n.later) (good_after p own known now.memory (change now.memory) k good n) tt);
   }
 
   pub does_in_scope : {A : Type 0} (s : Store) (P : Store → A → Type 0) (xs : List ℕ) (e : Evaluates A) → Does p own a s P e → Does p own a s P (in_scope xs e)

@@ -6,6 +6,7 @@ pub mod Rows
 pub mod Constructing
 pub mod Parts
 pub mod Places
+pub mod Referents
 pub mod Chains
 pub mod Expressions
 pub mod Leaving

@@ -129,7 +129,7 @@ module _ (p : Program) where
   element_there s (value.More v vs) below (Some k) e zero h is less = let q : Some k ≡ Some e = is in let same : k ≡ e = cc in (v, refl, subst (HasType p s v) same h.0, h.1)
   element_there s (value.More v vs) below (Some k) e (suc i) h is less = element_there s vs below (Some k) e i h.2 is (omega arith)
 
-  fields_set : (s : Store) (vs : Values) (fs : List Field) (n : ℕ) (f : Field) (v : Value) → AreFields p s vs fs → slice_get fs n ≡ Some f → HasType p s v f.kind.0 → AreFields p s (row_of (slice_set (items vs) n v)) fs
+  pub fields_set : (s : Store) (vs : Values) (fs : List Field) (n : ℕ) (f : Field) (v : Value) → AreFields p s vs fs → slice_get fs n ≡ Some f → HasType p s v f.kind.0 → AreFields p s (row_of (slice_set (items vs) n v)) fs
   fields_set s value.End [] n f v h e g = h
   fields_set s value.End (k ∷ fs) n f v h e g = absurd h
   fields_set s (value.More u vs) [] n f v h e g = absurd h

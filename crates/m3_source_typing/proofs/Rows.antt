@@ -21,7 +21,7 @@ use Rattle.m3_source_meaning.specs.Meanings.{given, seeing, ◌>>=◌}
 use Rattle.m3_source_meaning.specs.Phrases.{Expression, Operated}
 use Rattle.m3_source_meaning.specs.Operators as meaning
 use Rattle.m3_source_typing.specs.ValueTypes.{Class, OfNumbers, OfReferences, OfProcedures, OfSets, OfRecords, OfArrays, NoType, class_in, class_of, IsOfNil, IsNumberOf, HasType}
-use Rattle.m3_source_typing.specs.Sound.{Owned, Gives, IsReadable, IsOfType}
+use Rattle.m3_source_typing.specs.Sound.{Scope, Gives, IsReadable, IsOfType}
 use Rattle.m3_source_typing.specs.Operators as rule
 use Rattle.m3_source_typing.specs.Operators.{is_numbers, is_references}
 use Rattle.m3_source_typing.proofs.Staying.{and_later, type_stays}
@@ -30,11 +30,11 @@ use Rattle.m3_source_typing.proofs.Operands.{left_true, right_true, number_of}
 use Rattle.m3_source_typing.proofs.Operating.{Typed, typed_given, truth_given, identical_sound, operated_sound, prefixed_sound}
 
 -- operators in a row, from an operand of a type on to a result
-pub data TypedRow (p : Program) (own : Owned) : ℕ → List Operated → ℕ → Type 0 where
+pub data TypedRow (p : Program) (own : Scope) : ℕ → List Operated → ℕ → Type 0 where
   none : (t : ℕ) → TypedRow p own t [] t
   more : (t right kind result : ℕ) (o : Operated) (os : List Operated) → IsOfType p own o.right right → rule.operator_fits p o.operator t right kind ≡ true → TypedRow p own kind os result → TypedRow p own t (o ∷ os) result
 
-module _ (p : Program) (own : Owned) where
+module _ (p : Program) (own : Scope) where
   structures : (o : Operator) (to : Pos) (e : Expression) (kind : Option ℕ) (t r u : ℕ) (s : Store) (v w : Value) → rule.operator_fits p o t r u ≡ true → meaning.is_structural o ≡ true → Gives p own s (Typed p u) (meaning.compared_by (meaning.relation_of o) compared.Structures v w)
   structures (operator.Compare x compared.Structures) to e kind t r u s v w fits so = identical_sound p own x u s v w (right_true _ _ (left_true _ (rule.is_boolean p u) fits)) (right_true _ (rule.is_boolean p u) fits)
   structures (operator.Compare x compared.Ordinals) to e kind t r u s v w fits so = absurd (let bad : false ≡ true = so in cc)

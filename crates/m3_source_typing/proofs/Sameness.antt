@@ -15,14 +15,14 @@ use Rattle.m3_values.specs.Values.{Value, Values, same_list}
 use Rattle.m3_values.specs.Arrays.{shape}
 use Rattle.m3_values.specs.Programs.{Program, procedure_at}
 use Rattle.m3_values.specs.Sameness.{mode_code}
-use Rattle.m3_values.specs.Types.{bounds, node_of, members, element, elements, index_in, is_open, is_object_in, size_said, sizes_to, depth, formals_in, is_same, is_below, line, unveiled}
+use Rattle.m3_values.specs.Types.{bounds, node_of, members, element, elements, target_in, index_in, is_open, is_object_in, size_said, sizes_to, depth, formals_in, is_same, is_below, line, unveiled}
 use Rattle.m3_values.specs.Store as store
 use Rattle.m3_values.specs.Store.{Cell, Store, cell_at, cell_has_type, has_type, is_text_type, is_thread_type}
 use Rattle.m3_source_typing.specs.ValueTypes.{class_of, member_in, record_fields, result_in, same_mode, same_formal, same_result, called_alike, IsOfNil, IsNumberOf, AreMembersOf, IsProcedureOf, HasType, AreFields, AreElements, has_sizes}
 use Rattle.m3_source_typing.specs.Laws.{SameTypesShareValues}
 use Rattle.m3_source_typing.proofs.Operands.{left_true, right_true, both_true}
-use Rattle.m3_source_typing.proofs.Depths.{same_is, same_itself, same_then, list_then}
-use Rattle.m3_source_typing.proofs.Heads.{code_of, first_of, rest_of, pick, row_if, part_if, class_by, bounds_by, size_by, made_by, opaque_by, modes_by, has_result_by, element_place, member_place, index_place, result_by, field_kind, formal_kind, formal_mode, known, bounds_known, size_known, fields_known, formals_known, modes_known, result_known, IsPlain, opaque_or}
+use Rattle.m3_source_typing.proofs.Depths.{same_is, same_itself, same_flipped, same_then, list_then}
+use Rattle.m3_source_typing.proofs.Heads.{code_of, first_of, rest_of, pick, row_if, part_if, class_by, bounds_by, size_by, made_by, opaque_by, modes_by, has_result_by, element_place, member_place, target_place, index_place, result_by, field_kind, formal_kind, formal_mode, known, bounds_known, size_known, fields_known, formals_known, modes_known, result_known, IsPlain, opaque_or}
 
 any_more : (f g : ℕ → Bool) → ((x : ℕ) → f x ≡ true → g x ≡ true) → (xs : List ℕ) → list_any f xs ≡ true → list_any g xs ≡ true
 any_more f g h [] e = e
@@ -42,7 +42,7 @@ made_more n object a b h e = at (n == 16) (n == 19) object e
     at false false object e = h e
 
 module _ (p : Program) where
-  abbrev Same : ℕ → ℕ → Type 0
+  abbrev pub Same : ℕ → ℕ → Type 0
   Same t u = is_same p t u ≡ true
 
   abbrev AreSame : List ℕ → List ℕ → Type 0
@@ -59,6 +59,9 @@ module _ (p : Program) where
 
   itself : (t : ℕ) → Same t t
   itself t = same_itself p.nodes (depth p) t
+
+  pub flipped : (t u : ℕ) → Same t u → Same u t
+  flipped t u e = same_flipped p.nodes (depth p) t u e
 
   pub and_then : (t u v : ℕ) → Same t u → Same u v → Same t v
   and_then t u v e f = same_then p.nodes (depth p) t u v e f
@@ -81,7 +84,7 @@ module _ (p : Program) where
 
   -- ---- parts
 
-  abbrev BothSame : Option ℕ → Option ℕ → Type 0
+  abbrev pub BothSame : Option ℕ → Option ℕ → Type 0
   BothSame None None = Unit {0}
   BothSame (Some t) (Some u) = Same t u
   BothSame _ _ = ⊥
@@ -113,6 +116,9 @@ module _ (p : Program) where
 
   member_same : (t u : ℕ) → Same t u → BothSame (member_in (node_of p t)) (member_in (node_of p u))
   member_same t u e = by_place (λ t. member_in (node_of p t)) member_place (λ t. (known p t (node_of p t)).member) t u e
+
+  pub target_same : (t u : ℕ) → Same t u → BothSame (target_in (node_of p t)) (target_in (node_of p u))
+  target_same t u e = by_place (λ t. target_in (node_of p t)) target_place (λ t. (known p t (node_of p t)).target) t u e
 
   index_same : (t u : ℕ) → Same t u → BothSame (index_in (node_of p t)) (index_in (node_of p u))
   index_same t u e = by_place (λ t. index_in (node_of p t)) index_place (λ t. (known p t (node_of p t)).index) t u e

@@ -26,7 +26,7 @@ use Rattle.m3_source_meaning.proofs.Trees as trees
 use Rattle.m3_source_laws.specs.Limits.{while_turn, repeat_turn}
 use Rattle.m3_source_laws.proofs.Turns.{body_takes, while_takes, repeat_takes, body_counts, test_counts}
 use Rattle.m3_source_typing.specs.Points.{IsArgument}
-use Rattle.m3_source_typing.specs.Sound.{Owned, Leaving, IsDefined}
+use Rattle.m3_source_typing.specs.Sound.{Scope, Leaving, IsDefined}
 use Rattle.m3_source_typing.specs.Expressions.{PlaceOf}
 use Rattle.m3_source_typing.specs.Statements as typed
 use Rattle.m3_source_typing.specs.Statements.{inside, and_variable, branch_type, IsStatement, AreStatements, AreArms, IsElse, AreBranches, AreTypeBranches, AreHandlers}
@@ -45,7 +45,7 @@ use Rattle.m3_source_typing.proofs.Excepting.{AreHandling, argument_stays, optio
 
 module _ (p : Program) (here : Here) where
   mutual
-    statement_sound : (own : Owned) (a : Leaving) (s : CoreStmt) → IsStatement p here own a s → DoesAll p own a (meaning.statement p here s)
+    statement_sound : (own : Scope) (a : Leaving) (s : CoreStmt) → IsStatement p here own a s → DoesAll p own a (meaning.statement p here s)
     statement_sound _ _ _ (typed.assign own a at target e checks t to is fits) =
         subst (DoesAll p own a) (sym (trees.statement_is p here (statement.Assign at target e checks)))
         (assignment_sound p own here a (chain p here target.now) (expression p here e.now) t checks (chain_typed p own here target.now (PlaceOf true t) to) (expression_sound p own here e.now t is) fits)
@@ -97,29 +97,29 @@ module _ (p : Program) (here : Here) where
         subst (DoesAll p own a) (sym (trees.statement_is p here (statement.TryFinally at body last)))
         (finally_sound p own here a _ _ (all_sound own a body.now all) (all_sound own a last.now more))
 
-    pub all_sound : (own : Owned) (a : Leaving) (ss : List CoreStmt) → AreStatements p here own a ss → DoesAll p own a (in_turn (map (meaning.statement p here) ss))
+    pub all_sound : (own : Scope) (a : Leaving) (ss : List CoreStmt) → AreStatements p here own a ss → DoesAll p own a (in_turn (map (meaning.statement p here) ss))
     all_sound _ _ _ (typed.no_statements own a) = λ s. does_done p own a s
     all_sound _ _ _ (typed.one_statement own a x xs is more) =
         λ s. does_then p own a s (meaning.statement p here x) (in_turn (map (meaning.statement p here) xs)) (statement_sound own a x is s) (λ t l. all_sound own a xs more t)
 
-    arms_sound : (own : Owned) (a : Leaving) (arms : List Arm) → AreArms p here own a arms → (e : Otherwise) → DoesAll p own a e.body → DoesAll p own a (if_else (map (trees.arm p here) arms) e)
+    arms_sound : (own : Scope) (a : Leaving) (arms : List Arm) → AreArms p here own a arms → (e : Otherwise) → DoesAll p own a e.body → DoesAll p own a (if_else (map (trees.arm p here) arms) e)
     arms_sound _ _ _ (typed.no_arms own a) e h = choice p own here a e.is_written done e.body (λ s. does_done p own a s) h
     arms_sound _ _ _ (typed.one_arm own a condition body arms t is truth all more) e h =
         subst (λ arm. DoesAll p own a (if_else (arm ∷ map (trees.arm p here) arms) e)) (sym (trees.arm_is p here (record { condition = condition; body = body })))
         (on_truth p own here a (expression p here condition.now) t _ _ (expression_sound p own here condition.now t is) truth (all_sound own a body.now all) (arms_sound own a arms more e h))
 
-    else_sound : (own : Owned) (a : Leaving) (e : Else) → IsElse p here own a e → DoesAll p own a (trees.otherwise p here e).body
+    else_sound : (own : Scope) (a : Leaving) (e : Else) → IsElse p here own a e → DoesAll p own a (trees.otherwise p here e).body
     else_sound _ _ _ (typed.otherwise own a is_written body all) =
         subst (λ (e : Otherwise). DoesAll p own a e.body) (sym (trees.otherwise_is p here (record { is_written = is_written; body = body })))
         (all_sound own a body.now all)
 
-    branches_sound : (own : Owned) (a : Leaving) (bs : List CaseBranch) → AreBranches p here own a bs → AreLabelled p own here a (map (trees.branch p here) bs)
+    branches_sound : (own : Scope) (a : Leaving) (bs : List CaseBranch) → AreBranches p here own a bs → AreLabelled p own here a (map (trees.branch p here) bs)
     branches_sound _ _ _ (typed.no_branches own a) = branching.no_labels
     branches_sound _ _ _ (typed.one_branch own a ranges body bs all more) =
         subst (λ b. AreLabelled p own here a (b ∷ map (trees.branch p here) bs)) (sym (trees.branch_is p here (record { ranges = ranges; body = body })))
         (branching.labels (record { ranges = ranges.now; body = meaning.statements p here body.now }) (map (trees.branch p here) bs) (all_sound own a body.now all) (branches_sound own a bs more))
 
-    types_sound : (own : Owned) (a : Leaving) (t : ℕ) (bs : List TypeBranch) → AreTypeBranches p here own a t bs → AreTypes p own here a t (map (trees.type_branch p here) bs)
+    types_sound : (own : Scope) (a : Leaving) (t : ℕ) (bs : List TypeBranch) → AreTypeBranches p here own a t bs → AreTypes p own here a t (map (trees.type_branch p here) bs)
     types_sound _ _ _ _ (typed.no_types own a t) = branching.no_types
     types_sound _ _ _ _ (typed.types own a t ts body bs from all more) =
         subst (λ b. AreTypes p own here a t (b ∷ map (trees.type_branch p here) bs)) (sym (trees.type_branch_is p here (record { types = ts; variable = None; body = body })))
@@ -129,7 +129,7 @@ module _ (p : Program) (here : Here) where
         (branching.types (record { types = ts.now; variable = Some x; body = meaning.statements p here body.now }) (map (trees.type_branch p here) bs) from
         (λ v s q. does_variable p here own a s x (branch_type t ts.now) v (meaning.statements p here body.now) new q (all_sound (and_variable x (branch_type t ts.now) own) a body.now all)) (types_sound own a t bs more))
 
-    handlers_sound : (own : Owned) (a : Leaving) (hs : List Handler) → AreHandlers p here own a hs → AreHandling p own here a (map (trees.handler p here) hs)
+    handlers_sound : (own : Scope) (a : Leaving) (hs : List Handler) → AreHandlers p here own a hs → AreHandling p own here a (map (trees.handler p here) hs)
     handlers_sound _ _ _ (typed.no_handlers own a) = excepting.no_handling
     handlers_sound _ _ _ (typed.handler own a exceptions body hs all more) =
         subst (λ h. AreHandling p own here a (h ∷ map (trees.handler p here) hs)) (sym (trees.handler_is p here (record { exceptions = exceptions; variable = None; body = body })))

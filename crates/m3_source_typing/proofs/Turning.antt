@@ -9,7 +9,7 @@ use Rattle.m3_source_meaning.specs.Meanings.{Evaluates, Acts, given, done, actin
 use Rattle.m3_source_meaning.specs.Phrases.{Here, Expression}
 use Rattle.m3_source_meaning.specs.Loops.{ends_normally, passing, body_turn, truth_of, test}
 use Rattle.m3_source_laws.specs.Limits.{while_turn, repeat_turn}
-use Rattle.m3_source_typing.specs.Sound.{Owned, Leaving, Gives, IsOfType, Does}
+use Rattle.m3_source_typing.specs.Sound.{Scope, Leaving, Gives, IsOfType, Does}
 use Rattle.m3_source_typing.specs.Operators as rule
 use Rattle.m3_source_typing.specs.Statements.{inside}
 use Rattle.m3_source_typing.proofs.Combining.{given_sound, bind_sound, acting_sound}
@@ -17,7 +17,7 @@ use Rattle.m3_source_typing.proofs.Operands.{left_true, number_of}
 use Rattle.m3_source_typing.proofs.Operating.{Typed}
 use Rattle.m3_source_typing.proofs.Leaving.{Nothing, DoesAll, gives_does, does_given, does_bind}
 
-module _ (p : Program) (own : Owned) (here : Here) where
+module _ (p : Program) (own : Scope) (here : Here) where
   truth_given : (z : ℤ) (s : Store) → Gives p own s (λ u b. Unit {0}) (truth_of (value.Ordinal z))
   truth_given (pos zero) s = given_sound p own s _ false (λ t l. tt)
   truth_given (pos (suc n)) s = given_sound p own s _ true (λ t l. tt)

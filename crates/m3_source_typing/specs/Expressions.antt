@@ -22,13 +22,13 @@ use Rattle.m3_core.specs.declared.values.ValueId.{ValueId}
 use Rattle.m3_values.specs.Values.{Value}
 use Rattle.m3_values.specs.Programs.{Program, procedure_at}
 use Rattle.m3_values.specs.Constants.{constant_at}
-use Rattle.m3_values.specs.Store.{Store}
+use Rattle.m3_values.specs.Store.{Store, is_text_type, is_thread_type, is_made_type}
 use Rattle.m3_source_meaning.specs.Phrases.{Here}
 use Rattle.m3_source_meaning.specs.Designators.{is_own}
 use Rattle.m3_source_meaning.specs.Assignment.{type_of_variable}
-use Rattle.m3_values.specs.Types.{bounds, node_of, element, is_same}
-use Rattle.m3_source_typing.specs.ValueTypes.{OfProcedures, OfRecords, OfArrays, HasType, HasFixedSizes, class_of, member_in, record_fields, IsOfNil, IsNumberOf, IsProcedureOf}
-use Rattle.m3_source_typing.specs.Sound.{Owned}
+use Rattle.m3_values.specs.Types.{bounds, node_of, element, target_in, parent, is_object_in, unveiled, object_fields, object_field as field_of_object, is_same}
+use Rattle.m3_source_typing.specs.ValueTypes.{OfReferences, OfProcedures, OfRecords, OfArrays, HasType, HasFixedSizes, class_of, member_in, record_fields, IsOfNil, IsNumberOf, IsProcedureOf}
+use Rattle.m3_source_typing.specs.Sound.{Knows, Alias, Scope}
 use Rattle.m3_source_typing.specs.Operators.{is_ordinal, is_boolean, is_text_in, is_part, is_references, prefixes_fit, operator_fits}
 
 -- what a chain gives up to a step: a place of a type, which is a variable or not, or a value of one
@@ -42,8 +42,27 @@ HasEachField fields ns =
     (length ns ≡ length fields)
     × ((n : ℕ) → n < length fields → list_any (λ m. m == n) ns ≡ true)
 
+-- what has subtypes by declaration is an object type
+abbrev pub ParentsAreObjects : Program → Type 0
+ParentsAreObjects p = (t u : ℕ) → parent p t ≡ Some u → is_object_in (node_of p u) ≡ true
+
+-- the cells of an object type have a field of a type at a place
+pub record HasField (p : Program) (kind n u : ℕ) : Type 0 where
+  pub object : is_object_in (node_of p kind) ≡ true
+  pub field : Field
+  pub there : slice_get (object_fields p kind) n ≡ Some field
+  pub same : is_same p field.kind.0 u ≡ true
+
+-- Each cell that is a value of a reference type has such a field: so none of them is a text or a
+-- thread.
+pub record HaveField (p : Program) (t n u : ℕ) : Type 0 where
+  pub no_text : is_text_type p (node_of p (unveiled p t)) ≡ false
+  pub no_thread : is_thread_type p (node_of p (unveiled p t)) ≡ false
+  pub each : (kind : ℕ)
+      → is_made_type p kind (unveiled p t) (node_of p (unveiled p t)) ≡ true → HasField p kind n u
+
 -- in an activation of whose own variables these are made, and have these types
-module _ (p : Program) (here : Here) (own : Owned) where
+module _ (p : Program) (here : Here) (own : Scope) where
   mutual
     -- THE EXPRESSION IS WELL TYPED, and of this type
     pub data IsExpression : CoreExpr → ℕ → Type 0 where
@@ -142,8 +161,12 @@ module _ (p : Program) (here : Here) (own : Owned) where
           → IsBase (roll-Base (layer.Global x kind)) (PlaceOf true (type_of_variable v.kind))
       -- a variable of the activation that is made and that nobody else can reach
       own_variable : (level x : ℕ) (kind : TypeId) (t : ℕ) → is_own p here level x ≡ true
-          → own.kind x ≡ Some t → HasFixedSizes p t
+          → own.holds.kind x ≡ Some t → HasFixedSizes p t
           → IsBase (roll-Base (layer.Local level x kind)) (PlaceOf true t)
+      -- a name that stands for a place
+      own_name : (level x : ℕ) (kind : TypeId) (a : Alias) → is_own p here level x ≡ true
+          → own.names x ≡ Some a → Knows a.known own.holds
+          → IsBase (roll-Base (layer.Alias level x kind)) (PlaceOf a.is_variable a.kind)
       inner : (c : Bor Chain) (g : Given) → IsChain c.now g
           → IsBase (roll-Base (layer.Inner c)) g
       value : (e : Bor CoreExpr) (t : ℕ) → IsExpression e.now t
@@ -165,6 +188,15 @@ module _ (p : Program) (here : Here) (own : Owned) where
           → HasFixedSizes p f.kind.0
           → IsStep (PlaceOf is_variable t) (roll-Step (layer.Field n kind))
           (PlaceOf is_variable f.kind.0)
+      -- the referent of a reference: NIL is a fault
+      dereference : (kind : TypeId) (t target : ℕ) → target_in (node_of p t) ≡ Some target
+          → ParentsAreObjects p
+          → IsStep (ValueOf t) (roll-Step (layer.Dereference kind)) (PlaceOf true target)
+      -- a field of an object: NIL is a fault
+      object_field : (owner : TypeId) (n : ℕ) (kind : TypeId) (t u : ℕ)
+          → class_of p t ≡ OfReferences → HaveField p t (field_of_object p owner.0 n) u
+          → HasFixedSizes p u
+          → IsStep (ValueOf t) (roll-Step (layer.ObjectField owner n kind)) (PlaceOf true u)
       element_of : (index : Bor CoreExpr) (kind : TypeId) (is_variable : Bool) (t e i : ℕ)
           → class_of p t ≡ OfArrays → element p t ≡ Some e → IsExpression index.now i
           → is_ordinal p i ≡ true

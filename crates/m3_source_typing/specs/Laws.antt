@@ -15,7 +15,7 @@ use Rattle.m3_source_meaning.specs.Procedures.{ways_out}
 use Rattle.m3_source_meaning.specs.Expressions.{expression}
 use Rattle.m3_source_typing.specs.ValueTypes.{HasType}
 use Rattle.m3_source_typing.specs.Stores.{IsLater}
-use Rattle.m3_source_typing.specs.Sound.{Owned, IsDefined, AllFit, IsGood, IsOfType}
+use Rattle.m3_source_typing.specs.Sound.{Scope, IsDefined, AllFit, IsGood, IsOfType}
 use Rattle.m3_source_typing.specs.Expressions.{IsExpression}
 use Rattle.m3_source_typing.specs.Statements.{AreStatements}
 
@@ -38,14 +38,14 @@ result_of q = option_map (λ (t : TypeId). t.0) q.result
 -- type.
 abbrev pub ExpressionsAreSound : Type 0
 ExpressionsAreSound =
-    (p : Program) (here : Here) (own : Owned) (e : CoreExpr) (t : ℕ) →
+    (p : Program) (here : Here) (own : Scope) (e : CoreExpr) (t : ℕ) →
     IsExpression p here own e t → IsOfType p own (expression p here e) t
 
 -- THE BODY OF A PROCEDURE IS DEFINED whose statements are well typed: where each answer fits, no
 -- list of answers leads it to what isn't defined.
 abbrev pub BodiesAreSound : Type 0
 BodiesAreSound =
-    (p : Program) (here : Here) (own : Owned) (q : ProcDef) (around : Around) (now : Now) →
+    (p : Program) (here : Here) (own : Scope) (q : ProcDef) (around : Around) (now : Now) →
     AreStatements p here own (record { in_loop = false; result = result_of q }) q.body.now →
     IsGood p own now.memory →
     AllFit p (λ later. statements p here q.body.now around later (ways_out p q)) now →

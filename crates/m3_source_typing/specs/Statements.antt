@@ -26,7 +26,7 @@ use Rattle.m3_source_meaning.specs.Designators.{is_shared_here}
 use Rattle.m3_source_meaning.specs.Assignment.{declared, type_of_variable}
 use Rattle.m3_source_meaning.specs.Travelling.{argument_type}
 use Rattle.m3_source_typing.specs.ValueTypes.{class_of, HasType, HasFixedSizes}
-use Rattle.m3_source_typing.specs.Sound.{Owned, Leaving}
+use Rattle.m3_source_typing.specs.Sound.{Owned, Alias, Scope, Leaving}
 use Rattle.m3_source_typing.specs.Operators.{is_ordinal, is_references, is_truth}
 use Rattle.m3_source_typing.specs.Expressions.{PlaceOf, IsChain, IsExpression}
 
@@ -34,10 +34,18 @@ use Rattle.m3_source_typing.specs.Expressions.{PlaceOf, IsChain, IsExpression}
 abbrev pub inside : Leaving → Leaving
 inside a = record a { in_loop = true }
 
--- the same, in a scope where one variable more is made
-abbrev pub and_variable : (x t : ℕ) → Owned → Owned
-and_variable x t own =
+-- the same, where one variable more is made
+abbrev pub and_kind : (x t : ℕ) → Owned → Owned
+and_kind x t own =
     record own { kind = λ y. elim (x == y) [ true ↦ Some t | false ↦ own.kind y ] }
+
+abbrev pub and_variable : (x t : ℕ) → Scope → Scope
+and_variable x t own = record own { holds = and_kind x t own.holds }
+
+-- the same, where one name more stands for a place
+abbrev pub and_name : (x : ℕ) → Alias → Scope → Scope
+and_name x a own =
+    record own { names = λ y. elim (x == y) [ true ↦ Some a | false ↦ own.names y ] }
 
 -- what is assigned has the shape of the variable: its type says that, or the shape is checked
 abbrev pub IsChecked : Program → (checks_shape : Bool) → ℕ → Type 0
@@ -45,13 +53,13 @@ IsChecked p true t = Unit {0}
 IsChecked p false t = HasFixedSizes p t
 
 -- the amount of INC or DEC
-abbrev pub IsAmount : Program → Here → Owned → Option (Bor CoreExpr) → Type 0
+abbrev pub IsAmount : Program → Here → Scope → Option (Bor CoreExpr) → Type 0
 IsAmount p here own None = Unit {0}
 IsAmount p here own (Some e) =
     (t : ℕ) × IsExpression p here own e.now t × (is_ordinal p t ≡ true)
 
 -- the argument of RAISE or the value of RETURN, where there is to be one
-abbrev pub IsOptional : Program → Here → Owned → Option (Bor CoreExpr) → Option ℕ → Type 0
+abbrev pub IsOptional : Program → Here → Scope → Option (Bor CoreExpr) → Option ℕ → Type 0
 IsOptional p here own None None = Unit {0}
 IsOptional p here own (Some e) (Some t) = IsExpression p here own e.now t
 IsOptional p here own _ _ = ⊥
@@ -75,40 +83,47 @@ AreReferences p (t ∷ ts) = (is_references (class_of p t.0) ≡ true) × AreRef
 abbrev pub HasDefault : Program → ℕ → Type 0
 HasDefault p t = (s : Store) → HasType p s (default_of p t) t
 
--- A variable that a phrase makes is one of its procedure, which nobody else can reach and which
--- isn't made yet.
-pub record IsNew (p : Program) (here : Here) (own : Owned) (x : ℕ) : Type 0 where
-  pub within : x < own.count
+-- A variable or a name that a phrase makes is one of its procedure, which nobody else can reach and
+-- which isn't made yet.
+pub record IsNew (p : Program) (here : Here) (own : Scope) (x : ℕ) : Type 0 where
+  pub within : x < own.holds.count
   pub alone : is_shared_here p here x ≡ false
-  pub unmade : own.kind x ≡ None
+  pub unmade : own.holds.kind x ≡ None
+  pub unnamed : own.names x ≡ None
 
 -- variables that are made with their defaults, and what is made then
-pub data AreMade (p : Program) (here : Here) : Owned → List ℕ → Owned → Type 0 where
-  none_made : (own : Owned) → AreMade p here own [] own
-  one_made : (own inner : Owned) (x : ℕ) (v : VarDef) (xs : List ℕ)
+pub data AreMade (p : Program) (here : Here) : Scope → List ℕ → Scope → Type 0 where
+  none_made : (own : Scope) → AreMade p here own [] own
+  one_made : (own inner : Scope) (x : ℕ) (v : VarDef) (xs : List ℕ)
       → declared p here x ≡ Some v → IsNew p here own x → HasDefault p (type_of_variable v.kind)
       → AreMade p here (and_variable x (type_of_variable v.kind) own) xs inner
       → AreMade p here own (x ∷ xs) inner
 
--- the names of a WITH that stand for values, and what is made then
-pub data AreBound (p : Program) (here : Here) : Owned → List WithBinding → Owned → Type 0 where
-  none_bound : (own : Owned) → AreBound p here own [] own
-  value_bound : (own inner : Owned) (x : ℕ) (e : Bor CoreExpr) (t : ℕ) (bs : List WithBinding)
+-- the names of a WITH, which stand for new variables that hold values, or for places, and what is
+-- made then
+pub data AreBound (p : Program) (here : Here) : Scope → List WithBinding → Scope → Type 0 where
+  none_bound : (own : Scope) → AreBound p here own [] own
+  value_bound : (own inner : Scope) (x : ℕ) (e : Bor CoreExpr) (t : ℕ) (bs : List WithBinding)
       → IsExpression p here own e.now t → IsNew p here own x
       → AreBound p here (and_variable x t own) bs inner
       → AreBound p here own (record { variable = x; bound = bind.Value e } ∷ bs) inner
+  place_bound : (own inner : Scope) (x : ℕ) (c : Bor Chain) (b : Bool) (t : ℕ)
+      (bs : List WithBinding) → IsChain p here own c.now (PlaceOf b t) → IsNew p here own x
+      → AreBound p here
+      (and_name x (record { known = own.holds; is_variable = b; kind = t }) own) bs inner
+      → AreBound p here own (record { variable = x; bound = bind.Place c } ∷ bs) inner
 
 -- in an activation of whose own variables these are made, and have these types
 module _ (p : Program) (here : Here) where
   mutual
     -- THE STATEMENT IS WELL TYPED, where it may be left so
-    pub data IsStatement : Owned → Leaving → CoreStmt → Type 0 where
-      assign : (own : Owned) (a : Leaving) (at : Pos) (target : Bor Chain) (e : Bor CoreExpr)
+    pub data IsStatement : Scope → Leaving → CoreStmt → Type 0 where
+      assign : (own : Scope) (a : Leaving) (at : Pos) (target : Bor Chain) (e : Bor CoreExpr)
           (checks_shape : Bool) (t : ℕ) → IsChain p here own target.now (PlaceOf true t)
           → IsExpression p here own e.now t → IsChecked p checks_shape t
           → IsStatement own a (roll-CoreStmt (statement.Assign at target e checks_shape))
       -- INC and DEC, of a variable whose type the chain names
-      change : (own : Owned) (a : Leaving) (at : Pos) (is_decrement : Bool) (begins : Pos)
+      change : (own : Scope) (a : Leaving) (at : Pos) (is_decrement : Bool) (begins : Pos)
           (base : Base) (row : Bor (List Step)) (kind : TypeId) (target : Bor Chain)
           (e : Option (Bor CoreExpr))
           → target.now
@@ -116,93 +131,93 @@ module _ (p : Program) (here : Here) where
           → IsChain p here own target.now (PlaceOf true kind.0) → is_ordinal p kind.0 ≡ true
           → IsAmount p here own e
           → IsStatement own a (roll-CoreStmt (statement.Change at is_decrement target e))
-      evaluate : (own : Owned) (a : Leaving) (at : Pos) (e : Bor CoreExpr) (t : ℕ)
+      evaluate : (own : Scope) (a : Leaving) (at : Pos) (e : Bor CoreExpr) (t : ℕ)
           → IsExpression p here own e.now t
           → IsStatement own a (roll-CoreStmt (statement.Eval at e))
-      exit : (own : Owned) (a : Leaving) (at : Pos) → a.in_loop ≡ true
+      exit : (own : Scope) (a : Leaving) (at : Pos) → a.in_loop ≡ true
           → IsStatement own a (roll-CoreStmt (statement.Exit at))
-      block : (own inner : Owned) (a : Leaving) (at : Pos) (variables : Bor (List ℕ))
+      block : (own inner : Scope) (a : Leaving) (at : Pos) (variables : Bor (List ℕ))
           (initial body : Bor (List CoreStmt)) → AreMade p here own variables.now inner
           → AreStatements inner a initial.now → AreStatements inner a body.now
           → IsStatement own a (roll-CoreStmt (statement.Block at variables initial body))
-      with : (own inner : Owned) (a : Leaving) (at : Pos) (bindings : Bor (List WithBinding))
+      with : (own inner : Scope) (a : Leaving) (at : Pos) (bindings : Bor (List WithBinding))
           (body : Bor (List CoreStmt)) → AreBound p here own bindings.now inner
           → AreStatements inner a body.now
           → IsStatement own a (roll-CoreStmt (statement.With at bindings body))
-      conditional : (own : Owned) (a : Leaving) (at : Pos) (arms : Bor (List Arm))
+      conditional : (own : Scope) (a : Leaving) (at : Pos) (arms : Bor (List Arm))
           (otherwise : Else) → AreArms own a arms.now → IsElse own a otherwise
           → IsStatement own a (roll-CoreStmt (statement.If at arms otherwise))
       -- which labels there are doesn't matter for this: a number without one is a fault
-      case : (own : Owned) (a : Leaving) (at : Pos) (e : Bor CoreExpr)
+      case : (own : Scope) (a : Leaving) (at : Pos) (e : Bor CoreExpr)
           (branches : Bor (List CaseBranch)) (otherwise : Else) (t : ℕ)
           → IsExpression p here own e.now t → is_ordinal p t ≡ true
           → AreBranches own a branches.now → IsElse own a otherwise
           → IsStatement own a (roll-CoreStmt (statement.Case at e branches otherwise))
-      type_case : (own : Owned) (a : Leaving) (at : Pos) (e : Bor CoreExpr)
+      type_case : (own : Scope) (a : Leaving) (at : Pos) (e : Bor CoreExpr)
           (branches : Bor (List TypeBranch)) (otherwise : Else) (t : ℕ)
           → IsExpression p here own e.now t → is_references (class_of p t) ≡ true
           → AreTypeBranches own a t branches.now → IsElse own a otherwise
           → IsStatement own a (roll-CoreStmt (statement.TypeCase at e branches otherwise))
-      loop : (own : Owned) (a : Leaving) (at : Pos) (body : Bor (List CoreStmt))
+      loop : (own : Scope) (a : Leaving) (at : Pos) (body : Bor (List CoreStmt))
           → AreStatements own (inside a) body.now
           → IsStatement own a (roll-CoreStmt (statement.Loop at body))
-      while : (own : Owned) (a : Leaving) (at : Pos) (condition : Bor CoreExpr)
+      while : (own : Scope) (a : Leaving) (at : Pos) (condition : Bor CoreExpr)
           (body : Bor (List CoreStmt)) (t : ℕ) → IsExpression p here own condition.now t
           → is_truth p t ≡ true → AreStatements own (inside a) body.now
           → IsStatement own a (roll-CoreStmt (statement.While at condition body))
-      repeat : (own : Owned) (a : Leaving) (at : Pos) (body : Bor (List CoreStmt))
+      repeat : (own : Scope) (a : Leaving) (at : Pos) (body : Bor (List CoreStmt))
           (condition : Bor CoreExpr) (t : ℕ) → AreStatements own (inside a) body.now
           → IsExpression p here own condition.now t → is_truth p t ≡ true
           → IsStatement own a (roll-CoreStmt (statement.Repeat at body condition))
-      raise : (own : Owned) (a : Leaving) (at : Pos) (exception : ℕ) (e : Option (Bor CoreExpr))
+      raise : (own : Scope) (a : Leaving) (at : Pos) (exception : ℕ) (e : Option (Bor CoreExpr))
           → IsOptional p here own e (argument_type p exception)
           → IsStatement own a (roll-CoreStmt (statement.Raise at exception e))
-      return : (own : Owned) (a : Leaving) (at : Pos) (e : Option (Bor CoreExpr))
+      return : (own : Scope) (a : Leaving) (at : Pos) (e : Option (Bor CoreExpr))
           → IsOptional p here own e a.result
           → IsStatement own a (roll-CoreStmt (statement.Return at e))
-      except : (own : Owned) (a : Leaving) (at : Pos) (body : Bor (List CoreStmt))
+      except : (own : Scope) (a : Leaving) (at : Pos) (body : Bor (List CoreStmt))
           (handlers : Bor (List Handler)) (otherwise : Else) → AreStatements own a body.now
           → AreHandlers own a handlers.now → IsElse own a otherwise
           → IsStatement own a (roll-CoreStmt (statement.TryExcept at body handlers otherwise))
-      finally : (own : Owned) (a : Leaving) (at : Pos) (body last : Bor (List CoreStmt))
+      finally : (own : Scope) (a : Leaving) (at : Pos) (body last : Bor (List CoreStmt))
           → AreStatements own a body.now → AreStatements own a last.now
           → IsStatement own a (roll-CoreStmt (statement.TryFinally at body last))
 
-    pub data AreStatements : Owned → Leaving → List CoreStmt → Type 0 where
-      no_statements : (own : Owned) (a : Leaving) → AreStatements own a []
-      one_statement : (own : Owned) (a : Leaving) (s : CoreStmt) (ss : List CoreStmt)
+    pub data AreStatements : Scope → Leaving → List CoreStmt → Type 0 where
+      no_statements : (own : Scope) (a : Leaving) → AreStatements own a []
+      one_statement : (own : Scope) (a : Leaving) (s : CoreStmt) (ss : List CoreStmt)
           → IsStatement own a s → AreStatements own a ss → AreStatements own a (s ∷ ss)
 
     -- conditions with their statements
-    pub data AreArms : Owned → Leaving → List Arm → Type 0 where
-      no_arms : (own : Owned) (a : Leaving) → AreArms own a []
-      one_arm : (own : Owned) (a : Leaving) (condition : Bor CoreExpr)
+    pub data AreArms : Scope → Leaving → List Arm → Type 0 where
+      no_arms : (own : Scope) (a : Leaving) → AreArms own a []
+      one_arm : (own : Scope) (a : Leaving) (condition : Bor CoreExpr)
           (body : Bor (List CoreStmt)) (arms : List Arm) (t : ℕ)
           → IsExpression p here own condition.now t → is_truth p t ≡ true
           → AreStatements own a body.now → AreArms own a arms
           → AreArms own a (roll-Arm (record { condition = condition; body = body }) ∷ arms)
 
-    pub data IsElse : Owned → Leaving → Else → Type 0 where
-      otherwise : (own : Owned) (a : Leaving) (is_written : Bool) (body : Bor (List CoreStmt))
+    pub data IsElse : Scope → Leaving → Else → Type 0 where
+      otherwise : (own : Scope) (a : Leaving) (is_written : Bool) (body : Bor (List CoreStmt))
           → AreStatements own a body.now
           → IsElse own a (roll-Else (record { is_written = is_written; body = body }))
 
-    pub data AreBranches : Owned → Leaving → List CaseBranch → Type 0 where
-      no_branches : (own : Owned) (a : Leaving) → AreBranches own a []
-      one_branch : (own : Owned) (a : Leaving) (ranges : Bor (List LabelRange))
+    pub data AreBranches : Scope → Leaving → List CaseBranch → Type 0 where
+      no_branches : (own : Scope) (a : Leaving) → AreBranches own a []
+      one_branch : (own : Scope) (a : Leaving) (ranges : Bor (List LabelRange))
           (body : Bor (List CoreStmt)) (bs : List CaseBranch) → AreStatements own a body.now
           → AreBranches own a bs
           → AreBranches own a (roll-CaseBranch (record { ranges = ranges; body = body }) ∷ bs)
 
     -- branches of a TYPECASE whose expression has a type
-    pub data AreTypeBranches : Owned → Leaving → ℕ → List TypeBranch → Type 0 where
-      no_types : (own : Owned) (a : Leaving) (t : ℕ) → AreTypeBranches own a t []
-      types : (own : Owned) (a : Leaving) (t : ℕ) (ts : Bor (List TypeId))
+    pub data AreTypeBranches : Scope → Leaving → ℕ → List TypeBranch → Type 0 where
+      no_types : (own : Scope) (a : Leaving) (t : ℕ) → AreTypeBranches own a t []
+      types : (own : Scope) (a : Leaving) (t : ℕ) (ts : Bor (List TypeId))
           (body : Bor (List CoreStmt)) (bs : List TypeBranch) → AreReferences p ts.now
           → AreStatements own a body.now → AreTypeBranches own a t bs
           → AreTypeBranches own a t
           (roll-TypeBranch (record { types = ts; variable = None; body = body }) ∷ bs)
-      types_with_variable : (own : Owned) (a : Leaving) (t : ℕ) (ts : Bor (List TypeId))
+      types_with_variable : (own : Scope) (a : Leaving) (t : ℕ) (ts : Bor (List TypeId))
           (x : ℕ) (body : Bor (List CoreStmt)) (bs : List TypeBranch) → AreReferences p ts.now
           → IsNew p here own x
           → AreStatements (and_variable x (branch_type t ts.now) own) a body.now
@@ -210,14 +225,14 @@ module _ (p : Program) (here : Here) where
           → AreTypeBranches own a t
           (roll-TypeBranch (record { types = ts; variable = Some x; body = body }) ∷ bs)
 
-    pub data AreHandlers : Owned → Leaving → List Handler → Type 0 where
-      no_handlers : (own : Owned) (a : Leaving) → AreHandlers own a []
-      handler : (own : Owned) (a : Leaving) (exceptions : Bor (List ℕ))
+    pub data AreHandlers : Scope → Leaving → List Handler → Type 0 where
+      no_handlers : (own : Scope) (a : Leaving) → AreHandlers own a []
+      handler : (own : Scope) (a : Leaving) (exceptions : Bor (List ℕ))
           (body : Bor (List CoreStmt)) (hs : List Handler) → AreStatements own a body.now
           → AreHandlers own a hs
           → AreHandlers own a
           (roll-Handler (record { exceptions = exceptions; variable = None; body = body }) ∷ hs)
-      handler_with_variable : (own : Owned) (a : Leaving) (exceptions : Bor (List ℕ)) (x t : ℕ)
+      handler_with_variable : (own : Scope) (a : Leaving) (exceptions : Bor (List ℕ)) (x t : ℕ)
           (body : Bor (List CoreStmt)) (hs : List Handler) → HaveArgument p exceptions.now t
           → IsNew p here own x → AreStatements (and_variable x t own) a body.now
           → AreHandlers own a hs
