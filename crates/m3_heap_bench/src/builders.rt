@@ -1,22 +1,25 @@
-ghost use Rattle.std.specs.Prelude.{◌≡◌, false};
+ghost use Rattle.std.specs.Prelude.{◌≡◌, false, List};
+ghost use Rattle.m3_heap.specs.Shapes.{Shape};
 
 use crate::layouts::{ARRAY, LINK, NODE, NUMBER};
 use m3_heap::{SemiSpace, Store};
 use std::alloc::{AllocError, Global};
 
 /// Sets a word of the cell that starts at an address.
-pub fn set(heap: &mut SemiSpace, cell: u64, place: u64, word: u64)
-    requires { heap.old.halves.is_open ≡ false }
-    ensures { heap.new.halves.is_open ≡ false }
+pub fn set<S: Store>(heap: &mut S, cell: u64, place: u64, word: u64)
+    requires { (S.heap heap.old).is_open ≡ false }
+    ensures closed { (S.heap heap.new).is_open ≡ false }
+    ensures fitting { (shapes : List Shape) → S.fits heap.old shapes → S.fits heap.new shapes }
 {
     let _is_set = heap.store(cell.saturating_add(place), word);
 }
 
 /// A list of as many links as fit, but no more than so many, numbered from the last one on: the
 /// first link and how many there are.
-pub fn list(heap: &mut SemiSpace, links: u64) -> (u64, u64)
-    requires { heap.old.halves.is_open ≡ false }
-    ensures { heap.new.halves.is_open ≡ false }
+pub fn list<S: Store>(heap: &mut S, links: u64) -> (u64, u64)
+    requires { (S.heap heap.old).is_open ≡ false }
+    ensures closed { (S.heap heap.new).is_open ≡ false }
+    ensures fitting { (shapes : List Shape) → S.fits heap.old shapes → S.fits heap.new shapes }
 {
     let mut first = 0;
     for number in 0..links {
