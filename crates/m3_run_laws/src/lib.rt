@@ -59,13 +59,14 @@ pub fn new_cells_end_alike()
         → EndAlike one other }
 {}
 
-/// Two collections of one state keep the same cells and leave as many words free, in the same half:
-/// they differ in nothing but the order of the cells there, and in the words that refer to them. So
-/// the order in which a collector copies decides neither whether a cell fits behind it nor when the
-/// next collection comes.
+/// Two collections of one state keep the same cells, each with its words, and leave as many words
+/// free, in the same half; threads and counts are alike, and so is each word of globals, registers and
+/// stacks that isn't listed as a pointer or derived from one. So they differ in nothing but the order
+/// of the cells, and in the words that refer to them: the order in which a collector copies decides
+/// neither whether a cell fits behind it nor when the next collection comes.
 pub fn collections_agree()
     ensures { (p : Program) (s t u : State) → fault_of p ≡ None → Collects p s t → Collects p s u
-        → Agree t u }
+        → Agree p s t u }
 {}
 
 /// After a collection a request is refused exactly where its words and those of the cells that were
