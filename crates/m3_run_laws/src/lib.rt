@@ -23,7 +23,8 @@ ghost use Rattle.m3_run_laws.specs.Stores.{NothingRefused};
 /// point instruction, but for the one that runs, which is awake. And it has executed no more
 /// instructions than its turns may have, each at most the words of a stack and one more times the
 /// instructions of the code. A store that keeps its laws still does there, and has as many words as
-/// it was made with.
+/// it was made with; and one that had refused nothing since its last collection has not either, until
+/// the run is over.
 pub fn turns_are_sound()
     ensures { (p : Program) (input : List ℕ) (allowed : ℕ) (from : State) (schedule : List Entry)
         (c : Config) → allowed < 2 ^ 64
