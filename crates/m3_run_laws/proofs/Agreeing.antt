@@ -1,16 +1,19 @@
 -- Two collections of one state keep the same cells, and so many words are free; a request has one answer.
-use Rattle.std.specs.Prelude.{ℕ, suc, ◌≡◌, ◌≢◌, ◌+◌, ◌-◌, ◌<◌, ◌==◌, ◌↔◌, IsNone, ◌≤◌, ◌&&◌, nat_lt, nat_le, min, Bool, true, false, List, [], ◌∷◌, length, Option, None, Some, is_some, Result, Ok, Err}
+use Rattle.std.specs.Prelude.{ℕ, suc, ◌≡◌, ◌≢◌, ◌+◌, ◌-◌, ◌<◌, ◌==◌, ◌↔◌, IsNone, ◌≤◌, ◌&&◌, nat_lt, nat_le, min, Bool, true, false, List, [], ◌∷◌, length, map, Option, None, Some, is_some, Result, Ok, Err}
 use Rattle.std.specs.List.{AllByRecursion}
-use Rattle.std.proofs.Common.{refl, sym, ap, subst, ◌∙◌, arith, cond, ⊎_elim, true≢false}
+use Rattle.std.proofs.Common.{get_or, refl, sym, ap, subst, ◌∙◌, arith, cond, ⊎_elim, true≢false}
 use Rattle.std.proofs.lemmas.Bool.{cases_eq, cond-true, cond-false, eq-eqb, ne_eqb, false≢true, and_parts, and_from, le-leb}
 use Rattle.m3_heap.specs.Cells.{Cell, words_from, total_words, new_cell}
 use Rattle.m3_heap.specs.Shapes.{Shape, is_pointer_word}
-use Rattle.m3_heap.specs.Moves.{Move, new_start, is_kept, DiffersFrom, AreOneToOne, mapped_from, mapped, moved_cells}
+use Rattle.m3_heap.specs.Moves.{Move, new_start, is_kept, forwarded, DiffersFrom, AreOneToOne, mapped_from, mapped, moved_cells}
 use Rattle.m3_heap.specs.Heap.{Heap, words_free, is_minor, next_start, with_asked, with_cell, IsThis, Allots}
 use Rattle.m3_heap.proofs.TracingLemmas.{total-append}
 use Rattle.m3_image_sections.specs.Parts.{Program}
 use Rattle.m3_image.specs.Programs.{fault_of}
-use Rattle.m3_roots.specs.Collected.{shapes_of, roots_of}
+use Rattle.m3_run_frames.specs.declared.frame.Frame.{Frame}
+use Rattle.m3_roots.specs.Moving.{MovesWords}
+use Rattle.m3_roots.specs.RowMeaning.{tidy_places, derived_words}
+use Rattle.m3_roots.specs.Collected.{shapes_of, roots_of, with_registers, words_at, frames_at, AllFramed}
 use Rattle.m3_roots.proofs.CollectedLemmas.{walks_once}
 use Rattle.m3_heap.specs.Reach.{IsReachable}
 use Rattle.m3_run_meaning.specs.State.{State}
@@ -18,7 +21,12 @@ use Rattle.m3_run_meaning.specs.Collecting.{Collects, parts_of}
 use Rattle.m3_run_meaning.specs.Making.{Allocates, Makes, Makes_late, at_once, late, made_late, full_late, stuck_late}
 use Rattle.m3_base.specs.declared.outcomes.Outcome.{Outcome}
 use Rattle.m3_base.specs.declared.outcomes.Outcome.TheVariants.{HeapFull}
-use Rattle.m3_run_laws.specs.Agreeing.{Agree, EndAlike}
+use Rattle.m3_run_laws.specs.Agreeing.{KeepsWords, Agree, EndAlike}
+use Rattle.std.specs.List.{slice_get}
+use Rattle.std.proofs.lemmas.Option.{slice_get_within, slice_get-get_or}
+use Rattle.m3_tables.specs.Numbers.{has}
+use Rattle.m3_threads.specs.declared.status.Thread.{Thread}
+use Rattle.m3_roots.specs.ThreadWords.{word_at_place, place_of}
 use Rattle.m3_run_laws.specs.Stores.{NothingRefused}
 
 -- ---- sums over forwarding lists
@@ -124,6 +132,78 @@ total-moved shapes cells all (m ∷ ms) =
     let rest = total-moved shapes cells all ms in
     omega (arith, one, rest)
 
+-- ---- the cells behind a collection
+
+-- a move to an address is the only one
+apart-to : (m : Move) (ms : List Move) (x to : ℕ) → AllByRecursion (DiffersFrom m) ms → new_start ms x ≡ Some to → m.to ≢ to
+apart-to m [] x to h e = absurd cc
+apart-to m (d ∷ ms) x to h e = ⊎_elim
+    (λ (same : d.from ≡ x).
+    let here : d.to ≡ to = some-same d.to to (sym (cond-true (d.from == x) (Some d.to) (new_start ms x) (eq-eqb d.from x same)) ∙ e) in
+    λ (clash : m.to ≡ to). h.0.1 (clash ∙ sym here))
+    (λ (other : d.from ≢ x). apart-to m ms x to h.1 (sym (cond-false (d.from == x) (Some d.to) (new_start ms x) (ne_eqb d.from x other)) ∙ e))
+    (cases_eq d.from x)
+  where
+    some-same : (m n : ℕ) → Some m ≡ Some n → m ≡ n
+    some-same m n e = cc
+
+-- the cell that moved there
+moved-words : (shapes : List Shape) (cells : List Cell) (all ms : List Move) (x to : ℕ) → AreOneToOne ms → new_start ms x ≡ Some to → words_from (moved_cells shapes cells all ms) to ≡ mapped shapes all (words_from cells x)
+moved-words shapes cells all [] x to h e = absurd cc
+moved-words shapes cells all (m ∷ ms) x to h e = ⊎_elim
+    (λ (same : m.from ≡ x).
+    let here : m.to ≡ to = some-same m.to to (sym (cond-true (m.from == x) (Some m.to) (new_start ms x) (eq-eqb m.from x same)) ∙ e) in
+    cond-true (m.to == to) (mapped shapes all (words_from cells m.from)) (words_from (moved_cells shapes cells all ms) to) (eq-eqb m.to to here) ∙ ap (λ n. mapped shapes all (words_from cells n)) same)
+    (λ (other : m.from ≢ x).
+    let there : new_start ms x ≡ Some to = sym (cond-false (m.from == x) (Some m.to) (new_start ms x) (ne_eqb m.from x other)) ∙ e in
+    cond-false (m.to == to) (mapped shapes all (words_from cells m.from)) (words_from (moved_cells shapes cells all ms) to) (ne_eqb m.to to (apart-to m ms x to h.0 there)) ∙ moved-words shapes cells all ms x to h.1 there)
+    (cases_eq m.from x)
+  where
+    some-same : (m n : ℕ) → Some m ≡ Some n → m ≡ n
+    some-same m n e = cc
+
+keeps-words : (p : Program) (s t : State) (start : ℕ) → Collects p s t → KeepsWords p s t start
+keeps-words p s t start c = λ to is.
+    let d = c.collected in
+    ap (λ cs. words_from cs to) d.cells ∙ moved-words (shapes_of p) s.heap.cells t.heap.moves t.heap.moves start to d.one_to_one is
+
+-- ---- what else a collection leaves
+
+same-global : (p : Program) (s t u : State) (n : ℕ) → Collects p s t → Collects p s u → has p.globals.pointers n ≡ false → word_at_place u.globals n ≡ word_at_place t.globals n
+same-global p s t u n one other plain =
+    let w = word_at_place s.globals n in
+    let c : word_at_place t.globals n ≡ w = one.collected.globals.1 n ∙ cond-false (has p.globals.pointers n) (forwarded t.heap.moves w) w plain in
+    let d : word_at_place u.globals n ≡ w = other.collected.globals.1 n ∙ cond-false (has p.globals.pointers n) (forwarded u.heap.moves w) w plain in
+    d ∙ sym c
+
+same-thread : (p : Program) (s t u : State) (k : ℕ) (a b : Thread) → Collects p s t → Collects p s u → slice_get t.all.threads k ≡ Some a → slice_get u.all.threads k ≡ Some b → b ≡ with_registers b.regs.r a
+same-thread p s t u k a b one other here there =
+    let c = one.collected.threads in
+    let d = other.collected.threads in
+    let within : k < length s.all.threads = omega (arith, slice_get_within t.all.threads k a here, c.count) in
+    let was = slice_get-get_or s.all.threads k a within in
+    let x = get_or s.all.threads k a in
+    let first : a ≡ with_registers a.regs.r x = c.same k x a was here in
+    let second : b ≡ with_registers b.regs.r x = d.same k x b was there in
+    second ∙ sym (ap (λ (y : Thread). with_registers b.regs.r y) first)
+
+-- a word of a thread stays, if its frames don't list it
+stays-word : (p : Program) (s t : State) (walks : List (List Frame)) (k : ℕ) (x a : Thread) (place : ℕ) → fault_of p ≡ None → Collects p s t → AllFramed p s.all walks → slice_get s.all.threads k ≡ Some x → slice_get t.all.threads k ≡ Some a
+    → has (tidy_places p (frames_at walks k)) place ≡ false → has (map place_of (derived_words p (frames_at walks k))) place ≡ false → word_at_place (words_at t.all a) place ≡ word_at_place (words_at s.all x) place
+stays-word p s t walks k x a place good c framed was here untidy plain =
+    let d = c.collected in
+    let same : d.walks ≡ walks = walks_once p good s.all d.walks walks d.framed framed in
+    let P : List (List Frame) → Type 0 = λ ws. MovesWords p t.heap.moves (frames_at ws k) (words_at s.all x) (words_at t.all a) in
+    (subst P same (d.threads.words k x a was here)).others place untidy plain
+
+same-word : (p : Program) (s t u : State) (walks : List (List Frame)) (k : ℕ) (a b : Thread) (place : ℕ) → fault_of p ≡ None → Collects p s t → Collects p s u → AllFramed p s.all walks → slice_get t.all.threads k ≡ Some a → slice_get u.all.threads k ≡ Some b
+    → has (tidy_places p (frames_at walks k)) place ≡ false → has (map place_of (derived_words p (frames_at walks k))) place ≡ false → word_at_place (words_at u.all b) place ≡ word_at_place (words_at t.all a) place
+same-word p s t u walks k a b place good one other framed here there untidy plain =
+    let within : k < length s.all.threads = omega (arith, slice_get_within t.all.threads k a here, one.collected.threads.count) in
+    let was = slice_get-get_or s.all.threads k a within in
+    let x = get_or s.all.threads k a in
+    stays-word p s u walks k x b place good other framed was there untidy plain ∙ sym (stays-word p s t walks k x a place good one framed was here untidy plain)
+
 -- ---- collections
 
 same-test : (a b : Bool) → (a ≡ true → b ≡ true) → (b ≡ true → a ≡ true) → a ≡ b
@@ -134,7 +214,7 @@ same-test false false f g = refl
 free-after : (h : Heap) → h.free ≡ words_free h → h.young ≡ 0 → h.free ≡ h.size - total_words h.cells
 free-after h free old = free ∙ cond-true (h.young == 0) (h.size - total_words h.cells) (min (h.nursery - h.young) (h.size - total_words h.cells)) (eq-eqb h.young 0 old)
 
-pub same_kept : (p : Program) (s t u : State) → fault_of p ≡ None → Collects p s t → Collects p s u → Agree t u
+pub same_kept : (p : Program) (s t u : State) → fault_of p ≡ None → Collects p s t → Collects p s u → Agree p s t u
 same_kept p s t u good one other =
     let c = one.collected in
     let d = other.collected in
@@ -150,10 +230,17 @@ same_kept p s t u good one other =
     let size : u.heap.size ≡ t.heap.size = d.sizes.size ∙ sym c.sizes.size in
     record {
       kept = kept;
+      cells = λ start. (keeps-words p s t start one, keeps-words p s u start other);
       free = free-after u.heap d.laws.free d.halves.young ∙ ap (λ n. n - total_words u.heap.cells) size ∙ ap (λ n. t.heap.size - n) words ∙ sym (free-after t.heap c.laws.free c.halves.young);
       base = d.halves.base ∙ sym c.halves.base;
       minors = d.counted.0 ∙ sym c.counted.0;
       fulls = d.counted.1 ∙ sym c.counted.1;
+      globals = λ n plain. same-global p s t u n one other plain;
+      count = d.threads.count ∙ sym c.threads.count;
+      threads = λ k a b here there. same-thread p s t u k a b one other here there;
+      words = λ walks framed k a b here there place untidy plain. same-word p s t u walks k a b place good one other framed here there untidy plain;
+      running = ap (λ (x : State). x.running) other.rest ∙ sym (ap (λ (x : State). x.running) one.rest);
+      taken = ap (λ (x : State). x.taken) other.rest ∙ sym (ap (λ (x : State). x.taken) one.rest);
       points = ap (λ (x : State). x.points) other.rest ∙ sym (ap (λ (x : State). x.points) one.rest);
       instructions = ap (λ (x : State). x.instructions) other.rest ∙ sym (ap (λ (x : State). x.instructions) one.rest);
       collections = ap (λ (x : State). x.collections) other.rest ∙ sym (ap (λ (x : State). x.collections) one.rest);

@@ -23,7 +23,8 @@ ghost use Rattle.m3_run_laws.specs.Stores.{NothingRefused};
 /// point instruction, but for the one that runs, which is awake. And it has executed no more
 /// instructions than its turns may have, each at most the words of a stack and one more times the
 /// instructions of the code. A store that keeps its laws still does there, and has as many words as
-/// it was made with.
+/// it was made with; and one that had refused nothing since its last collection has not either, until
+/// the run is over.
 pub fn turns_are_sound()
     ensures { (p : Program) (input : List ℕ) (allowed : ℕ) (from : State) (schedule : List Entry)
         (c : Config) → allowed < 2 ^ 64
@@ -59,13 +60,14 @@ pub fn new_cells_end_alike()
         → EndAlike one other }
 {}
 
-/// Two collections of one state keep the same cells and leave as many words free, in the same half:
-/// they differ in nothing but the order of the cells there, and in the words that refer to them. So
-/// the order in which a collector copies decides neither whether a cell fits behind it nor when the
-/// next collection comes.
+/// Two collections of one state keep the same cells, each with its words, and leave as many words
+/// free, in the same half; threads and counts are alike, and so is each word of globals, registers and
+/// stacks that isn't listed as a pointer or derived from one. So they differ in nothing but the order
+/// of the cells, and in the words that refer to them: the order in which a collector copies decides
+/// neither whether a cell fits behind it nor when the next collection comes.
 pub fn collections_agree()
     ensures { (p : Program) (s t u : State) → fault_of p ≡ None → Collects p s t → Collects p s u
-        → Agree t u }
+        → Agree p s t u }
 {}
 
 /// After a collection a request is refused exactly where its words and those of the cells that were
