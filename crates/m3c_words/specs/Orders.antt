@@ -4,7 +4,7 @@ use Rattle.std.specs.Option.{option_map}
 use Rattle.std.specs.Borrow.{Bor}
 use Rattle.m3c_words.specs.declared.limits.Limits.{Limits}
 use Rattle.m3c_words.specs.declared.words.Request.{Request}
-use Rattle.m3c_words.specs.declared.words.Request.TheVariants.{Build, Run, Exec, Dump, Bench}
+use Rattle.m3c_words.specs.declared.words.Request.TheVariants.{Build, Run, Exec, Dump, Bench, Inspect}
 use Rattle.m3c_words.specs.declared.words.RunOptions.{RunOptions}
 
 -- points that a run may pass, words of one half of its heap and of each stack, and threads that have not ended
@@ -20,13 +20,14 @@ pub record Options : Type 0 where
   pub input : Option (List ℕ)
   pub bounds : Bounds
 
--- a command with its names, its options or its number
+-- a command with its names, its options or its number; `inspect` looks after as many points as its options say
 pub data Order : Type 0 where
   build : List ℕ → List (List ℕ) → Order
   run : List ℕ → Options → Order
   exec : List (List ℕ) → Options → Order
   dump : List ℕ → Order
   bench : ℕ → Order
+  inspect : List ℕ → Options → Order
 
 -- ---- the same of the values that the code has
 
@@ -45,3 +46,4 @@ order_of (Run image options) = run image.now (options_of options)
 order_of (Exec files options) = exec (map (λ n. n.now) files.items) (options_of options)
 order_of (Dump image) = dump image.now
 order_of (Bench number) = bench number
+order_of (Inspect image options) = inspect image.now (options_of options)

@@ -1,5 +1,5 @@
 use Rattle.m3c_words.proofs.Grammars.{arg_added}
-use Rattle.m3c_words.proofs.grammar.with_run_options.Goals as goal
+use Rattle.m3c_words.proofs.grammar.with_options.Goals as goal
 
 pub returns : goal.returns
 returns c = λ app reads.
