@@ -205,12 +205,12 @@ abbrev AgreeOn : List Row → List Row → Text → Type 0
 AgreeOn rows others opt = found opt rows ≡ found opt others
 
 same_options : (rows others : List Row) → AgreeOn rows others (codes "switches") → AgreeOn rows others (codes "input") → AgreeOn rows others (codes "points")
-    → AgreeOn rows others (codes "heap") → AgreeOn rows others (codes "stack") → AgreeOn rows others (codes "threads") → options_in rows ≡ options_in others
-same_options rows others switches input points heap stack threads = rw (switches, input, points, heap, stack, threads) refl
+    → AgreeOn rows others (codes "heap") → AgreeOn rows others (codes "stack") → AgreeOn rows others (codes "threads") → AgreeOn rows others (codes "young") → options_in rows ≡ options_in others
+same_options rows others switches input points heap stack threads young = rw (switches, input, points, heap, stack, threads, young) refl
 
 same_at : (rows others : List Row) → AgreeOn rows others (codes "switches") → AgreeOn rows others (codes "input") → AgreeOn rows others (codes "at")
-    → AgreeOn rows others (codes "heap") → AgreeOn rows others (codes "stack") → AgreeOn rows others (codes "threads") → options_at rows ≡ options_at others
-same_at rows others switches input at heap stack threads = rw (switches, input, at, heap, stack, threads) refl
+    → AgreeOn rows others (codes "heap") → AgreeOn rows others (codes "stack") → AgreeOn rows others (codes "threads") → AgreeOn rows others (codes "young") → options_at rows ≡ options_at others
+same_at rows others switches input at heap stack threads young = rw (switches, input, at, heap, stack, threads, young) refl
 
 exec_says : (files : Option (List Text)) (options : Option Options) (order : Order) → option_and_then (λ names. option_map (exec names) options) files ≡ Some order → options_asked order ≡ options
 exec_says None options order e = cc
@@ -224,25 +224,25 @@ image_says make has (Some name) None order e = cc
 image_says make has (Some name) (Some o) order e = sym (ap (option_and_then options_asked) e) ∙ has name o
 
 exec_before : (front words : List Text) → options_in (rows_by exec_command (front ++ codes "--" ∷ words)) ≡ options_in (rows_by exec_command front)
-exec_before front words = same_options (rows_by exec_command (front ++ codes "--" ∷ words)) (rows_by exec_command front) (row (codes "switches") refl) (row (codes "input") refl) (row (codes "points") refl) (row (codes "heap") refl) (row (codes "stack") refl) (row (codes "threads") refl)
+exec_before front words = same_options (rows_by exec_command (front ++ codes "--" ∷ words)) (rows_by exec_command front) (row (codes "switches") refl) (row (codes "input") refl) (row (codes "points") refl) (row (codes "heap") refl) (row (codes "stack") refl) (row (codes "threads") refl) (row (codes "young") refl)
   where
     row : (opt : Text) → bytes_eq (codes "FILE") opt ≡ false → AgreeOn (rows_by exec_command (front ++ codes "--" ∷ words)) (rows_by exec_command front) opt
-    row opt differs = row_before (leaf exec_command).rules opt (file_kept opt differs) (refl, (refl, (refl, (refl, (refl, (refl, (refl, tt))))))) front words
+    row opt differs = row_before (leaf exec_command).rules opt (file_kept opt differs) (refl, (refl, (refl, (refl, (refl, (refl, (refl, (refl, tt)))))))) front words
 
 -- a command over one image: its row of an option is that of the words before `--`
 image_row : (name points : Text) (front words : List Text) (opt : Text) → bytes_eq (codes "IMAGE") opt ≡ false
     → AgreeOn (rows_by (image_command name points) (front ++ codes "--" ∷ words)) (rows_by (image_command name points) front) opt
 image_row name points front words opt differs =
-    row_before (leaf (image_command name points)).rules opt (image_kept name points opt differs) (refl, (refl, (refl, (refl, (refl, (refl, (refl, tt))))))) front words
+    row_before (leaf (image_command name points)).rules opt (image_kept name points opt differs) (refl, (refl, (refl, (refl, (refl, (refl, (refl, (refl, tt)))))))) front words
 
 run_before : (front words : List Text) → options_in (rows_by run_command (front ++ codes "--" ∷ words)) ≡ options_in (rows_by run_command front)
-run_before front words = same_options (rows_by run_command (front ++ codes "--" ∷ words)) (rows_by run_command front) (row (codes "switches") refl) (row (codes "input") refl) (row (codes "points") refl) (row (codes "heap") refl) (row (codes "stack") refl) (row (codes "threads") refl)
+run_before front words = same_options (rows_by run_command (front ++ codes "--" ∷ words)) (rows_by run_command front) (row (codes "switches") refl) (row (codes "input") refl) (row (codes "points") refl) (row (codes "heap") refl) (row (codes "stack") refl) (row (codes "threads") refl) (row (codes "young") refl)
   where
     row : (opt : Text) → bytes_eq (codes "IMAGE") opt ≡ false → AgreeOn (rows_by run_command (front ++ codes "--" ∷ words)) (rows_by run_command front) opt
     row = image_row (codes "run") (codes "points") front words
 
 inspect_before : (front words : List Text) → options_at (rows_by inspect_command (front ++ codes "--" ∷ words)) ≡ options_at (rows_by inspect_command front)
-inspect_before front words = same_at (rows_by inspect_command (front ++ codes "--" ∷ words)) (rows_by inspect_command front) (row (codes "switches") refl) (row (codes "input") refl) (row (codes "at") refl) (row (codes "heap") refl) (row (codes "stack") refl) (row (codes "threads") refl)
+inspect_before front words = same_at (rows_by inspect_command (front ++ codes "--" ∷ words)) (rows_by inspect_command front) (row (codes "switches") refl) (row (codes "input") refl) (row (codes "at") refl) (row (codes "heap") refl) (row (codes "stack") refl) (row (codes "threads") refl) (row (codes "young") refl)
   where
     row : (opt : Text) → bytes_eq (codes "IMAGE") opt ≡ false → AgreeOn (rows_by inspect_command (front ++ codes "--" ∷ words)) (rows_by inspect_command front) opt
     row = image_row (codes "inspect") (codes "at") front words

@@ -1,5 +1,5 @@
 -- What the words of a command line ask for, if they are one.
-use Rattle.std.specs.Prelude.{ℕ, ◌^◌, ◌&&◌, Bool, not, nat_lt, nat_le, if◌then◌else◌, Option, None, Some, List, length, codes, option_and_then}
+use Rattle.std.specs.Prelude.{ℕ, ◌^◌, ◌&&◌, Bool, false, not, is_some, nat_lt, nat_le, if◌then◌else◌, Option, None, Some, List, length, codes, option_and_then}
 use Rattle.std.specs.Option.{option_map}
 use Rattle.std.specs.List.{list_all}
 use Rattle.std.specs.Str.{bytes_eq}
@@ -75,11 +75,15 @@ threads_in rows = limit_of 1 64 8 (first_of (codes "threads") rows)
 
 -- ---- the options of a run
 
+-- whether the flag is given
+abbrev pub young_in : List Row → Bool
+young_in rows = is_some (first_of (codes "young") rows)
+
 -- with so many points
 abbrev pub bounds_by : ℕ → List Row → Option Bounds
 bounds_by points rows =
     option_and_then (λ heap. option_and_then (λ stack. option_map (λ threads.
-    record { points = points; heap = heap; stack = stack; threads = threads })
+    record { points = points; heap = heap; stack = stack; threads = threads; young = young_in rows })
     (threads_in rows)) (stack_in rows)) (heap_in rows)
 
 abbrev pub options_by : ℕ → List Row → Option Options
@@ -101,7 +105,7 @@ abbrev pub usual_options : Options
 usual_options = record {
   switches = None;
   input = None;
-  bounds = record { points = 1000000000; heap = 1048576; stack = 65536; threads = 8 };
+  bounds = record { points = 1000000000; heap = 1048576; stack = 65536; threads = 8; young = false };
 }
 
 -- ---- the commands

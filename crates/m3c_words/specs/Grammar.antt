@@ -11,6 +11,15 @@ use Rattle.clap.specs.declared.builder.action.ArgAction.TheVariants.{Set, Append
 abbrev pub option : Text → Rule
 option name = record (new_rule name) { long = Some name; action = Some Set }
 
+-- a flag, which is written without a value, and then has this one
+abbrev pub flag : Text → Rule
+flag name = record (new_rule name) {
+  long = Some name;
+  action = Some Set;
+  range = Some (record { start_inclusive = 0; end_inclusive = 0 });
+  missing = codes "true" ∷ [];
+}
+
 -- one plain word, which must be there
 abbrev pub word : Text → Rule
 word id = record (new_rule id) { action = Some Set; required = true }
@@ -37,7 +46,7 @@ file_words = words (codes "FILE")
 abbrev pub options_with : Text → List Rule
 options_with points =
     option (codes "switches") ∷ option points ∷ option (codes "heap") ∷ option (codes "stack")
-    ∷ option (codes "threads") ∷ option (codes "input") ∷ []
+    ∷ option (codes "threads") ∷ option (codes "input") ∷ flag (codes "young") ∷ []
 
 abbrev pub build_command : Shape
 build_command = command (codes "build") (image_word ∷ file_words ∷ [])

@@ -2,7 +2,7 @@
 ghost use Rattle.std.specs.Prelude.{[], ◌∷◌, IfOk};
 ghost use Rattle.clap.specs.Simple.{App};
 ghost use Rattle.m3c_words.specs.Grammar.{build_command, command, exec_command, run_command};
-ghost use Rattle.m3c_words.specs.Grammar.{file_words, grammar, inspect_command, option, word};
+ghost use Rattle.m3c_words.specs.Grammar.{file_words, flag, grammar, inspect_command, option, word};
 ghost use Rattle.m3c_words.specs.Grammar.{options_with};
 ghost use Rattle.m3c_words.specs.Built.{HasRule, ReadsBy, alone, with_rules};
 
@@ -23,6 +23,17 @@ fn option<'a>(alloc: Global, name: &'a str) -> Arg<'a>
     ensures { HasRule (option name.entry.now) result }
 {
     Arg::new(alloc, name).long(name).action(ArgAction::Set)
+}
+
+/// A flag, which has a value where it is written, as an option has that is written with it.
+fn flag<'a>(alloc: Global, name: &'a str) -> Arg<'a>
+    ensures { HasRule (flag name.entry.now) result }
+{
+    Arg::new(alloc, name)
+        .long(name)
+        .action(ArgAction::Set)
+        .num_args(0)
+        .default_missing_value("true")
 }
 
 /// A word that must stand there.
@@ -58,7 +69,11 @@ fn with_options<'a>(
         .arg(option(alloc, "heap"))?
         .arg(option(alloc, "stack"))?
         .arg(option(alloc, "threads"))?;
-    Ok(command.arg(option(alloc, "input"))?)
+    Ok(
+        command
+            .arg(option(alloc, "input"))?
+            .arg(flag(alloc, "young"))?,
+    )
 }
 
 fn build_command<'a>(alloc: Global) -> Result<Command<'a>, NoMemory>

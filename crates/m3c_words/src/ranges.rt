@@ -108,6 +108,7 @@ pub fn at_of(matches: &ArgMatches<'_>) -> Option<u64>
 
 /// The limits that options give a run of so many points. None exactly where one of them is no
 /// number in its range.
+#[tactic(auto, using(crate::proofs::Found::first_in_rows))]
 pub fn limits_of(matches: &ArgMatches<'_>, points: u64) -> Option<Limits>
     requires { points ≤ 9223372036854775807 }
     ensures { option_map bounds_of result ≡ bounds_by points (rows_in matches.now) }
@@ -120,5 +121,6 @@ pub fn limits_of(matches: &ArgMatches<'_>, points: u64) -> Option<Limits>
         heap,
         stack,
         threads: threads as u32,
+        young: matches.get_str("young").is_some(),
     })
 }
