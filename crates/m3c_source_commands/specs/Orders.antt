@@ -16,7 +16,7 @@ abbrev pub usual_setting : Setting
 usual_setting = within usual_options.bounds
 
 abbrev pub bench_setting : Setting
-bench_setting = within (record { points = 1000000; heap = 32768; stack = 16384; threads = 8 })
+bench_setting = within (record { points = 1000000; heap = 32768; stack = 16384; threads = 8; young = false })
 
 -- what each command answers by a checker, and what it does to the shelf and to out; that of `bench` is a run by the
 -- schedule of its number, of a workload that the checker accepts
