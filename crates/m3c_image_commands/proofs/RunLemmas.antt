@@ -38,7 +38,7 @@ begins-first p heap threads stack s (begins i next) = refl
 pub begins_first : (p : Program) (heap : Heap) (threads stack points : ℕ) (s : State) → Begins p heap threads stack s → points < 2 ^ 63 → s.points + points < 2 ^ 63
 begins_first p heap threads stack points s begun few = let none = begins-first p heap threads stack s begun in omega (arith, none, few)
 
-zero_either : (b : Bool) → cond b 0 0 ≡ 0
+zero_either : (b : Bool) → ◌≡◌ {A = ℕ} (cond b 0 0) 0
 zero_either true = refl
 zero_either false = refl
 

@@ -11,7 +11,7 @@ use std::alloc::Global;
 
 /// A heap that a run may begin with: one of two halves, or one of generations, whose minor and full
 /// collections are told.
-pub trait FirstHeap: Store + Sized {
+pub trait FirstHeap: Store + Drop + Sized {
     /// Whether it is one of generations.
     ghost young: { Bool };
 

@@ -83,7 +83,7 @@ fn run_by<S: FirstHeap, O: Sink, L: Ledger>(
     requires name { blank.name ≡ L.name }
     requires parts { blank.parts ≡ L.parts }
     requires whole { blank.parts ≡ 1 }
-    requires heap { run.entry.limits.young ≡ S.young }
+    requires heap { run.limits.young ≡ S.young }
     ensures { Ends (image_view image.entry) (setting_of_run run.entry)
         run.entry.tells_collections (putting O.Sink out.old out.new) result }
 {
