@@ -88,7 +88,7 @@ exec_finds words = refl
 -- ---- exec
 
 exec_plain : AllByRecursion HasNoDefault (rules_of exec_command)
-exec_plain = (refl, (refl, (refl, (refl, (refl, (refl, (refl, tt)))))))
+exec_plain = (refl, (refl, (refl, (refl, (refl, (refl, (refl, (refl, tt))))))))
 
 exec_order_in : (rows : List Row) → order_in (codes "exec") rows ≡ exec_in rows
 unfolding order_in
@@ -146,7 +146,7 @@ unfolding order_in
 run_order_in rows = refl
 
 run_plain : AllByRecursion HasNoDefault (rules_of run_command)
-run_plain = (refl, (refl, (refl, (refl, (refl, (refl, (refl, tt)))))))
+run_plain = (refl, (refl, (refl, (refl, (refl, (refl, (refl, (refl, tt))))))))
 
 run_check : (rows : List Row) → is_given image_id rows ≡ true → check_fault (leaf_of (codes "run") (rules_of run_command)) rows false ≡ []
 run_check rows e = rw e refl
@@ -200,7 +200,7 @@ unfolding order_in
 inspect_order_in rows = refl
 
 inspect_plain : AllByRecursion HasNoDefault (rules_of inspect_command)
-inspect_plain = (refl, (refl, (refl, (refl, (refl, (refl, (refl, tt)))))))
+inspect_plain = (refl, (refl, (refl, (refl, (refl, (refl, (refl, (refl, tt))))))))
 
 inspect_check : (rows : List Row) → is_given image_id rows ≡ true → check_fault (leaf_of (codes "inspect") (rules_of inspect_command)) rows false ≡ []
 inspect_check rows e = rw e refl

@@ -1,6 +1,6 @@
 -- What options, numbers and FILEs ask for, both ways.
 use Rattle.std.proofs.Common.{◌≡◌, ◌∙◌, ◌&&◌, ◌≤◌, ◌<◌, ◌^◌, ℕ, Bool, cond, length, List, [], ◌∷◌, None, Some, Option, true, false, refl, sym, ap, subst, inl, inr, codes, arith, nat_le, nat_lt, leb-true, ltb-true}
-use Rattle.std.specs.Prelude.{find, option_and_then, slice_get}
+use Rattle.std.specs.Prelude.{find, is_some, option_and_then, slice_get}
 use Rattle.std.specs.List.{AllByRecursion, list_all}
 use Rattle.std.specs.Option.{option_map}
 use Rattle.std.specs.Char.{digit_value}
@@ -191,6 +191,9 @@ module _ (points : Text) (rows : List Row) (given : Given) (says : Says points r
   input_is : first_of (codes "input") rows ≡ value_of (codes "input") given
   input_is = first_is _ rows _ (says (codes "input") (inr (inr (inr (inr (inr (inl refl)))))))
 
+  young_is : is_some (first_of (codes "young") rows) ≡ is_some (value_of (codes "young") given)
+  young_is = ap (λ (o : Option Text). is_some o) (first_is _ rows _ (says (codes "young") (inr (inr (inr (inr (inr (inr (inl refl)))))))))
+
   -- with so many points
   by_are : (IsPoints : ℕ → Type 0) (n : ℕ) (options : Options) → AreApart given → IsPoints n → options_by n rows ≡ Some options → AreOptionsBy IsPoints given options
   by_are IsPoints n options once is e =
@@ -208,6 +211,7 @@ module _ (points : Text) (rows : List Row) (given : Given) (says : Says points r
         heap = subst (λ (m : Bounds). IsLimit 64 67108864 1048576 (value_of (codes "heap") given) m.heap) t.2 (subst (λ (v : Option Text). IsLimit 64 67108864 1048576 v h.0) heap_is (limit_is _ _ _ _ h.0 h.1));
         stack = subst (λ (m : Bounds). IsLimit 1024 1048576 65536 (value_of (codes "stack") given) m.stack) t.2 (subst (λ (v : Option Text). IsLimit 1024 1048576 65536 v s.0) stack_is (limit_is _ _ _ _ s.0 s.1));
         threads = subst (λ (m : Bounds). IsLimit 1 64 8 (value_of (codes "threads") given) m.threads) t.2 (subst (λ (v : Option Text). IsLimit 1 64 8 v t.0) threads_are (limit_is _ _ _ _ t.0 t.1));
+        young = subst (λ (m : Bounds). m.young ≡ is_some (value_of (codes "young") given)) t.2 young_is;
       })
 
   are_by : (IsPoints : ℕ → Type 0) (options : Options) → AreOptionsBy IsPoints given options → options_by options.bounds.points rows ≡ Some options
@@ -217,7 +221,8 @@ module _ (points : Text) (rows : List Row) (given : Given) (says : Says points r
       let k : limit_of 64 67108864 1048576 (first_of (codes "heap") rows) ≡ Some options.bounds.heap = ap (limit_of 64 67108864 1048576) heap_is ∙ is_limit _ _ _ _ _ (omega arith) h.heap in
       let s : limit_of 1024 1048576 65536 (first_of (codes "stack") rows) ≡ Some options.bounds.stack = ap (limit_of 1024 1048576 65536) stack_is ∙ is_limit _ _ _ _ _ (omega arith) h.stack in
       let t : limit_of 1 64 8 (first_of (codes "threads") rows) ≡ Some options.bounds.threads = ap (limit_of 1 64 8) threads_are ∙ is_limit _ _ _ _ _ (omega arith) h.threads in
-      rw (a, b, k, s, t) refl
+      let y : is_some (first_of (codes "young") rows) ≡ options.bounds.young = young_is ∙ sym h.young in
+      rw (a, b, k, s, t, y) refl
 
 -- those of `run` and `exec`
 module _ (rows : List Row) (given : Given) (says : Says (codes "points") rows given) where

@@ -1,5 +1,6 @@
 -- An option may change its place.
 use Rattle.std.proofs.Common.{◌≡◌, ◌≢◌, ◌∙◌, ℕ, Bool, cond, List, [], ◌∷◌, ◌++◌, None, Some, Option, true, false, refl, sym, ap, subst, codes}
+use Rattle.std.specs.Prelude.{is_some}
 use Rattle.std.specs.Str.{bytes_eq}
 use Rattle.std.proofs.lemmas.Slice.Eq.{bytes_eq-Decides}
 use Rattle.clap.proofs.LexerLemmas.{name_and_value-at, name_and_value-without}
@@ -7,8 +8,8 @@ use Rattle.clap.specs.Lexer.{name_and_value}
 use Rattle.clap.specs.Walk.{Text}
 use Rattle.m3c_words.specs.Asked.{asked}
 use Rattle.m3c_words.specs.Orders.{Options, Order}
-use Rattle.m3c_words_laws.specs.Moving.{IsOption, IsSameMoved, Moved, behind_name, behind_option, in_one, in_two, over_name, over_option}
-use Rattle.m3c_words_laws.specs.Reads.{AreApart, AreOptionsBy, Given, IsGivenName, IsLimit, IsOneOf, IsSaid, Reads, Spell, apart, behind, ended, is_free, joined, name, options_of_inspect, options_of_runs, reads_bench, reads_build, reads_dump, reads_exec, reads_inspect, reads_run, value_of, with_value}
+use Rattle.m3c_words_laws.specs.Moving.{IsOption, IsSameMoved, Moved, alone, behind_name, behind_option, in_one, in_two, over_name, over_option}
+use Rattle.m3c_words_laws.specs.Reads.{AreApart, AreOptionsBy, Given, IsGivenName, IsLimit, IsOneOf, IsSaid, Reads, Spell, apart, behind, ended, flag, flag_value, is_free, joined, name, options_of_inspect, options_of_runs, reads_bench, reads_build, reads_dump, reads_exec, reads_inspect, reads_run, takes_value, value_of, with_value}
 use Rattle.m3c_words_laws.proofs.Laws.{asked_reads, reads_asked}
 use Rattle.m3c_words_laws.proofs.Leaves.{AreLegible, inspect_legible, runs_legible}
 use Rattle.m3c_words_laws.proofs.Words.{false_true, some_bytes}
@@ -71,6 +72,10 @@ swapped g k given h = record { values = value; once = once }
         let first : value_of g.0 given ≡ None = rw (unlike k.0 g.0 (λ e. h (sym e))) at a.0 in
         (rw (unlike g.0 k.0 h) a.1.0, (first, a.1.1))
 
+-- a flag is no option with a value
+never_flag : (o p : Text) → takes_value o ≡ false → takes_value p ≡ true → o ≡ p → ⊥
+never_flag o p none takes e = false_true (sym none ∙ ap takes_value e ∙ takes)
+
 module _ (options : List Text) (legible : AreLegible options) where
   -- a name without `=` is no name with a value
   never_both : (o p v : Text) → IsOneOf o options → IsOneOf p options → o ≡ p ++ 61 ∷ v → ⊥
@@ -112,36 +117,51 @@ module _ (options : List Text) (legible : AreLegible options) where
       dashes_free : is_free (codes "--") ≡ true → ⊥
       dashes_free e = false_true e
   first_name ws gs ns (name w words given names free spell) word rest is e = (names, ap (λ (x : Text). x ∷ names) (head_same w word words rest e), spell_as words rest given names (tail_same w word words rest e) spell)
-  first_name ws gs ns (apart o v words given names among free spell) word rest is e = absurd (dashed o (subst (λ (w : Text). is_free w ≡ true) (sym (head_same (codes "--" ++ o) word (v ∷ words) rest e)) is))
-  first_name ws gs ns (joined o v words given names among spell) word rest is e = absurd (dashed (o ++ 61 ∷ v) (subst (λ (w : Text). is_free w ≡ true) (sym (head_same (with_value o v) word words rest e)) is))
+  first_name ws gs ns (apart o v words given names among takes free spell) word rest is e = absurd (dashed o (subst (λ (w : Text). is_free w ≡ true) (sym (head_same (codes "--" ++ o) word (v ∷ words) rest e)) is))
+  first_name ws gs ns (joined o v words given names among takes spell) word rest is e = absurd (dashed (o ++ 61 ∷ v) (subst (λ (w : Text). is_free w ≡ true) (sym (head_same (with_value o v) word words rest e)) is))
+  first_name ws gs ns (flag o words given names among none spell) word rest is e = absurd (dashed o (subst (λ (w : Text). is_free w ≡ true) (sym (head_same (codes "--" ++ o) word words rest e)) is))
 
   abbrev pub Opted : Text → Text → List Text → Given → List Text → Type 0
   Opted option value rest given names = (others : Given) × (given ≡ (option, value) ∷ others) × Spells rest others names
 
-  first_two : (ws : List Text) (given : Given) (names : List Text) → Spells ws given names → (o v : Text) (rest : List Text) → IsOneOf o options → is_free v ≡ true → ws ≡ (codes "--" ++ o) ∷ v ∷ rest → Opted o v rest given names
-  first_two ws gs ns ended o v rest h is e = absurd (no_words (codes "--" ++ o) (v ∷ rest) e)
-  first_two ws gs ns (behind names) o v rest h is e = absurd (legible.some o h (sym (same_behind [] o (head_same (codes "--") (codes "--" ++ o) names (v ∷ rest) e))))
-  first_two ws gs ns (name w words given names free spell) o v rest h is e = absurd (dashed o (subst (λ (x : Text). is_free x ≡ true) (head_same w (codes "--" ++ o) words (v ∷ rest) e) free))
-  first_two ws gs ns (apart p u words given names among free spell) o v rest h is e =
+  first_two : (ws : List Text) (given : Given) (names : List Text) → Spells ws given names → (o v : Text) (rest : List Text) → IsOneOf o options → takes_value o ≡ true → is_free v ≡ true → ws ≡ (codes "--" ++ o) ∷ v ∷ rest → Opted o v rest given names
+  first_two ws gs ns ended o v rest h t is e = absurd (no_words (codes "--" ++ o) (v ∷ rest) e)
+  first_two ws gs ns (behind names) o v rest h t is e = absurd (legible.some o h (sym (same_behind [] o (head_same (codes "--") (codes "--" ++ o) names (v ∷ rest) e))))
+  first_two ws gs ns (name w words given names free spell) o v rest h t is e = absurd (dashed o (subst (λ (x : Text). is_free x ≡ true) (head_same w (codes "--" ++ o) words (v ∷ rest) e) free))
+  first_two ws gs ns (apart p u words given names among takes free spell) o v rest h t is e =
       let behind_it = tail_same (codes "--" ++ p) (codes "--" ++ o) (u ∷ words) (v ∷ rest) e in
       let option : p ≡ o = same_behind p o (head_same (codes "--" ++ p) (codes "--" ++ o) (u ∷ words) (v ∷ rest) e) in
       (given, pair_same p o u v given option (head_same u v words rest behind_it), spell_as words rest given names (tail_same u v words rest behind_it) spell)
     where
       pair_same : (p o u v : Text) (given : Given) → p ≡ o → u ≡ v → (p, u) ∷ given ≡ (o, v) ∷ given
       pair_same p o u v given e f = rw (e, f) refl
-  first_two ws gs ns (joined p u words given names among spell) o v rest h is e = absurd (never_both o p u h among (sym (same_behind (p ++ 61 ∷ u) o (head_same (with_value p u) (codes "--" ++ o) words (v ∷ rest) e))))
+  first_two ws gs ns (joined p u words given names among takes spell) o v rest h t is e = absurd (never_both o p u h among (sym (same_behind (p ++ 61 ∷ u) o (head_same (with_value p u) (codes "--" ++ o) words (v ∷ rest) e))))
+  first_two ws gs ns (flag p words given names among none spell) o v rest h t is e =
+      absurd (never_flag p o none t (same_behind p o (head_same (codes "--" ++ p) (codes "--" ++ o) words (v ∷ rest) e)))
 
   first_one : (ws : List Text) (given : Given) (names : List Text) → Spells ws given names → (o v : Text) (rest : List Text) → IsOneOf o options → ws ≡ with_value o v ∷ rest → Opted o v rest given names
   first_one ws gs ns ended o v rest h e = absurd (no_words (with_value o v) rest e)
   first_one ws gs ns (behind names) o v rest h e = absurd (no_rest o v h (same_behind [] (o ++ 61 ∷ v) (head_same (codes "--") (with_value o v) names rest e)))
   first_one ws gs ns (name w words given names free spell) o v rest h e = absurd (dashed (o ++ 61 ∷ v) (subst (λ (x : Text). is_free x ≡ true) (head_same w (with_value o v) words rest e) free))
-  first_one ws gs ns (apart p u words given names among free spell) o v rest h e = absurd (never_both p o v among h (same_behind p (o ++ 61 ∷ v) (head_same (codes "--" ++ p) (with_value o v) (u ∷ words) rest e)))
-  first_one ws gs ns (joined p u words given names among spell) o v rest h e =
+  first_one ws gs ns (apart p u words given names among takes free spell) o v rest h e = absurd (never_both p o v among h (same_behind p (o ++ 61 ∷ v) (head_same (codes "--" ++ p) (with_value o v) (u ∷ words) rest e)))
+  first_one ws gs ns (flag p words given names among none spell) o v rest h e = absurd (never_both p o v among h (same_behind p (o ++ 61 ∷ v) (head_same (codes "--" ++ p) (with_value o v) words rest e)))
+  first_one ws gs ns (joined p u words given names among takes spell) o v rest h e =
       let s = same_value p o u v among h (same_behind (p ++ 61 ∷ u) (o ++ 61 ∷ v) (head_same (with_value p u) (with_value o v) words rest e)) in
       (given, pair_same p o u v given s.0 s.1, spell_as words rest given names (tail_same (with_value p u) (with_value o v) words rest e) spell)
     where
       pair_same : (p o u v : Text) (given : Given) → p ≡ o → u ≡ v → (p, u) ∷ given ≡ (o, v) ∷ given
       pair_same p o u v given e f = rw (e, f) refl
+
+  first_flag : (ws : List Text) (given : Given) (names : List Text) → Spells ws given names → (o : Text) (rest : List Text) → IsOneOf o options → takes_value o ≡ false → ws ≡ (codes "--" ++ o) ∷ rest → Opted o flag_value rest given names
+  first_flag ws gs ns ended o rest h none e = absurd (no_words (codes "--" ++ o) rest e)
+  first_flag ws gs ns (behind names) o rest h none e = absurd (legible.some o h (sym (same_behind [] o (head_same (codes "--") (codes "--" ++ o) names rest e))))
+  first_flag ws gs ns (name w words given names free spell) o rest h none e = absurd (dashed o (subst (λ (x : Text). is_free x ≡ true) (head_same w (codes "--" ++ o) words rest e) free))
+  first_flag ws gs ns (apart p u words given names among takes free spell) o rest h none e =
+      absurd (never_flag o p none takes (sym (same_behind p o (head_same (codes "--" ++ p) (codes "--" ++ o) (u ∷ words) rest e))))
+  first_flag ws gs ns (joined p u words given names among takes spell) o rest h none e = absurd (never_both o p u h among (sym (same_behind (p ++ 61 ∷ u) o (head_same (with_value p u) (codes "--" ++ o) words rest e))))
+  first_flag ws gs ns (flag p words given names among other spell) o rest h none e =
+      let option : p ≡ o = same_behind p o (head_same (codes "--" ++ p) (codes "--" ++ o) words rest e) in
+      (given, ap (λ (x : Text). (x, flag_value) ∷ given) option, spell_as words rest given names (tail_same (codes "--" ++ p) (codes "--" ++ o) words rest e) spell)
 
   -- ---- an option at the front
 
@@ -152,15 +172,20 @@ module _ (options : List Text) (legible : AreLegible options) where
     pub spelled : (rest : List Text) (given : Given) (names : List Text) → Spells rest given names → Spells (words ++ rest) ((option, value) ∷ given) names
 
   pub reading : (words : List Text) (option : Text) → IsOption options words option → Reading words option
-  reading ws o (in_two option value h is) = record {
+  reading ws o (in_two option value h takes is) = record {
     value = value;
-    read = λ rest given names spell. first_two _ given names spell option value rest h is refl;
-    spelled = λ rest given names spell. apart option value rest given names h is spell;
+    read = λ rest given names spell. first_two _ given names spell option value rest h takes is refl;
+    spelled = λ rest given names spell. apart option value rest given names h takes is spell;
   }
-  reading ws o (in_one option value h) = record {
+  reading ws o (in_one option value h takes) = record {
     value = value;
     read = λ rest given names spell. first_one _ given names spell option value rest h refl;
-    spelled = λ rest given names spell. joined option value rest given names h spell;
+    spelled = λ rest given names spell. joined option value rest given names h takes spell;
+  }
+  reading ws o (alone option h none) = record {
+    value = flag_value;
+    read = λ rest given names spell. first_flag _ given names spell option rest h none refl;
+    spelled = λ rest given names spell. flag option rest given names h none spell;
   }
 
   -- ---- moved words
@@ -250,6 +275,7 @@ options_alike says points given other options like h = record {
   heap = subst (λ (v : Option Text). IsLimit 64 67108864 1048576 v options.bounds.heap) (like.values (codes "heap")) h.heap;
   stack = subst (λ (v : Option Text). IsLimit 1024 1048576 65536 v options.bounds.stack) (like.values (codes "stack")) h.stack;
   threads = subst (λ (v : Option Text). IsLimit 1 64 8 v options.bounds.threads) (like.values (codes "threads")) h.threads;
+  young = h.young ∙ ap (λ (v : Option Text). is_some v) (like.values (codes "young"));
 }
 
 -- how a command reads words from what these spell

@@ -8,10 +8,10 @@ use Rattle.m3c_words.specs.Asked.{asked}
 use Rattle.m3c_words.specs.Orders.{Order}
 use Rattle.m3c_words.specs.Sentences.{names_asked, with_behind}
 use Rattle.m3c_words_laws.specs.Moving.{HasBehind, NeverTwice, UsedIn, UsedTwice, first, here, past_name, past_option}
-use Rattle.m3c_words_laws.specs.Reads.{AreApart, Given, IsOneOf, Reads, Spell, apart, behind, ended, is_free, joined, name, options_of_inspect, options_of_runs, reads_bench, reads_build, reads_dump, reads_exec, reads_inspect, reads_run, value_of, with_value}
+use Rattle.m3c_words_laws.specs.Reads.{AreApart, Given, IsOneOf, Reads, Spell, apart, behind, ended, flag, is_free, joined, name, options_of_inspect, options_of_runs, reads_bench, reads_build, reads_dump, reads_exec, reads_inspect, reads_run, value_of, with_value}
 use Rattle.m3c_words_laws.proofs.Laws.{asked_reads}
 use Rattle.m3c_words_laws.proofs.Leaves.{AreLegible, inspect_legible, runs_legible}
-use Rattle.m3c_words_laws.proofs.Moving.{Spells, first_name, head_same, no_words, other_name, reading, same_behind, spell_as, tail_same}
+use Rattle.m3c_words_laws.proofs.Moving.{first_name, head_same, no_words, other_name, reading, same_behind, spell_as, tail_same}
 use Rattle.m3c_words_laws.proofs.Words.{false_true, same_text}
 
 -- ---- once
@@ -125,19 +125,21 @@ module _ (options : List Text) (some : (o : Text) → IsOneOf o options → o �
   ends ws gs ns (behind names) front back e = behind_names names front back e
   ends ws gs ns (name w words given names free spell) [] back e = absurd (not_free (subst (λ (x : Text). is_free x ≡ true) (head_same w (codes "--") words back e) free))
   ends ws gs ns (name w words given names free spell) (f ∷ front) back e = one_more w names back (ends words given names spell front back (tail_same w f words (front ++ codes "--" ∷ back) e))
-  ends ws gs ns (apart o v words given names among free spell) [] back e = absurd (some o among (same_behind o [] (head_same (codes "--" ++ o) (codes "--") (v ∷ words) back e)))
-  ends ws gs ns (apart o v words given names among free spell) (f ∷ []) back e =
+  ends ws gs ns (apart o v words given names among takes free spell) [] back e = absurd (some o among (same_behind o [] (head_same (codes "--" ++ o) (codes "--") (v ∷ words) back e)))
+  ends ws gs ns (apart o v words given names among takes free spell) (f ∷ []) back e =
       let rest = tail_same (codes "--" ++ o) f (v ∷ words) (codes "--" ∷ back) e in
       absurd (not_free (subst (λ (x : Text). is_free x ≡ true) (head_same v (codes "--") words back rest) free))
-  ends ws gs ns (apart o v words given names among free spell) (f ∷ g ∷ front) back e =
+  ends ws gs ns (apart o v words given names among takes free spell) (f ∷ g ∷ front) back e =
       let rest = tail_same (codes "--" ++ o) f (v ∷ words) (g ∷ (front ++ codes "--" ∷ back)) e in
       ends words given names spell front back (tail_same v g words (front ++ codes "--" ∷ back) rest)
-  ends ws gs ns (joined o v words given names among spell) [] back e = absurd (no_value o v (sym (same_behind (o ++ 61 ∷ v) [] (head_same (with_value o v) (codes "--") words back e))))
+  ends ws gs ns (joined o v words given names among takes spell) [] back e = absurd (no_value o v (sym (same_behind (o ++ 61 ∷ v) [] (head_same (with_value o v) (codes "--") words back e))))
     where
       no_value : (o v : Text) → [] ≡ o ++ 61 ∷ v → ⊥
       no_value [] v e = no_words 61 v e
       no_value (x ∷ o) v e = no_words x (o ++ 61 ∷ v) e
-  ends ws gs ns (joined o v words given names among spell) (f ∷ front) back e = ends words given names spell front back (tail_same (with_value o v) f words (front ++ codes "--" ∷ back) e)
+  ends ws gs ns (joined o v words given names among takes spell) (f ∷ front) back e = ends words given names spell front back (tail_same (with_value o v) f words (front ++ codes "--" ∷ back) e)
+  ends ws gs ns (flag o words given names among none spell) [] back e = absurd (some o among (same_behind o [] (head_same (codes "--" ++ o) (codes "--") words back e)))
+  ends ws gs ns (flag o words given names among none spell) (f ∷ front) back e = ends words given names spell front back (tail_same (codes "--" ++ o) f words (front ++ codes "--" ∷ back) e)
 
 no_option : (o : Text) → IsOneOf o [] → o ≡ [] → ⊥
 no_option o h e = h

@@ -1,15 +1,16 @@
 -- Options that change their place or stand twice, and words behind `--`.
-use Rattle.std.specs.Prelude.{◌≡◌, ◌≢◌, true, None, Some, List, ◌∷◌, [], ◌++◌, codes}
+use Rattle.std.specs.Prelude.{◌≡◌, ◌≢◌, true, false, None, Some, List, ◌∷◌, [], ◌++◌, codes}
 use Rattle.clap.specs.Walk.{Text}
 use Rattle.m3c_words.specs.Asked.{asked}
 use Rattle.m3c_words.specs.Orders.{Order}
 use Rattle.m3c_words.specs.Sentences.{names_asked, with_behind}
-use Rattle.m3c_words_laws.specs.Reads.{AreTexts, IsOneOf, is_free, with_value}
+use Rattle.m3c_words_laws.specs.Reads.{AreTexts, IsOneOf, is_free, takes_value, with_value}
 
--- the words of one option of this name, which is one of these: `--name value` or `--name=value`
+-- the words of one option of this name, which is one of these: `--name value` or `--name=value`, or `--name` of a flag
 pub data IsOption (options : List Text) : List Text → Text → Type 0 where
-  in_two : (option value : Text) → IsOneOf option options → is_free value ≡ true → IsOption options ((codes "--" ++ option) ∷ value ∷ []) option
-  in_one : (option value : Text) → IsOneOf option options → IsOption options (with_value option value ∷ []) option
+  in_two : (option value : Text) → IsOneOf option options → takes_value option ≡ true → is_free value ≡ true → IsOption options ((codes "--" ++ option) ∷ value ∷ []) option
+  in_one : (option value : Text) → IsOneOf option options → takes_value option ≡ true → IsOption options (with_value option value ∷ []) option
+  alone : (option : Text) → IsOneOf option options → takes_value option ≡ false → IsOption options ((codes "--" ++ option) ∷ []) option
 
 -- An option and what stands before it change places, somewhere before `--`: a name, or another option.
 pub data Moved (options : List Text) : List Text → List Text → Type 0 where

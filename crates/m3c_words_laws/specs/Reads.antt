@@ -1,5 +1,5 @@
 -- What docs/COMMANDS.md says of a command line, as a relation between words and what they ask for.
-use Rattle.std.specs.Prelude.{ℕ, ◌≡◌, ◌≢◌, ◌≤◌, ◌<◌, ◌^◌, ◌==◌, ◌||◌, ◌⊎◌, Bool, true, not, Option, None, Some, IfSome, List, [], ◌∷◌, ◌++◌, if◌then◌else◌, codes}
+use Rattle.std.specs.Prelude.{ℕ, ◌≡◌, ◌≢◌, ◌≤◌, ◌<◌, ◌^◌, ◌==◌, ◌||◌, ◌⊎◌, Bool, true, not, Option, None, Some, IfSome, List, [], ◌∷◌, ◌++◌, if◌then◌else◌, codes, false, is_some}
 use Rattle.std.specs.List.{AllByRecursion}
 use Rattle.std.specs.Str.{IsUtf8, bytes_eq}
 use Rattle.std.specs.Str.Parse.{IsNumeral, digits_value}
@@ -26,16 +26,26 @@ Given = List (Text × Text)
 abbrev pub with_value : Text → Text → Text
 with_value option value = codes "--" ++ (option ++ (codes "=" ++ value))
 
+-- an option takes a value, unless it is a flag
+abbrev pub takes_value : Text → Bool
+takes_value option = not (bytes_eq option (codes "young"))
+
+-- the value that a flag has where it stands
+abbrev pub flag_value : Text
+flag_value = codes "true"
+
 -- The words behind a command's name, which has these options, are options and names. An option is `--name value` or
--- `--name=value`; each word behind the first `--` is a name.
+-- `--name=value`, and a flag `--name`; each word behind the first `--` is a name.
 pub data Spell (options : List Text) : List Text → Given → List Text → Type 0 where
   ended : Spell options [] [] []
   behind : (names : List Text) → Spell options (codes "--" ∷ names) [] names
   name : (word : Text) (words : List Text) (given : Given) (names : List Text) → is_free word ≡ true → Spell options words given names → Spell options (word ∷ words) given (word ∷ names)
-  apart : (option value : Text) (words : List Text) (given : Given) (names : List Text) → IsOneOf option options → is_free value ≡ true → Spell options words given names
+  apart : (option value : Text) (words : List Text) (given : Given) (names : List Text) → IsOneOf option options → takes_value option ≡ true → is_free value ≡ true → Spell options words given names
       → Spell options ((codes "--" ++ option) ∷ value ∷ words) ((option, value) ∷ given) names
-  joined : (option value : Text) (words : List Text) (given : Given) (names : List Text) → IsOneOf option options → Spell options words given names
+  joined : (option value : Text) (words : List Text) (given : Given) (names : List Text) → IsOneOf option options → takes_value option ≡ true → Spell options words given names
       → Spell options (with_value option value ∷ words) ((option, value) ∷ given) names
+  flag : (option : Text) (words : List Text) (given : Given) (names : List Text) → IsOneOf option options → takes_value option ≡ false → Spell options words given names
+      → Spell options ((codes "--" ++ option) ∷ words) ((option, flag_value) ∷ given) names
 
 -- the value that an option has, if it is given
 abbrev pub value_of : Text → Given → Option Text
@@ -76,6 +86,7 @@ pub record AreOptionsBy (IsPoints : ℕ → Type 0) (given : Given) (options : O
   pub heap : IsLimit 64 67108864 1048576 (value_of (codes "heap") given) options.bounds.heap
   pub stack : IsLimit 1024 1048576 65536 (value_of (codes "stack") given) options.bounds.stack
   pub threads : IsLimit 1 64 8 (value_of (codes "threads") given) options.bounds.threads
+  pub young : options.bounds.young ≡ is_some (value_of (codes "young") given)
 
 -- `--points` of `run` and `exec`
 abbrev pub AreOptionsOf : Given → Options → Type 0
@@ -89,7 +100,7 @@ AreOptionsAt given = AreOptionsBy (IsSaid 0 9223372036854775807 (value_of (codes
 
 -- the options of a run, of which one of this name says its points
 abbrev pub options_with : Text → List Text
-options_with points = codes "switches" ∷ points ∷ codes "heap" ∷ codes "stack" ∷ codes "threads" ∷ codes "input" ∷ []
+options_with points = codes "switches" ∷ points ∷ codes "heap" ∷ codes "stack" ∷ codes "threads" ∷ codes "input" ∷ codes "young" ∷ []
 
 abbrev pub options_of_runs : List Text
 options_of_runs = options_with (codes "points")
