@@ -6,79 +6,15 @@ use Rattle.m3_heap.specs.Cells.{Cell, heap_base, header, cell_from, is_start, wo
 use Rattle.m3_heap.specs.CellWords.{layout_stays}
 use Rattle.m3_heap.specs.Heap.{nursery_base}
 use Rattle.m3_heap.specs.CollectorSpace.{Space, AreLaid}
-use Rattle.m3_heap.specs.CollectorTracing.{old_cells, copies, moves, IsTracing, marked_words}
+use Rattle.m3_heap.specs.CollectorTracing.{IsTracing, marked_words}
 use Rattle.m3_heap.proofs.SpaceLemmas.{is_start-outside}
-use Rattle.m3_heap.proofs.TracingLemmas.{total-append}
-use Rattle.m3_heap.proofs.CopyLemmas.{is_start-left, fresh-header, kept-header, copy-room, forwarded-kept, forwarded-low, keeps-kept, keeps-low, keeps-fresh, fresh-start}
+use Rattle.m3_heap.specs.CollectorMoving.{CanMove, MovesCell, no_cell, moved_before, moves_now, Forwards as ForwardsIn}
+use Rattle.m3_heap.proofs.MovingLemmas.{is-low, is-refused, is-kept, can-move, is-fresh}
 use Rattle.m3_heap.proofs.WordLemmas.{kept-laid}
-use Rattle.m3_generational.specs.Collecting.{stayed, old_left, minor_left, full_left, left_of, kept_of, IsSplit, IsKeeping, ForwardsIn, Forwards}
+use Rattle.m3_generational.specs.Collecting.{stayed, old_left, minor_left, full_left, left_of, kept_of, IsSplit, IsKeeping, Forwards}
 use Rattle.m3_generational.specs.declared.spaces.Spaces.{Spaces}
 use Rattle.m3_generational.proofs.PartLemmas.{start-first, start-second, words-first, words-second, low, high, set-first, set-second}
 use Rattle.m3_generational.proofs.HeapLemmas.{still-placed, same-total}
-
--- ---- of any cells that are left and kept
-
-pub is-low : (left kept : Space) (w n : ℕ) → IsTracing left kept → w < heap_base → ForwardsIn left kept left kept w (Some w) n n
-is-low left kept w n t low = record {
-  none = (λ e. absurd (false≢true (sym e)), λ bad. absurd (omega (arith, bad.0, low)));
-  value = forwarded-low (moves left kept) w low;
-  keeps = keeps-low left kept w t low;
-  left_stays = tt;
-  kept_stays = tt;
-  cost = refl;
-}
-
-pub is-refused : (left kept : Space) (w n : ℕ) → IsTracing left kept → heap_base ≤ w → is_start left.cells w ≡ false → ForwardsIn left kept left kept w None n n
-is-refused left kept w n t high off = record {
-  none = (λ _. (high, sym (is_start-left left kept _ _ w t) ∙ off), λ _. refl);
-  value = tt;
-  keeps = tt;
-  left_stays = refl;
-  kept_stays = refl;
-  cost = refl;
-}
-
-pub is-kept : (left kept : Space) (w h n : ℕ) → IsTracing left kept → heap_base ≤ w → is_start left.cells w ≡ true → h ≡ header (words_from left.cells w) → heap_base ≤ h → ForwardsIn left kept left kept w (Some h) n n
-is-kept left kept w h n t high on head there =
-    let starts = sym (is_start-left left kept _ _ w t) ∙ on in
-    let far : heap_base ≤ header (words_from left.cells w) = omega (arith, head) in
-    record {
-      none = (λ e. absurd (false≢true (sym e)), λ bad. absurd (false≢true (sym bad.1 ∙ starts)));
-      value = forwarded-kept (moves left kept) w h high (kept-header left kept _ _ w t starts far ∙ ap (λ k. Some k) (sym head));
-      keeps = keeps-kept left kept w t on far;
-      left_stays = tt;
-      kept_stays = tt;
-      cost = refl;
-    }
-
--- what a cell that isn't kept yet needs
-pub fresh-needs : (left kept : Space) (w h : ℕ) → IsTracing left kept → is_start left.cells w ≡ true → h ≡ header (words_from left.cells w) → h < heap_base → (length (words_from left.cells w) ≡ h / 4294967296) × (total_words kept.cells + h / 4294967296 ≤ kept.size)
-fresh-needs left kept w h t on head low =
-    let starts = sym (is_start-left left kept _ _ w t) ∙ on in
-    let short : header (words_from left.cells w) < heap_base = omega (arith, head) in
-    let fresh = fresh-header left kept _ _ w t starts short in
-    let room = copy-room left kept (old_cells left kept) (copies left kept) w t starts fresh.0 in
-    let long = ap (λ (ws : List ℕ). length ws) fresh.1 in
-    let words : length (words_from left.cells w) ≡ h / 4294967296 = long ∙ sym fresh.2 ∙ ap (λ n. n / 4294967296) (sym head) in
-    (words, omega (arith, words, long, room))
-
-pub is-fresh : (left kept left' kept' : Space) (w h start before after : ℕ) → IsTracing left kept → heap_base ≤ w → is_start left.cells w ≡ true → h ≡ header (words_from left.cells w) → h < heap_base
-    → left'.base ≡ left.base → kept'.base ≡ kept.base → left'.size ≡ left.size → kept'.size ≡ kept.size → start ≡ kept.base + total_words kept.cells → left'.cells ≡ with_word left.cells w start
-    → kept'.cells ≡ kept.cells ++ record { start = start; words = words_from left.cells w } ∷ [] → after ≡ before + h / 4294967296 → ForwardsIn left kept left' kept' w (Some start) before after
-is-fresh left kept left' kept' w h start before after t high on head low lb kb ls ks at lc kc steps =
-    let starts = sym (is_start-left left kept _ _ w t) ∙ on in
-    let short : header (words_from left.cells w) < heap_base = omega (arith, head) in
-    let needs = fresh-needs left kept w h t on head low in
-    let keeps = keeps-fresh left kept left' kept' w t high on short lb kb ls ks (lc ∙ ap (λ n. with_word left.cells w n) at) (kc ∙ ap (λ n. kept.cells ++ record { start = n; words = words_from left.cells w } ∷ []) at) in
-    let total = ap total_words kc ∙ total-append kept.cells (record { start = start; words = words_from left.cells w } ∷ []) in
-    record {
-      none = (λ e. absurd (false≢true (sym e)), λ bad. absurd (false≢true (sym bad.1 ∙ starts)));
-      value = at ∙ fresh-start left kept left' kept' w t high on short keeps;
-      keeps = keeps;
-      left_stays = tt;
-      kept_stays = tt;
-      cost = omega (arith, steps, total, needs.0);
-    }
 
 -- ---- of a minor collection and of a full one
 
@@ -319,6 +255,13 @@ pub record IsOld (x y : List Cell) (w : ℕ) : Type 0 where
 pub is-old : (a : ℕ) (x y : List Cell) (w : ℕ) → IsSplit a x y → w < nursery_base → IsOld x y w
 is-old a x y w s down = record { starts = start-first x y w (low a x y w s down).no_start; words = words-first x y w }
 
+-- what a cell needs, seen in its part
+moves-alike : (part left kept : Space) (w : ℕ) → words_from left.cells w ≡ words_from part.cells w
+    → (length (words_from left.cells w) ≡ header (words_from left.cells w) / 4294967296) × (total_words kept.cells + length (words_from left.cells w) ≤ kept.size)
+    → (length (words_from part.cells w) ≡ header (words_from part.cells w) / 4294967296) × (total_words kept.cells + length (words_from part.cells w) ≤ kept.size)
+moves-alike part left kept w same needs =
+    subst (λ (ws : List ℕ). (length ws ≡ header ws / 4294967296) × (total_words kept.cells + length ws ≤ kept.size)) same needs
+
 -- ---- a young cell in a minor collection
 
 pub young-refused : (s : Spaces) (w n : ℕ) → s.is_minor ≡ true → IsTracing (left_of s) (kept_of s) → IsKeeping s → nursery_base ≤ w → is_start s.nursery.cells w ≡ false → Forwards s s w None n n
@@ -331,26 +274,25 @@ young-kept s w h n m t k up on head there =
     let here = is-young s.here.base (stayed s.found.value.cells) s.nursery.cells w (split-minor s m k) up in
     record { forwards = in-minor s s w (Some h) n n m m (is-kept (minor_left s) s.here w h n (traces-minor s m t) (omega (arith, up)) (here.starts ∙ on) (head ∙ ap header (sym here.words)) there); keeping = k; mode = refl; tenured = refl; found = refl; young = refl }
 
-pub young-needs : (s : Spaces) (w h : ℕ) → s.is_minor ≡ true → IsTracing (left_of s) (kept_of s) → IsKeeping s → nursery_base ≤ w → is_start s.nursery.cells w ≡ true → h ≡ header (words_from s.nursery.cells w) → h < heap_base
-    → (length (words_from s.nursery.cells w) ≡ h / 4294967296) × (total_words s.here.cells + h / 4294967296 ≤ s.here.size)
-young-needs s w h m t k up on head short =
+pub young-needs : (s : Spaces) (w : ℕ) → s.is_minor ≡ true → IsTracing (left_of s) (kept_of s) → IsKeeping s → nursery_base ≤ w → CanMove s.nursery s.here w
+young-needs s w m t k up = λ on short.
     let here = is-young s.here.base (stayed s.found.value.cells) s.nursery.cells w (split-minor s m k) up in
-    let needs = fresh-needs (minor_left s) s.here w h (traces-minor s m t) (here.starts ∙ on) (head ∙ ap header (sym here.words)) short in
-    (ap (λ (ws : List ℕ). length ws) (sym here.words) ∙ needs.0, needs.1)
+    let needs = can-move (minor_left s) s.here w (traces-minor s m t) (here.starts ∙ on) (omega (arith, ap header here.words, short)) in
+    moves-alike s.nursery (minor_left s) s.here w here.words needs
 
-pub young-promoted : (s : Spaces) (here nursery : Space) (w h start before after : ℕ) → s.is_minor ≡ true → IsTracing (left_of s) (kept_of s) → IsKeeping s → nursery_base ≤ w → is_start s.nursery.cells w ≡ true → h ≡ header (words_from s.nursery.cells w) → h < heap_base
+pub young-promoted : (s : Spaces) (here nursery : Space) (w start before after : ℕ) → s.is_minor ≡ true → IsTracing (left_of s) (kept_of s) → IsKeeping s → nursery_base ≤ w → is_start s.nursery.cells w ≡ true → header (words_from s.nursery.cells w) < heap_base
     → here.base ≡ s.here.base → here.size ≡ s.here.size → here.cells ≡ s.here.cells ++ record { start = start; words = words_from s.nursery.cells w } ∷ [] → nursery.base ≡ s.nursery.base → nursery.size ≡ s.nursery.size → nursery.cells ≡ with_word s.nursery.cells w start
-    → start ≡ s.here.base + total_words s.here.cells → after ≡ before + h / 4294967296 → Forwards s (promoted s here nursery) w (Some start) before after
-young-promoted s here nursery w h start before after m t k up on head short hb hs hc nb ns nc at steps =
+    → start ≡ s.here.base + total_words s.here.cells → after ≡ before + length (words_from s.nursery.cells w) → Forwards s (promoted s here nursery) w (Some start) before after
+young-promoted s here nursery w start before after m t k up on short hb hs hc nb ns nc at steps =
     let sp = split-minor s m k in
     let x = stayed s.found.value.cells in
     let y = s.nursery.cells in
     let young = is-young s.here.base x y w sp up in
     record {
       forwards = in-minor s (promoted s here nursery) w (Some start) before after m m
-          (is-fresh (minor_left s) s.here (minor_left (promoted s here nursery)) here w h start before after (traces-minor s m t) (omega (arith, up)) (young.starts ∙ on) (head ∙ ap header (sym young.words)) short hb hb hs hs at
+          (is-fresh (minor_left s) s.here (minor_left (promoted s here nursery)) here w start before after (traces-minor s m t) (omega (arith, up)) (young.starts ∙ on) (omega (arith, ap header young.words, short)) hb hb hs hs at
           (ap (λ l. x ++ l) nc ∙ set-second s.here.base x y w start true sp up)
-          (hc ∙ ap (λ ws. s.here.cells ++ record { start = start; words = ws } ∷ []) (sym young.words)) steps);
+          (hc ∙ ap (λ ws. s.here.cells ++ record { start = start; words = ws } ∷ []) (sym young.words)) (steps ∙ ap (λ (ws : List ℕ). before + length ws) (sym young.words)));
       keeping = promoted-keeps s here nursery w start (record { start = start; words = words_from y w }) m k hb hs hc nb ns nc;
       mode = refl;
       tenured = refl;
@@ -370,26 +312,25 @@ young-kept-full s w h n m t k up on head far =
     let there = is-young s.here.base s.here.cells s.nursery.cells w (split-full s m k) up in
     record { forwards = in-full s s w (Some h) n n m m (is-kept (full_left s) s.there w h n (traces-full s m t) (omega (arith, up)) (there.starts ∙ on) (head ∙ ap header (sym there.words)) far); keeping = k; mode = refl; tenured = refl; found = refl; young = refl }
 
-pub young-needs-full : (s : Spaces) (w h : ℕ) → s.is_minor ≡ false → IsTracing (left_of s) (kept_of s) → IsKeeping s → nursery_base ≤ w → is_start s.nursery.cells w ≡ true → h ≡ header (words_from s.nursery.cells w) → h < heap_base
-    → (length (words_from s.nursery.cells w) ≡ h / 4294967296) × (total_words s.there.cells + h / 4294967296 ≤ s.there.size)
-young-needs-full s w h m t k up on head short =
+pub young-needs-full : (s : Spaces) (w : ℕ) → s.is_minor ≡ false → IsTracing (left_of s) (kept_of s) → IsKeeping s → nursery_base ≤ w → CanMove s.nursery s.there w
+young-needs-full s w m t k up = λ on short.
     let there = is-young s.here.base s.here.cells s.nursery.cells w (split-full s m k) up in
-    let needs = fresh-needs (full_left s) s.there w h (traces-full s m t) (there.starts ∙ on) (head ∙ ap header (sym there.words)) short in
-    (ap (λ (ws : List ℕ). length ws) (sym there.words) ∙ needs.0, needs.1)
+    let needs = can-move (full_left s) s.there w (traces-full s m t) (there.starts ∙ on) (omega (arith, ap header there.words, short)) in
+    moves-alike s.nursery (full_left s) s.there w there.words needs
 
-pub young-moved : (s : Spaces) (there nursery : Space) (w h start before after : ℕ) → s.is_minor ≡ false → IsTracing (left_of s) (kept_of s) → IsKeeping s → nursery_base ≤ w → is_start s.nursery.cells w ≡ true → h ≡ header (words_from s.nursery.cells w) → h < heap_base
+pub young-moved : (s : Spaces) (there nursery : Space) (w start before after : ℕ) → s.is_minor ≡ false → IsTracing (left_of s) (kept_of s) → IsKeeping s → nursery_base ≤ w → is_start s.nursery.cells w ≡ true → header (words_from s.nursery.cells w) < heap_base
     → there.base ≡ s.there.base → there.size ≡ s.there.size → there.cells ≡ s.there.cells ++ record { start = start; words = words_from s.nursery.cells w } ∷ [] → nursery.base ≡ s.nursery.base → nursery.size ≡ s.nursery.size → nursery.cells ≡ with_word s.nursery.cells w start
-    → start ≡ s.there.base + total_words s.there.cells → after ≡ before + h / 4294967296 → Forwards s (moved_young s there nursery) w (Some start) before after
-young-moved s there nursery w h start before after m t k up on head short tb ts tc nb ns nc at steps =
+    → start ≡ s.there.base + total_words s.there.cells → after ≡ before + length (words_from s.nursery.cells w) → Forwards s (moved_young s there nursery) w (Some start) before after
+young-moved s there nursery w start before after m t k up on short tb ts tc nb ns nc at steps =
     let sp = split-full s m k in
     let x = s.here.cells in
     let y = s.nursery.cells in
     let young = is-young s.here.base x y w sp up in
     record {
       forwards = in-full s (moved_young s there nursery) w (Some start) before after m m
-          (is-fresh (full_left s) s.there (full_left (moved_young s there nursery)) there w h start before after (traces-full s m t) (omega (arith, up)) (young.starts ∙ on) (head ∙ ap header (sym young.words)) short refl tb refl ts at
+          (is-fresh (full_left s) s.there (full_left (moved_young s there nursery)) there w start before after (traces-full s m t) (omega (arith, up)) (young.starts ∙ on) (omega (arith, ap header young.words, short)) refl tb refl ts at
           (ap (λ l. x ++ l) nc ∙ set-second s.here.base x y w start true sp up)
-          (tc ∙ ap (λ ws. s.there.cells ++ record { start = start; words = ws } ∷ []) (sym young.words)) steps);
+          (tc ∙ ap (λ ws. s.there.cells ++ record { start = start; words = ws } ∷ []) (sym young.words)) (steps ∙ ap (λ (ws : List ℕ). before + length ws) (sym young.words)));
       keeping = moved-young-keeps s there nursery w start m k tb ts nb ns nc;
       mode = refl;
       tenured = refl;
@@ -409,32 +350,54 @@ old-kept s w h n m t k up down on head far =
     let old = is-old s.here.base s.here.cells s.nursery.cells w (split-full s m k) down in
     record { forwards = in-full s s w (Some h) n n m m (is-kept (full_left s) s.there w h n (traces-full s m t) up (old.starts ∙ on) (head ∙ ap header (sym (old.words on))) far); keeping = k; mode = refl; tenured = refl; found = refl; young = refl }
 
-pub old-needs : (s : Spaces) (w h : ℕ) → s.is_minor ≡ false → IsTracing (left_of s) (kept_of s) → IsKeeping s → w < nursery_base → is_start s.here.cells w ≡ true → h ≡ header (words_from s.here.cells w) → h < heap_base
-    → (length (words_from s.here.cells w) ≡ h / 4294967296) × (total_words s.there.cells + h / 4294967296 ≤ s.there.size)
-old-needs s w h m t k down on head short =
+pub old-needs : (s : Spaces) (w : ℕ) → s.is_minor ≡ false → IsTracing (left_of s) (kept_of s) → IsKeeping s → w < nursery_base → CanMove s.here s.there w
+old-needs s w m t k down = λ on short.
     let old = is-old s.here.base s.here.cells s.nursery.cells w (split-full s m k) down in
-    let needs = fresh-needs (full_left s) s.there w h (traces-full s m t) (old.starts ∙ on) (head ∙ ap header (sym (old.words on))) short in
-    (ap (λ (ws : List ℕ). length ws) (sym (old.words on)) ∙ needs.0, needs.1)
+    let needs = can-move (full_left s) s.there w (traces-full s m t) (old.starts ∙ on) (omega (arith, ap header (old.words on), short)) in
+    moves-alike s.here (full_left s) s.there w (old.words on) needs
 
-pub old-moved : (s : Spaces) (here there : Space) (w h start before after : ℕ) → s.is_minor ≡ false → IsTracing (left_of s) (kept_of s) → IsKeeping s → heap_base ≤ w → w < nursery_base → is_start s.here.cells w ≡ true → h ≡ header (words_from s.here.cells w) → h < heap_base
+pub old-moved : (s : Spaces) (here there : Space) (w start before after : ℕ) → s.is_minor ≡ false → IsTracing (left_of s) (kept_of s) → IsKeeping s → heap_base ≤ w → w < nursery_base → is_start s.here.cells w ≡ true → header (words_from s.here.cells w) < heap_base
     → there.base ≡ s.there.base → there.size ≡ s.there.size → there.cells ≡ s.there.cells ++ record { start = start; words = words_from s.here.cells w } ∷ [] → here.base ≡ s.here.base → here.size ≡ s.here.size → here.cells ≡ with_word s.here.cells w start
-    → start ≡ s.there.base + total_words s.there.cells → after ≡ before + h / 4294967296 → Forwards s (moved_old s here there) w (Some start) before after
-old-moved s here there w h start before after m t k up down on head short tb ts tc hb hs hc at steps =
+    → start ≡ s.there.base + total_words s.there.cells → after ≡ before + length (words_from s.here.cells w) → Forwards s (moved_old s here there) w (Some start) before after
+old-moved s here there w start before after m t k up down on short tb ts tc hb hs hc at steps =
     let sp = split-full s m k in
     let x = s.here.cells in
     let y = s.nursery.cells in
     let old = is-old s.here.base x y w sp down in
     record {
       forwards = in-full s (moved_old s here there) w (Some start) before after m m
-          (is-fresh (full_left s) s.there (full_left (moved_old s here there)) there w h start before after (traces-full s m t) up (old.starts ∙ on) (head ∙ ap header (sym (old.words on))) short hb tb hs ts at
+          (is-fresh (full_left s) s.there (full_left (moved_old s here there)) there w start before after (traces-full s m t) up (old.starts ∙ on) (omega (arith, ap header (old.words on), short)) hb tb hs ts at
           (ap (λ l. l ++ y) hc ∙ set-first s.here.base x y w start true sp down)
-          (tc ∙ ap (λ ws. s.there.cells ++ record { start = start; words = ws } ∷ []) (sym (old.words on))) steps);
+          (tc ∙ ap (λ ws. s.there.cells ++ record { start = start; words = ws } ∷ []) (sym (old.words on))) (steps ∙ ap (λ (ws : List ℕ). before + length ws) (sym (old.words on))));
       keeping = moved-old-keeps s here there w start m k tb ts hb hs hc;
       mode = refl;
       tenured = refl;
       found = refl;
       young = refl;
     }
+
+-- ---- where a cell moves, its word is forwarded
+
+pub young-forwarded : (s : Spaces) (nursery here : Space) (w before after : ℕ) (o : Option ℕ) → s.is_minor ≡ true → IsTracing (left_of s) (kept_of s) → IsKeeping s → nursery_base ≤ w
+    → MovesCell s.nursery s.here w before o nursery here after → Forwards s (promoted s here nursery) w o before after
+young-forwarded s l k w before n o m t h up (no_cell off) = young-refused s w before m t h up off
+young-forwarded s l k w before n o m t h up (moved_before to on head far) = young-kept s w to before m t h up on head far
+young-forwarded s l k w before n o m t h up (moves_now to after nursery here on short at lb ls lc kb ks kc steps) =
+    young-promoted s here nursery w to before after m t h up on short kb ks kc lb ls lc at steps
+
+pub young-forwarded-full : (s : Spaces) (nursery there : Space) (w before after : ℕ) (o : Option ℕ) → s.is_minor ≡ false → IsTracing (left_of s) (kept_of s) → IsKeeping s → nursery_base ≤ w
+    → MovesCell s.nursery s.there w before o nursery there after → Forwards s (moved_young s there nursery) w o before after
+young-forwarded-full s l k w before n o m t h up (no_cell off) = young-refused-full s w before m t h up off
+young-forwarded-full s l k w before n o m t h up (moved_before to on head far) = young-kept-full s w to before m t h up on head far
+young-forwarded-full s l k w before n o m t h up (moves_now to after nursery there on short at lb ls lc kb ks kc steps) =
+    young-moved s there nursery w to before after m t h up on short kb ks kc lb ls lc at steps
+
+pub old-forwarded : (s : Spaces) (here there : Space) (w before after : ℕ) (o : Option ℕ) → s.is_minor ≡ false → IsTracing (left_of s) (kept_of s) → IsKeeping s → heap_base ≤ w → w < nursery_base
+    → MovesCell s.here s.there w before o here there after → Forwards s (moved_old s here there) w o before after
+old-forwarded s l k w before n o m t h up down (no_cell off) = old-refused s w before m t h up down off
+old-forwarded s l k w before n o m t h up down (moved_before to on head far) = old-kept s w to before m t h up down on head far
+old-forwarded s l k w before n o m t h up down (moves_now to after here there on short at lb ls lc kb ks kc steps) =
+    old-moved s here there w to before after m t h up down on short kb ks kc lb ls lc at steps
 
 pub low-stays : (s : Spaces) (w n : ℕ) → IsTracing (left_of s) (kept_of s) → IsKeeping s → w < heap_base → Forwards s s w (Some w) n n
 low-stays s w n t k low = record { forwards = is-low (left_of s) (kept_of s) w n t low; keeping = k; mode = refl; tenured = refl; found = refl; young = refl }

@@ -1,12 +1,12 @@
 -- A heap of generations between its calls.
-use Rattle.std.proofs.Common.{◌≡◌, ℕ, ◌+◌, ◌-◌, ◌*◌, ◌/◌, min, ◌<◌, ◌≤◌, ◌^◌, Bool, true, false, cond, eqb, ltb, leb, List, [], ◌∷◌, ◌++◌, length, Some, None, is_some, ◌⊎◌, refl, sym, ap, subst, ◌∙◌, arith, inl, inr, ⊎_elim, append_assoc, append-nil}
+use Rattle.std.proofs.Common.{◌≡◌, ℕ, ◌+◌, ◌-◌, ◌*◌, ◌/◌, min, ◌<◌, ◌≤◌, ◌^◌, Bool, true, false, cond, eqb, ltb, leb, zero, suc, get_or, take, List, [], ◌∷◌, ◌++◌, length, Some, None, is_some, ◌⊎◌, refl, sym, ap, subst, ◌∙◌, arith, inl, inr, ⊎_elim, append_assoc, append-nil}
 use Rattle.std.specs.List.{AllByRecursion}
-use Rattle.std.specs.Prelude.{◌||◌, ◌&&◌, not}
+use Rattle.std.specs.Prelude.{◌||◌, ◌&&◌, not, nat_lt, nat_le}
 use Rattle.std.proofs.lemmas.Bool.{cases_Bool, cases_lt, false≢true, cond-true, cond-false, and_parts, and_from, or_left, or_right, le-leb, lt-leb, ltb-true, ne_eqb, eqb-true}
 use Rattle.std.proofs.lemmas.List.{map-append}
 use Rattle.m3_heap.specs.Cells.{Cell, heap_base, header_of, cell_word_at, is_start, is_writable, layout, total_words, new_cell, IsHeaded, IsInHeap, AreApart, AllApart, AreSound, with_word}
 use Rattle.m3_heap.specs.CellWords.{layout_after}
-use Rattle.m3_heap.specs.Heap.{Heap, HasOtherWords, IsSoundHeap, Allots, first_base, second_base, nursery_base, lies_in, is_placed, old_words, words_free, next_start, old_starts, unasked, settled, with_cell}
+use Rattle.m3_heap.specs.Heap.{Heap, HasOtherWords, IsSoundHeap, Allots, first_base, second_base, nursery_base, lies_in, is_placed, old_words, words_free, next_start, old_starts, unasked, settled, is_minor, with_cell, watched_after}
 use Rattle.m3_heap.specs.CollectorSpace.{Space, AreLaid}
 use Rattle.m3_heap.specs.CollectorHalves.{AreAtRest}
 use Rattle.m3_heap.proofs.SpaceLemmas.{covers-later, word_at-outside}
@@ -14,7 +14,7 @@ use Rattle.m3_heap.proofs.SemiLemmas.{rest-push, rest-replace, length-new}
 use Rattle.m3_heap.specs.Moves.{Move}
 use Rattle.m3_heap.proofs.TracingLemmas.{all_append, total-append}
 use Rattle.m3_heap.proofs.FinalLemmas.{sound-cells}
-use Rattle.m3_generational.specs.Remembering.{Remembering, watching, new_generations}
+use Rattle.m3_generational.specs.Remembering.{Remembering, marked_count, watching, new_generations}
 use Rattle.m3_heap.specs.CollectorTracing.{moves_from, copies_of}
 use Rattle.m3_generational.specs.Inside.{cells_seen, moves_seen, plain_heap, heap_seen, seen, AreResting, IsAsOpen, IsGenerations}
 use Rattle.m3_generational.specs.Collecting.{left_of, kept_of, ArePlaced}
@@ -291,12 +291,42 @@ as-changed s s' left marks asked minors fulls same =
     ∙ ap (λ n. watching marks (settled (plain false cells list asked s.here.size n s'.nursery.size young minors fulls))) same.here_base
     ∙ ap (λ n. watching marks (settled (plain false cells list asked s.here.size s.here.base n young minors fulls))) same.nursery_size
 
+-- ---- what is watched after a request
+
+none-marked : (n : ℕ) → marked_count (take n []) ≡ 0
+none-marked zero = refl
+none-marked (suc n) = refl
+
+-- as many marks are set, where none is set behind a place
+pub marked-more : (marks : List Bool) (words more : ℕ) → ((place : ℕ) → words ≤ place → get_or marks place false ≡ false) → words ≤ more → marked_count (take more marks) ≡ marked_count (take words marks)
+marked-more [] words more none le = none-marked more ∙ sym (none-marked words)
+marked-more (mark ∷ marks) zero zero none le = refl
+marked-more (mark ∷ marks) zero (suc more) none le =
+    let rest : marked_count (take more marks) ≡ 0 = marked-more marks zero more (λ place _. none (suc place) (omega arith)) (omega arith) in
+    ap (λ b. cond b 1 0 + marked_count (take more marks)) (none 0 (omega arith)) ∙ (let all : 0 + marked_count (take more marks) ≡ 0 = omega (arith, rest) in all)
+marked-more (mark ∷ marks) (suc words) zero none le = absurd (omega arith)
+marked-more (mark ∷ marks) (suc words) (suc more) none le =
+    ap (λ n. cond mark 1 0 + n) (marked-more marks words more (λ place past. none (suc place) (omega arith)) (omega arith))
+
+-- where both the next collection as it was to be and as it is now look at marked words, they look at as many
+pub watched-told : (was is now : Bool) (m n : ℕ) → is ≡ now → n ≡ m → cond is n 0 ≡ cond now (cond was (cond was m 0) (cond is n 0)) 0
+watched-told was is true m n e same = ap (λ b. cond b n 0) e ∙ both was
+  where
+    both : (b : Bool) → n ≡ cond b (cond b m 0) (cond is n 0)
+    both true = same
+    both false = sym (ap (λ b. cond b n 0) e)
+watched-told was is false m n e same = ap (λ b. cond b n 0) e
+
 -- ---- a new cell
 
 -- a request is refused
 pub refused : (b : Bool) (s left : Spaces) (marks : List Bool) (asked minors fulls kind words : ℕ) → (heap_seen b s left marks asked minors fulls).free < words
     → Allots (heap_seen b s left marks asked minors fulls) kind words None (heap_seen b s left marks words minors fulls)
-refused b s left marks asked minors fulls kind words full = (full, refl)
+refused b s left marks asked minors fulls kind words full =
+    let old = heap_seen b s left marks asked minors fulls in
+    let new = heap_seen b s left marks words minors fulls in
+    let count = marked_count (take (old_words old) marks) in
+    (full, ap (λ n. record new { watched = n }) (watched-told (is_minor old) (is_minor new) (is_minor new) count count refl refl))
 
 pub made-young : (b : Bool) (s s' left : Spaces) (marks : List Bool) (asked minors fulls kind words start : ℕ) → b ≡ false → ArePlaced s → SamePlaces s s' → 1 ≤ words → words ≤ (heap_seen b s left marks asked minors fulls).free → words ≤ s.nursery.size
     → start ≡ s.nursery.base + total_words s.nursery.cells → s'.here.cells ≡ s.here.cells → s'.nursery.cells ≡ s.nursery.cells ++ new_cell start kind words ∷ []
@@ -313,11 +343,16 @@ made-young false s s' left marks asked minors fulls kind words start closed p sa
     ap (λ l. l ++ s'.nursery.cells) old ∙ ap (λ l. x ++ l) new ∙ sym (append_assoc x y (new_cell start kind words ∷ [])) ∙ ap (λ n. (x ++ y) ++ new_cell n kind words ∷ []) to in
     let young : total_words s'.nursery.cells ≡ cond (leb words s.nursery.size) (total_words y + words) (total_words y) =
     ap total_words new ∙ total-append y (new_cell start kind words ∷ []) ∙ (let sum : total_words y + (length (new_cell start kind words).words + 0) ≡ total_words y + words = omega (arith, long) in sum) ∙ sym (cond-true (leb words s.nursery.size) (total_words y + words) (total_words y) hit) in
-    let P : Heap → Type 0 = λ n. n ≡ record (with_cell h kind words) { watched = n.watched } in (
+    let P : Heap → Type 0 = λ n. n ≡ record (with_cell h kind words) { watched = watched_after h (with_cell h kind words) n.watched } in
+    let plain = plain_heap false s left asked minors fulls in
+    let now = watching marks (settled (record plain { cells = s'.here.cells ++ s'.nursery.cells; young = total_words s'.nursery.cells })) in
+    let minor : is_minor now ≡ is_minor (with_cell h kind words) = ap (λ l. nat_lt 0 s.nursery.size && nat_le (asked + total_words l) s.here.size) cells in
+    let count : marked_count (take (old_words now) marks) ≡ marked_count (take (old_words h) marks) = ap (λ n. marked_count (take n marks)) (let olds : old_words now ≡ old_words h = omega (arith, total-append s'.here.cells s'.nursery.cells, total-append x y, ap total_words old) in olds) in
+    let watched : now.watched ≡ watched_after h (with_cell h kind words) now.watched = watched-told (is_minor h) (is_minor now) (is_minor (with_cell h kind words)) _ _ minor count in (
       room,
       to,
       subst P (sym (as-changed s s' left marks asked minors fulls same))
-          (changed (plain_heap false s left asked minors fulls) marks (s'.here.cells ++ s'.nursery.cells) _ (total_words s'.nursery.cells) _ cells young),
+          (changed plain marks (s'.here.cells ++ s'.nursery.cells) _ (total_words s'.nursery.cells) _ cells young ∙ ap (λ n. record (with_cell h kind words) { watched = n }) watched),
     )
 
 -- a cell that the nursery can't hold is made while no cell is young
@@ -334,11 +369,11 @@ pub no-cells : (a : ℕ) (cs : List Cell) → AreLaid a cs → total_words cs �
 no-cells a [] laid none = refl
 no-cells a (c ∷ cs) laid none = absurd (omega (arith, laid.1))
 
-pub made-old : (b : Bool) (s s' left : Spaces) (marks : List Bool) (asked minors fulls kind words start : ℕ) → b ≡ false → AreResting s → SamePlaces s s' → 1 ≤ words → words ≤ (heap_seen b s left marks asked minors fulls).free → s.nursery.size < words
+pub made-old : (b : Bool) (s s' left : Spaces) (marks : List Bool) (asked minors fulls kind words start : ℕ) → b ≡ false → AreResting s → ((place : ℕ) → total_words s.here.cells ≤ place → get_or marks place false ≡ false) → SamePlaces s s' → 1 ≤ words → words ≤ (heap_seen b s left marks asked minors fulls).free → s.nursery.size < words
     → start ≡ s.here.base + total_words s.here.cells → s'.nursery.cells ≡ s.nursery.cells → s'.here.cells ≡ s.here.cells ++ new_cell start kind words ∷ []
     → Allots (heap_seen b s left marks asked minors fulls) kind words (Some start) (heap_seen b s' left marks asked minors fulls)
-made-old true s s' left marks asked minors fulls kind words start closed r same some room large at young new = absurd (cc)
-made-old false s s' left marks asked minors fulls kind words start closed r same some room large at young new =
+made-old true s s' left marks asked minors fulls kind words start closed r beyond same some room large at young new = absurd (cc)
+made-old false s s' left marks asked minors fulls kind words start closed r beyond same some room large at young new =
     let h = heap_seen false s left marks asked minors fulls in
     let x = s.here.cells in
     let y = s.nursery.cells in
@@ -351,11 +386,16 @@ made-old false s s' left marks asked minors fulls kind words start closed r same
     let cells : s'.here.cells ++ s'.nursery.cells ≡ (x ++ y) ++ c (next_start h words) =
     ap (λ l. l ++ s'.nursery.cells) new ∙ ap (λ l. (x ++ c start) ++ l) young ∙ ap (λ l. (x ++ c start) ++ l) empty ∙ append-nil (x ++ c start) ∙ ap (λ l. l ++ c start) (sym (append-nil x)) ∙ ap (λ l. (x ++ l) ++ c start) (sym empty) ∙ ap (λ n. (x ++ y) ++ c n) to in
     let young' : total_words s'.nursery.cells ≡ cond (leb words s.nursery.size) (total_words y + words) (total_words y) = ap total_words young ∙ sym (cond-false (leb words s.nursery.size) (total_words y + words) (total_words y) miss) in
-    let P : Heap → Type 0 = λ n. n ≡ record (with_cell h kind words) { watched = n.watched } in (
+    let P : Heap → Type 0 = λ n. n ≡ record (with_cell h kind words) { watched = watched_after h (with_cell h kind words) n.watched } in
+    let plain = plain_heap false s left asked minors fulls in
+    let now = watching marks (settled (record plain { cells = s'.here.cells ++ s'.nursery.cells; young = total_words s'.nursery.cells })) in
+    let minor : is_minor now ≡ is_minor (with_cell h kind words) = ap (λ l. nat_lt 0 s.nursery.size && nat_le (asked + total_words l) s.here.size) cells in
+    let count : marked_count (take (old_words now) marks) ≡ marked_count (take (old_words h) marks) = marked-more marks (old_words h) (old_words now) (λ place past. beyond place (omega (arith, old, past))) (omega (arith, total-append s'.here.cells s'.nursery.cells, total-append x y, ap total_words new, total-append x (new_cell start kind words ∷ []))) in
+    let watched : now.watched ≡ watched_after h (with_cell h kind words) now.watched = watched-told (is_minor h) (is_minor now) (is_minor (with_cell h kind words)) _ _ minor count in (
       room,
       to,
       subst P (sym (as-changed s s' left marks asked minors fulls same))
-          (changed (plain_heap false s left asked minors fulls) marks (s'.here.cells ++ s'.nursery.cells) _ (total_words s'.nursery.cells) _ cells young'),
+          (changed plain marks (s'.here.cells ++ s'.nursery.cells) _ (total_words s'.nursery.cells) _ cells young' ∙ ap (λ n. record (with_cell h kind words) { watched = n }) watched),
     )
 
 -- ---- what a request may have
@@ -561,13 +601,22 @@ put-rest i v here marks at w b p =
 pub put-sound : (i : Inside) (v : Remembering) (here : Space) (marks : List Bool) (at w : ℕ) (b : Bool) → IsPut i v here at w b → IsSoundHeap (heap_seen i.is_open (with_here i.spaces here) i.left.value marks i.asked i.minors i.fulls)
 put-sound i v here marks at w b p = closed-sound i.is_open (with_here i.spaces here) i.left.value marks i.asked i.minors i.fulls (put-closed i v here at w b p) (put-placed i v here at w b p) (put-rested i v here at w b p)
 
--- a word that is set lies among the words of the half
-pub put-inside : (i : Inside) (v : Remembering) (here : Space) (at w : ℕ) (b : Bool) → IsPut i v here at w b → b ≡ true → (i.spaces.here.base ≤ at) × (at < i.spaces.here.base + i.spaces.here.size)
-put-inside i v here at w b p set =
+-- a word that is set lies among the words of cells
+pub put-among : (i : Inside) (v : Remembering) (here : Space) (at w : ℕ) (b : Bool) → IsPut i v here at w b → b ≡ true → (i.spaces.here.base ≤ at) × (at < i.spaces.here.base + total_words i.spaces.here.cells)
+put-among i v here at w b p set =
     let x = i.spaces.here in
     let r = (put-resting i v here at w b p).old in
     let some = (and_parts (is_some (cell_word_at x.cells at)) (not (is_start x.cells at)) (sym p.answer ∙ set)).0 in
     let off : (at < x.base) ⊎ (x.base + total_words x.cells ≤ at) → ⊥ = λ out. false≢true (sym (ap is_some (word_at-outside x.base at x.cells r.laid out)) ∙ some) in (
       ⊎_elim (λ (below : at < x.base). absurd (off (inl below))) (λ (ok : x.base ≤ at). ok) (cases_lt at x.base),
-      ⊎_elim (λ (ok : at < x.base + total_words x.cells). omega (arith, r.room)) (λ (past : x.base + total_words x.cells ≤ at). absurd (off (inr past))) (cases_lt at (x.base + total_words x.cells)),
+      ⊎_elim (λ (ok : at < x.base + total_words x.cells). ok) (λ (past : x.base + total_words x.cells ≤ at). absurd (off (inr past))) (cases_lt at (x.base + total_words x.cells)),
     )
+
+pub put-inside : (i : Inside) (v : Remembering) (here : Space) (at w : ℕ) (b : Bool) → IsPut i v here at w b → b ≡ true → (i.spaces.here.base ≤ at) × (at < i.spaces.here.base + i.spaces.here.size)
+put-inside i v here at w b p set =
+    let among = put-among i v here at w b p set in
+    let r = (put-resting i v here at w b p).old in
+    (among.0, omega (arith, among.1, r.room))
+
+pub put-total : (i : Inside) (v : Remembering) (here : Space) (at w : ℕ) (b : Bool) → IsPut i v here at w b → total_words here.cells ≡ total_words i.spaces.here.cells
+put-total i v here at w b p = (rest-replace i.spaces.here here at w b (put-resting i v here at w b p).old p.answer p.base p.size p.cells).1

@@ -1,13 +1,12 @@
 -- For the heap of generations alone: its parts in a collection.
-use Rattle.std.specs.Prelude.{◌≡◌, ℕ, ◌+◌, ◌/◌, ◌≤◌, ◌⊎◌, ◌↔◌, if◌then◌else◌, true, List, [], ◌∷◌, ◌++◌, Option, Some, IsNone, IfSome}
-use Rattle.std.specs.Option.{IfNone}
+use Rattle.std.specs.Prelude.{◌≡◌, ℕ, ◌+◌, ◌/◌, ◌≤◌, ◌⊎◌, if◌then◌else◌, true, List, [], ◌∷◌, ◌++◌, Option, Some}
 use Rattle.m3_heap.specs.Cells.{Cell, layout, words_from, total_words}
-use Rattle.m3_heap.specs.Moves.{forwarded, kept_starts}
+use Rattle.m3_heap.specs.Moves.{kept_starts}
 use Rattle.m3_heap.specs.Shapes.{Shape, pointer_words}
-use Rattle.m3_heap.specs.Reach.{IsBadPointer}
 use Rattle.m3_heap.specs.Heap.{first_base, second_base, nursery_base}
 use Rattle.m3_heap.specs.CollectorSpace.{Space, AreLaid}
-use Rattle.m3_heap.specs.CollectorTracing.{old_cells, moves, marked_words, IsTracing, Keeps}
+use Rattle.m3_heap.specs.CollectorTracing.{moves, marked_words, IsTracing}
+use Rattle.m3_heap.specs.CollectorMoving.{Forwards as ForwardsIn}
 use Rattle.m3_heap.specs.CollectorScanning.{Scans, Grows}
 use Rattle.m3_heap.specs.CollectorHalves.{AreMoving}
 use Rattle.m3_generational.specs.declared.spaces.Spaces.{Spaces}
@@ -63,16 +62,7 @@ pub record IsKeeping (s : Spaces) : Type 0 where
   pub young : total_words s.nursery.cells ≤ s.nursery.size
   pub minor : s.is_minor ≡ true → HasTenured s
 
--- what a word that is forwarded makes of the cells that are left and of those that are kept
-pub record ForwardsIn (left kept left' kept' : Space) (word : ℕ) (result : Option ℕ) (before after : ℕ) : Type 0 where
-  pub none : IsNone result ↔ IsBadPointer (old_cells left kept) word
-  pub value : IfSome result (λ to. to ≡ forwarded (moves left' kept') word)
-  pub keeps : IfSome result (λ _. Keeps left kept left' kept' word)
-  pub left_stays : IfNone result (left' ≡ left)
-  pub kept_stays : IfNone result (kept' ≡ kept)
-  pub cost : after + total_words kept.cells ≡ before + total_words kept'.cells
-
--- and of the parts
+-- what a word that is forwarded makes of the parts
 pub record Forwards (s s' : Spaces) (word : ℕ) (result : Option ℕ) (before after : ℕ) : Type 0 where
   pub forwards : ForwardsIn (left_of s) (kept_of s) (left_of s') (kept_of s') word result before after
   pub keeping : IsKeeping s'

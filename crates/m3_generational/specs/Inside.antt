@@ -1,5 +1,5 @@
 -- For the heap of generations alone: what its fields show, and what they keep.
-use Rattle.std.specs.Prelude.{◌≡◌, ℕ, ◌+◌, ◌≤◌, Bool, true, false, List, [], ◌++◌, length}
+use Rattle.std.specs.Prelude.{◌≡◌, ℕ, ◌+◌, ◌≤◌, Bool, true, false, List, [], ◌++◌, length, slice_index_or}
 use Rattle.m3_heap.specs.Cells.{Cell, total_words}
 use Rattle.m3_heap.specs.Moves.{Move}
 use Rattle.m3_heap.specs.Heap.{Heap, is_minor, settled}
@@ -56,8 +56,10 @@ abbrev pub IsAsOpen : Bool → Spaces → Type 0
 IsAsOpen true s = AreCollecting s
 IsAsOpen false s = AreResting s
 
+-- between collections no word behind the old cells is remembered
 pub record IsGenerations (g : Inside) : Type 0 where
   pub placed : ArePlaced g.spaces
   pub marks : length g.remembered ≡ g.spaces.here.size
   pub as_open : IsAsOpen g.is_open g.spaces
+  pub beyond : g.is_open ≡ false → (place : ℕ) → total_words g.spaces.here.cells ≤ place → slice_index_or g.remembered place false ≡ false
   pub mode : g.is_open ≡ true → is_minor (heap_seen true g.spaces g.left.value g.remembered g.asked g.minors g.fulls) ≡ g.spaces.is_minor

@@ -34,73 +34,9 @@ fn keep_tenured<L: Ledger>(spaces: &mut Spaces, word: u64, steps: &mut Steps<L>)
     }
 }
 
-// A young cell in a minor collection is copied behind the old ones.
-fn promote<L: Ledger>(spaces: &mut Spaces, word: u64, steps: &mut Steps<L>) -> Option<u64>
-    requires tracing { IsTracing (left_of spaces.old) (kept_of spaces.old) }
-    requires keeping { IsKeeping spaces.old }
-    requires minor { spaces.old.is_minor ≡ true }
-    requires high { 4611686018427387904 ≤ word }
-    ensures { Forwards spaces.old spaces.new word result steps.old steps.new }
-{
-    let Some(header) = spaces.nursery.header(word) else {
-        return None;
-    };
-    if header >= HEAP_BASE {
-        return Some(header);
-    }
-    let words = header >> 32;
-    let start = spaces.here.append_copy(&spaces.nursery, word, words);
-    spaces.nursery.put(word, start);
-    steps.add(words);
-    Some(start)
-}
-
-// A young cell in a full collection is copied to the other half.
-fn move_young<L: Ledger>(spaces: &mut Spaces, word: u64, steps: &mut Steps<L>) -> Option<u64>
-    requires tracing { IsTracing (left_of spaces.old) (kept_of spaces.old) }
-    requires keeping { IsKeeping spaces.old }
-    requires full { spaces.old.is_minor ≡ false }
-    requires high { 4611686018427387904 ≤ word }
-    ensures { Forwards spaces.old spaces.new word result steps.old steps.new }
-{
-    let Some(header) = spaces.nursery.header(word) else {
-        return None;
-    };
-    if header >= HEAP_BASE {
-        return Some(header);
-    }
-    let words = header >> 32;
-    let start = spaces.there.append_copy(&spaces.nursery, word, words);
-    spaces.nursery.put(word, start);
-    steps.add(words);
-    Some(start)
-}
-
-// An old cell in a full collection is copied to the other half.
-fn move_old<L: Ledger>(spaces: &mut Spaces, word: u64, steps: &mut Steps<L>) -> Option<u64>
-    requires tracing { IsTracing (left_of spaces.old) (kept_of spaces.old) }
-    requires keeping { IsKeeping spaces.old }
-    requires full { spaces.old.is_minor ≡ false }
-    requires high { 1152921504606846976 ≤ word }
-    requires low { word < 4611686018427387904 }
-    ensures { Forwards spaces.old spaces.new word result steps.old steps.new }
-{
-    let Some(header) = spaces.here.header(word) else {
-        return None;
-    };
-    if header >= HEAP_BASE {
-        return Some(header);
-    }
-    let words = header >> 32;
-    let start = spaces.there.append_copy(&spaces.here, word, words);
-    spaces.here.put(word, start);
-    steps.add(words);
-    Some(start)
-}
-
-/// The new value of a word in the collection that is open: in a minor one an old cell stays and a young one
-/// is copied behind the old ones, in a full one every cell is copied to the other half, unless it was. None
-/// comes exactly where the word lies where heaps lie and is no cell's start.
+/// The new value of a word in the collection that is open: in a minor one an old cell stays and a
+/// young one is copied behind the old ones, in a full one every cell is copied to the other half,
+/// unless it was. None comes exactly where the word lies where heaps lie and is no cell's start.
 pub fn forward_word<L: Ledger>(spaces: &mut Spaces, word: u64, steps: &mut Steps<L>) -> Option<u64>
     requires tracing { IsTracing (left_of spaces.old) (kept_of spaces.old) }
     requires keeping { IsKeeping spaces.old }
@@ -111,8 +47,8 @@ pub fn forward_word<L: Ledger>(spaces: &mut Spaces, word: u64, steps: &mut Steps
     }
     match (spaces.is_minor, word < NURSERY_BASE) {
         (true, true) => keep_tenured(spaces, word, steps),
-        (true, false) => promote(spaces, word, steps),
-        (false, true) => move_old(spaces, word, steps),
-        (false, false) => move_young(spaces, word, steps),
+        (true, false) => spaces.nursery.move_cell(&mut spaces.here, word, steps),
+        (false, true) => spaces.here.move_cell(&mut spaces.there, word, steps),
+        (false, false) => spaces.nursery.move_cell(&mut spaces.there, word, steps),
     }
 }

@@ -8,10 +8,11 @@ use m3_heap::{Maps, Steps, Store};
 use std::alloc::Global;
 use std::sync::ledger::Ledger;
 
-/// A heap of generations. New cells lie in a nursery of a quarter of a half, larger ones at once among the
-/// old cells. A collection of the young cells alone moves those that are kept behind the old ones, which
-/// stay where they are (Lieberman and Hewitt 1983); it looks at the words of old cells that were set since
-/// the last collection, and at no others. A full one copies all that is reached to the other half.
+/// A heap of generations. New cells lie in a nursery of a quarter of a half, larger ones at once
+/// among the old cells. A collection of the young cells alone moves those that are kept behind the
+/// old ones, which stay where they are (Lieberman and Hewitt 1983); it looks at the words of old
+/// cells that were set since the last collection, and at no others. A full one copies all that is
+/// reached to the other half.
 #[derive(Drop)]
 pub struct Generational {
     generations: Generations,
@@ -23,8 +24,8 @@ impl Generational {
     ghost use Rattle.std.specs.Prelude.{◌≡◌, ◌≤◌, IfOk};
     ghost use Rattle.m3_generational.specs.Remembering.{new_generations};
 
-    /// A heap without cells. Both halves have so many words and the nursery a quarter of that, and no more
-    /// memory is taken from then on.
+    /// A heap without cells. Both halves have so many words and the nursery a quarter of that, and
+    /// no more memory is taken from then on.
     pub fn new(alloc: Global, words: u64) -> Result<Generational, NoMemory>
         requires at_least { 64 ≤ words }
         requires at_most { words ≤ 67108864 }

@@ -1,6 +1,7 @@
 ghost use Rattle.std.specs.Bool.{OnTrue};
 ghost use Rattle.std.specs.Option.{IfNone};
-ghost use Rattle.std.specs.Prelude.{◌≡◌, ℕ, ◌+◌, ◌<◌, ◌≤◌, ◌↔◌, true, false, if◌then◌else◌, IsNone, IfSome, IfOk, List, Some, None};
+ghost use Rattle.std.specs.Prelude.{◌≡◌, ℕ, ◌+◌, ◌<◌, ◌≤◌, ◌↔◌, true, false, if◌then◌else◌};
+ghost use Rattle.std.specs.Prelude.{IsNone, IfSome, IfOk, List, Some, None};
 ghost use Rattle.m3_heap.specs.Heap.{counted};
 
 use crate::forwarding::forward_word;
@@ -21,8 +22,8 @@ const SECOND_BASE: u64 = 1 << 61;
 
 const NURSERY_BASE: u64 = 1 << 62;
 
-/// Two halves of old cells, one of them in use, a nursery of young ones, and marks for the words of old
-/// cells that were set since the last collection.
+/// Two halves of old cells, one of them in use, a nursery of young ones, and marks for the words
+/// of old cells that were set since the last collection.
 #[derive(Drop)]
 pub struct Generations {
     spaces: Spaces,
@@ -95,7 +96,8 @@ impl Generations {
     ghost use Rattle.m3_heap.specs.Moves.{staying, forwarded, with_kept, kept_words, kept_starts};
     ghost use Rattle.m3_heap.specs.Reach.{IsBadPointer, HasBadPointer};
     ghost use Rattle.m3_heap.specs.Shapes.{Shape};
-    ghost use Rattle.m3_generational.specs.Remembering.{HasNursery, Fits, Finishes, remembered_after};
+    ghost use Rattle.m3_generational.specs.Remembering.{HasNursery, Fits, Finishes};
+    ghost use Rattle.m3_generational.specs.Remembering.{remembered_after};
 
     /// As `free_words` of a store.
     pub fn free_words(&self) -> u64
@@ -131,7 +133,8 @@ impl Generations {
         requires closed { self.old.heap.is_open ≡ false }
         requires high { 4611686018427387904 ≤ at }
         ensures value { result ≡ is_writable self.old.heap.cells at }
-        ensures cells { self.new.heap.cells ≡ (if result then with_word self.old.heap.cells at word else self.old.heap.cells) }
+        ensures cells { self.new.heap.cells
+            ≡ (if result then with_word self.old.heap.cells at word else self.old.heap.cells) }
         ensures remembered { self.new.remembered ≡ remembered_after self.old at result }
         ensures rest { HasOtherWords self.old.heap self.new.heap }
         ensures fitting { (shapes : List Shape) → Fits shapes self.old → Fits shapes self.new }
@@ -147,7 +150,8 @@ impl Generations {
         requires closed { self.old.heap.is_open ≡ false }
         requires low { at < 4611686018427387904 }
         ensures value { result ≡ is_writable self.old.heap.cells at }
-        ensures cells { self.new.heap.cells ≡ (if result then with_word self.old.heap.cells at word else self.old.heap.cells) }
+        ensures cells { self.new.heap.cells
+            ≡ (if result then with_word self.old.heap.cells at word else self.old.heap.cells) }
         ensures remembered { self.new.remembered ≡ remembered_after self.old at result }
         ensures rest { HasOtherWords self.old.heap self.new.heap }
         ensures fitting { (shapes : List Shape) → Fits shapes self.old → Fits shapes self.new }
@@ -166,7 +170,8 @@ impl Generations {
     pub fn store(&mut self, at: u64, word: u64) -> bool
         requires closed { self.old.heap.is_open ≡ false }
         ensures value { result ≡ is_writable self.old.heap.cells at }
-        ensures cells { self.new.heap.cells ≡ (if result then with_word self.old.heap.cells at word else self.old.heap.cells) }
+        ensures cells { self.new.heap.cells
+            ≡ (if result then with_word self.old.heap.cells at word else self.old.heap.cells) }
         ensures remembered { self.new.remembered ≡ remembered_after self.old at result }
         ensures rest { HasOtherWords self.old.heap self.new.heap }
         ensures fitting { (shapes : List Shape) → Fits shapes self.old → Fits shapes self.new }
@@ -184,7 +189,8 @@ impl Generations {
     fn begin_minor(&mut self)
         requires closed { self.old.heap.is_open ≡ false }
         requires minor { is_minor self.old.heap ≡ true }
-        ensures opened { self.new.heap ≡ record self.old.heap { is_open = true; moves = staying self.old.heap.tenured } }
+        ensures opened { self.new.heap
+            ≡ record self.old.heap { is_open = true; moves = staying self.old.heap.tenured } }
         ensures remembered { self.new.remembered ≡ self.old.remembered }
         ensures sound { IsSoundHeap self.new.heap }
         ensures nursery { HasNursery self.new.heap }
@@ -199,7 +205,8 @@ impl Generations {
     fn begin_full(&mut self)
         requires closed { self.old.heap.is_open ≡ false }
         requires full { is_minor self.old.heap ≡ false }
-        ensures opened { self.new.heap ≡ record self.old.heap { is_open = true; moves = staying self.old.heap.tenured } }
+        ensures opened { self.new.heap
+            ≡ record self.old.heap { is_open = true; moves = staying self.old.heap.tenured } }
         ensures remembered { self.new.remembered ≡ self.old.remembered }
         ensures sound { IsSoundHeap self.new.heap }
         ensures nursery { HasNursery self.new.heap }
@@ -209,11 +216,12 @@ impl Generations {
         self.is_open = true;
     }
 
-    /// As `begin` of a store: of a collection of the young cells alone, where the half in use has room for all
-    /// cells and for what was asked for.
+    /// As `begin` of a store: of a collection of the young cells alone, where the half in use has
+    /// room for all cells and for what was asked for.
     pub fn begin(&mut self)
         requires closed { self.old.heap.is_open ≡ false }
-        ensures opened { self.new.heap ≡ record self.old.heap { is_open = true; moves = staying self.old.heap.tenured } }
+        ensures opened { self.new.heap
+            ≡ record self.old.heap { is_open = true; moves = staying self.old.heap.tenured } }
         ensures remembered { self.new.remembered ≡ self.old.remembered }
         ensures sound { IsSoundHeap self.new.heap }
         ensures nursery { HasNursery self.new.heap }
@@ -230,9 +238,12 @@ impl Generations {
         requires open { self.old.heap.is_open ≡ true }
         ensures none { IsNone result ↔ IsBadPointer self.old.heap.cells word }
         ensures value { IfSome result (λ to. to ≡ forwarded self.new.heap.moves word) }
-        ensures kept { IfSome result (λ to. self.new.heap ≡ record self.old.heap { moves = with_kept self.old.heap.moves word to }) }
+        ensures kept { IfSome result
+            (λ to. self.new.heap
+            ≡ record self.old.heap { moves = with_kept self.old.heap.moves word to }) }
         ensures refused { IfNone result (self.new.heap ≡ self.old.heap) }
-        ensures cost { steps.new + kept_words self.old.heap.cells self.old.heap.moves ≡ steps.old + 1 + kept_words self.old.heap.cells self.new.heap.moves }
+        ensures cost { steps.new + kept_words self.old.heap.cells self.old.heap.moves
+            ≡ steps.old + 1 + kept_words self.old.heap.cells self.new.heap.moves }
         ensures remembered { self.new.remembered ≡ self.old.remembered }
         ensures sound { IsSoundHeap self.new.heap }
         ensures nursery { HasNursery self.new.heap }
@@ -245,8 +256,11 @@ impl Generations {
     fn finish_full<M: Maps, L: Ledger>(&mut self, maps: &M, steps: &mut Steps<L>) -> bool
         requires open { self.old.heap.is_open ≡ true }
         requires full { is_minor self.old.heap ≡ false }
-        ensures bad { result ≡ false → HasBadPointer (M.shapes maps.now) self.old.heap.cells (kept_starts self.old.heap.moves) }
-        ensures done { OnTrue result (Finishes (M.shapes maps.now) self.old self.new steps.old steps.new) }
+        ensures bad { result ≡ false
+            → HasBadPointer (M.shapes maps.now) self.old.heap.cells
+            (kept_starts self.old.heap.moves) }
+        ensures done { OnTrue result
+            (Finishes (M.shapes maps.now) self.old self.new steps.old steps.new) }
         ensures closed { self.new.heap.is_open ≡ false }
         ensures asked { self.new.heap.asked ≡ 0 }
         ensures sizes { SameSizes self.old.heap self.new.heap }
@@ -256,6 +270,7 @@ impl Generations {
         let is_traced = trace_full(&mut self.spaces, maps, steps);
         self.is_open = false;
         self.asked = 0;
+        self.remembered.clear(self.spaces.here.size() as usize);
         if !is_traced {
             self.spaces.here.clear();
             self.spaces.nursery.clear();
@@ -264,8 +279,6 @@ impl Generations {
         self.left = Snapshot::of(&self.spaces);
         mem::swap(&mut self.spaces.here, &mut self.spaces.there);
         self.spaces.nursery.clear();
-        let size = self.spaces.here.size() as usize;
-        self.remembered.clear(size);
         self.fulls = one_more(self.fulls);
         true
     }
@@ -275,8 +288,11 @@ impl Generations {
         requires open { self.old.heap.is_open ≡ true }
         requires fitting { Fits (M.shapes maps.now) self.old }
         requires minor { is_minor self.old.heap ≡ true }
-        ensures bad { result ≡ false → HasBadPointer (M.shapes maps.now) self.old.heap.cells (kept_starts self.old.heap.moves) }
-        ensures done { OnTrue result (Finishes (M.shapes maps.now) self.old self.new steps.old steps.new) }
+        ensures bad { result ≡ false
+            → HasBadPointer (M.shapes maps.now) self.old.heap.cells
+            (kept_starts self.old.heap.moves) }
+        ensures done { OnTrue result
+            (Finishes (M.shapes maps.now) self.old self.new steps.old steps.new) }
         ensures closed { self.new.heap.is_open ≡ false }
         ensures asked { self.new.heap.asked ≡ 0 }
         ensures sizes { SameSizes self.old.heap self.new.heap }
@@ -286,6 +302,7 @@ impl Generations {
         let is_traced = trace_minor(&mut self.spaces, &self.remembered, maps, steps);
         self.is_open = false;
         self.asked = 0;
+        self.remembered.clear(self.spaces.here.size() as usize);
         if !is_traced {
             self.spaces.here.clear();
             self.spaces.nursery.clear();
@@ -293,7 +310,6 @@ impl Generations {
         }
         self.left = Snapshot::of(&self.spaces);
         self.spaces.nursery.clear();
-        self.remembered.clear(self.spaces.here.size() as usize);
         self.minors = one_more(self.minors);
         true
     }
@@ -302,8 +318,11 @@ impl Generations {
     pub fn finish<M: Maps, L: Ledger>(&mut self, maps: &M, steps: &mut Steps<L>) -> bool
         requires open { self.old.heap.is_open ≡ true }
         requires fitting { Fits (M.shapes maps.now) self.old }
-        ensures bad { result ≡ false → HasBadPointer (M.shapes maps.now) self.old.heap.cells (kept_starts self.old.heap.moves) }
-        ensures done { OnTrue result (Finishes (M.shapes maps.now) self.old self.new steps.old steps.new) }
+        ensures bad { result ≡ false
+            → HasBadPointer (M.shapes maps.now) self.old.heap.cells
+            (kept_starts self.old.heap.moves) }
+        ensures done { OnTrue result
+            (Finishes (M.shapes maps.now) self.old self.new steps.old steps.new) }
         ensures closed { self.new.heap.is_open ≡ false }
         ensures asked { self.new.heap.asked ≡ 0 }
         ensures sizes { SameSizes self.old.heap self.new.heap }

@@ -12,8 +12,8 @@ use crate::spaces::Spaces;
 use m3_heap::{Maps, Marks, Steps};
 use std::sync::ledger::Ledger;
 
-// Looks at one word of a tenured cell, and forwards it, if it is a pointer. False says that it is one that
-// can't be.
+// Looks at one word of a tenured cell, and forwards it, if it is a pointer. False says that it is
+// one that can't be.
 fn scan_tenured<M: Maps, L: Ledger>(
     spaces: &mut Spaces,
     at: u64,
@@ -30,10 +30,17 @@ fn scan_tenured<M: Maps, L: Ledger>(
     ensures minor { spaces.new.is_minor ≡ true }
     ensures tenured { spaces.new.tenured ≡ spaces.old.tenured }
     ensures found { spaces.new.found.value ≡ spaces.old.found.value }
-    ensures grows { Grows (minor_left spaces.old) spaces.old.here (minor_left spaces.new) spaces.new.here }
-    ensures scanned { (roots : List ℕ) → Scans (M.shapes maps.now) roots (minor_left spaces.old) spaces.old.here at
-        → MatchBool result (Scans (M.shapes maps.now) roots (minor_left spaces.new) spaces.new.here (at + 1)) (HasBadPointer (M.shapes maps.now) (old_cells (minor_left spaces.old) spaces.old.here) roots) }
-    ensures cost { OnTrue result (steps.new + total_words spaces.old.here.cells ≡ steps.old + 1 + total_words spaces.new.here.cells) }
+    ensures grows { Grows (minor_left spaces.old) spaces.old.here (minor_left spaces.new)
+        spaces.new.here }
+    ensures scanned { (roots : List ℕ)
+        → Scans (M.shapes maps.now) roots (minor_left spaces.old) spaces.old.here at
+        → MatchBool result
+        (Scans (M.shapes maps.now) roots (minor_left spaces.new) spaces.new.here (at + 1))
+        (HasBadPointer (M.shapes maps.now) (old_cells (minor_left spaces.old) spaces.old.here)
+        roots) }
+    ensures cost { OnTrue result
+        (steps.new + total_words spaces.old.here.cells
+        ≡ steps.old + 1 + total_words spaces.new.here.cells) }
 {
     steps.tick();
     let start = spaces.here.start_of(at);
@@ -55,8 +62,8 @@ fn scan_tenured<M: Maps, L: Ledger>(
     }
 }
 
-/// Looks at each remembered word of a tenured cell, and forwards it, if it is a pointer. False says that
-/// one of them is one that can't be.
+/// Looks at each remembered word of a tenured cell, and forwards it, if it is a pointer. False
+/// says that one of them is one that can't be.
 pub fn scan_remembered<M: Maps, L: Ledger>(
     spaces: &mut Spaces,
     remembered: &Marks,
@@ -67,16 +74,27 @@ pub fn scan_remembered<M: Maps, L: Ledger>(
     requires keeping { IsKeeping spaces.old }
     requires minor { spaces.old.is_minor ≡ true }
     requires marks { spaces.old.tenured ≤ length remembered.now }
-    requires fits { FitsIn (M.shapes maps.now) (old_cells (minor_left spaces.old) spaces.old.here) remembered.now spaces.old.here.base }
+    requires fits { FitsIn (M.shapes maps.now) (old_cells (minor_left spaces.old) spaces.old.here)
+        remembered.now spaces.old.here.base }
     ensures tracing { IsTracing (minor_left spaces.new) spaces.new.here }
     ensures keeping { IsKeeping spaces.new }
     ensures minor { spaces.new.is_minor ≡ true }
     ensures tenured { spaces.new.tenured ≡ spaces.old.tenured }
     ensures found { spaces.new.found.value ≡ spaces.old.found.value }
-    ensures grows { Grows (minor_left spaces.old) spaces.old.here (minor_left spaces.new) spaces.new.here }
-    ensures scanned { (roots : List ℕ) → Scans (M.shapes maps.now) roots (minor_left spaces.old) spaces.old.here spaces.old.here.base
-        → MatchBool result (Scans (M.shapes maps.now) roots (minor_left spaces.new) spaces.new.here (spaces.new.here.base + spaces.new.tenured)) (HasBadPointer (M.shapes maps.now) (old_cells (minor_left spaces.old) spaces.old.here) roots) }
-    ensures cost { OnTrue result (steps.new + total_words spaces.old.here.cells ≡ steps.old + marked_count (take spaces.old.tenured remembered.now) + total_words spaces.new.here.cells) }
+    ensures grows { Grows (minor_left spaces.old) spaces.old.here (minor_left spaces.new)
+        spaces.new.here }
+    ensures scanned { (roots : List ℕ)
+        → Scans (M.shapes maps.now) roots (minor_left spaces.old) spaces.old.here
+        spaces.old.here.base
+        → MatchBool result
+        (Scans (M.shapes maps.now) roots (minor_left spaces.new) spaces.new.here
+        (spaces.new.here.base + spaces.new.tenured))
+        (HasBadPointer (M.shapes maps.now) (old_cells (minor_left spaces.old) spaces.old.here)
+        roots) }
+    ensures cost { OnTrue result
+        (steps.new + total_words spaces.old.here.cells
+        ≡ steps.old + marked_count (take spaces.old.tenured remembered.now)
+        + total_words spaces.new.here.cells) }
 {
     let base = spaces.here.base();
     let tenured = spaces.tenured as usize;

@@ -1,7 +1,8 @@
 use m3_heap::Half;
 use std::snapshot::Snapshot;
 
-/// The memory of a heap of generations: two halves for old cells, one of them in use, and a nursery.
+/// The memory of a heap of generations: two halves for old cells, one of them in use, and a
+/// nursery.
 #[derive(Drop)]
 pub struct Spaces {
     /// The half in use.

@@ -3,6 +3,7 @@ pub mod SpaceLemmas
 pub mod PlaceLemmas
 pub mod TracingLemmas
 pub mod CopyLemmas
+pub mod MovingLemmas
 pub mod ScanLemmas
 pub mod StepLemmas
 pub mod WordLemmas

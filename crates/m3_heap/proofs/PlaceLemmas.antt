@@ -22,8 +22,8 @@ pub record IsInside (half : Inside) (at : ℕ) : Type 0 where
 
 pub inside : (half : Inside) → IsHalf half → (at : ℕ) → at < 2 ^ 64 → place_of half at < half.used → IsInside half at
 inside half h at fits within = ⊎_elim
-    (λ (below : at < half.base). absurd (omega (arith, h.ends, h.used)))
-    (λ (above : half.base ≤ at). record { low = above; high = omega (arith, h.ends); place = omega (arith, h.ends) })
+    (λ (below : at < half.base). absurd (omega (arith, h.ends, h.used, h.within)))
+    (λ (above : half.base ≤ at). record { low = above; high = omega (arith, h.ends, h.used, h.within); place = omega (arith, h.ends, h.used, h.within) })
     (cases_lt at half.base)
 
 outside : (half : Inside) → IsHalf half → (at : ℕ) → at < 2 ^ 64 → half.used ≤ place_of half at → (at < half.base) ⊎ (half.base + total_words (space_of half).cells ≤ at)
@@ -31,7 +31,7 @@ outside half h at fits past =
     let total = total-used half h in
     ⊎_elim
     (λ (below : at < half.base). inl below)
-    (λ (above : half.base ≤ at). inr (omega (arith, h.ends)))
+    (λ (above : half.base ≤ at). inr (omega (arith, h.ends, h.used, h.within)))
     (cases_lt at half.base)
 
 pub word-inside : (half : Inside) → IsHalf half → (space : Space) → space_of half ≡ space → (at w : ℕ) → at < 2 ^ 64 → place_of half at < half.used → w ≡ get_or half.words.items (place_of half at) w → cell_word_at space.cells at ≡ Some w

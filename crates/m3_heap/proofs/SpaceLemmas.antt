@@ -1,9 +1,9 @@
 -- The cells in a row of marked words.
-use Rattle.std.proofs.Common.{◌≡◌, ℕ, ◌+◌, ◌-◌, ◌<◌, ◌≤◌, zero, suc, Bool, true, false, eqb, List, [], ◌∷◌, ◌++◌, length, get_or, set, take, drop, replicate, Some, None, is_some, refl, sym, ap, subst, ◌∙◌, arith, ⊎_elim, inl, inr, ◌⊎◌, ◌≢◌, get_or-set_other}
+use Rattle.std.proofs.Common.{◌≡◌, ℕ, ◌+◌, ◌-◌, ◌<◌, ◌≤◌, zero, suc, Bool, true, false, eqb, List, [], ◌∷◌, ◌++◌, length, get_or, set, take, drop, replicate, Some, None, is_some, vec_len, vec_capacity, refl, sym, ap, subst, ◌∙◌, arith, ⊎_elim, inl, inr, ◌⊎◌, ◌≢◌, get_or-set_other}
 use Rattle.std.specs.List.{AllByRecursion}
 use Rattle.std.specs.Prelude.{slice_get}
 use Rattle.std.proofs.lemmas.Bool.{cases_eq, cases_lt, lt-leb, le-leb, lt-ltb, le-ltb, eq-eqb, ne_eqb, cond-true, cond-false, false_from_ne_true, false≢true}
-use Rattle.std.proofs.lemmas.List.{set_past, length-take-le, get_or-take, drop-take, take-take}
+use Rattle.std.proofs.lemmas.List.{set_past, length-take-le, take-append-le, get_or-take, drop-take, take-take}
 use Rattle.m3_heap.specs.Cells.{Cell, header, cell_from, is_start, words_from, covers, cell_word_at, with_word, total_words}
 use Rattle.m3_heap.specs.CollectorSpace.{Space, unmarked, cells_in, AreLaid, AreRising}
 use Rattle.m3_heap.specs.declared.half.Half.TheInside.{Inside}
@@ -229,7 +229,7 @@ abbrev pub words_of : Inside → List ℕ
 words_of half = take half.used half.words.items
 
 pub length-marks_of : (half : Inside) → IsHalf half → length (marks_of half) ≡ half.used
-length-marks_of half h = length-take-le half.used half.starts (omega (arith, h.used, h.marks))
+length-marks_of half h = length-take-le half.used half.starts (omega (arith, h.used, h.within, h.marks))
 
 pub length-words_of : (half : Inside) → IsHalf half → length (words_of half) ≡ half.used
 length-words_of half h = length-take-le half.used half.words.items h.used
@@ -397,7 +397,7 @@ cell-words half h at n starts count =
     ∙ take-take n (half.used - i) (drop i half.words.items) (omega (arith, fits.0, fits.2)) in
     sym (words ∙ ap (λ m. take m (drop i (words_of half))) count ∙ cut)
 
-pub has-room : (half : Inside) → IsHalf half → (space : Space) (count : ℕ) → space_of half ≡ space → total_words space.cells + count ≤ space.size → half.used + count ≤ length half.words.items
+pub has-room : (half : Inside) → IsHalf half → (space : Space) (count : ℕ) → space_of half ≡ space → total_words space.cells + count ≤ space.size → half.used + count ≤ half.size
 has-room half h space count is room =
     let total = total-used half h in
     let cells = ap (λ (s : Space). total_words s.cells) is in
@@ -411,31 +411,51 @@ next-start half h space is =
     let base = ap (λ (s : Space). s.base) is in
     omega arith
 
+-- the words reach an end, and one more cell starts behind the others
+pub record IsCleared (half now : Inside) (end : ℕ) : Type 0 where
+  pub base : now.base ≡ half.base
+  pub size : now.size ≡ half.size
+  pub starts : now.starts ≡ set half.starts half.used true
+  pub kept : take half.used now.words.items ≡ take half.used half.words.items
+  pub reach : end ≤ vec_len now.words
+  pub within : vec_len now.words ≤ half.size
+  pub room : half.size ≤ vec_capacity now.words
+
+pub cleared-more : (half : Inside) → IsHalf half → (old now : List ℕ) → old ≡ half.words.items → (count : ℕ) → now ≡ old ++ replicate count 0 → take half.used now ≡ take half.used half.words.items
+cleared-more half h old now same count more =
+    ap (λ (ws : List ℕ). take half.used ws) (more ∙ ap (λ (ws : List ℕ). ws ++ replicate count 0) same) ∙ take-append-le half.used half.words.items (replicate count 0) h.used
+
 -- what a push leaves
 pub record IsPush (half : Inside) (marks : List Bool) (words ys : List ℕ) (count : ℕ) : Type 0 where
   pub marks_length : length marks ≡ length half.starts
   pub marks_rest : (k : ℕ) → half.used + count ≤ k → get_or marks k false ≡ false
   pub marks_now : take (half.used + count) marks ≡ take half.used half.starts ++ true ∷ replicate (half.used + count - (half.used + 1)) false
-  pub words_length : length words ≡ length half.words.items
+  pub words_reach : half.used + count ≤ length words
+  pub words_within : length words ≤ half.size
   pub words_now : take (half.used + count) words ≡ take half.used half.words.items ++ ys
   pub added : length ys ≡ count
   pub some : 1 ≤ count
-  pub room : half.used + count ≤ length half.words.items
+  pub room : half.used + count ≤ half.size
 
-pub push-cells : (half : Inside) → IsHalf half → (space : Space) → space_of half ≡ space → (marks : List Bool) (words ys : List ℕ) (count : ℕ) → IsPush half marks words ys count → cells_in half.base (take (half.used + count) marks) (take (half.used + count) words) ≡ space.cells ++ record { start = half.base + half.used; words = ys } ∷ []
-push-cells half h space is marks words ys count push =
-    cells-pushed half h (half.used + count - (half.used + 1)) (take (half.used + count) marks) (take (half.used + count) words) ys (omega (arith, push.added, push.some)) push.marks_now push.words_now
+pub push-cells : (half : Inside) → IsHalf half → (space : Space) → space_of half ≡ space → (marks : List Bool) (words ys : List ℕ) (count : ℕ) → IsPush half marks words ys count → (base : ℕ) → base ≡ half.base
+    → cells_in base (take (half.used + count) marks) (take (half.used + count) words) ≡ space.cells ++ record { start = base + half.used; words = ys } ∷ []
+push-cells half h space is marks words ys count push base same =
+    ap (λ n. cells_in n (take (half.used + count) marks) (take (half.used + count) words)) same
+    ∙ cells-pushed half h (half.used + count - (half.used + 1)) (take (half.used + count) marks) (take (half.used + count) words) ys (omega (arith, push.added, push.some)) push.marks_now push.words_now
     ∙ ap (λ (s : Space). s.cells ++ record { start = half.base + half.used; words = ys } ∷ []) is
+    ∙ ap (λ n. space.cells ++ record { start = n + half.used; words = ys } ∷ []) (sym same)
 
-pub push-half : (half new : Inside) → IsHalf half → (ys : List ℕ) (count : ℕ) → IsPush half new.starts new.words.items ys count → new.base ≡ half.base → new.used ≡ half.used + count → IsHalf new
-push-half half new h ys count push base used = record {
-  used = omega (arith, push.room, push.words_length);
-  marks = omega (arith, push.marks_length, push.words_length, h.marks);
+pub push-half : (half new : Inside) → IsHalf half → (ys : List ℕ) (count : ℕ) → IsPush half new.starts new.words.items ys count → new.base ≡ half.base → new.size ≡ half.size → new.used ≡ half.used + count → half.size ≤ vec_capacity new.words → IsHalf new
+push-half half new h ys count push base size used room = record {
+  used = omega (arith, push.words_reach, used);
+  within = omega (arith, push.words_within, size);
+  room = omega (arith, room, size);
+  marks = omega (arith, push.marks_length, size, h.marks);
   begins =
       ap (λ n. unmarked (take n new.starts) (take n new.words.items)) used
       ∙ begins-pushed half h (half.used + count - (half.used + 1)) (take (half.used + count) new.starts) (take (half.used + count) new.words.items) ys push.marks_now push.words_now;
   rest = λ k past. push.marks_rest k (omega (arith, used));
-  ends = omega (arith, push.words_length, h.ends);
+  ends = omega (arith, base, size, h.ends);
 }
 
 pub source-fits : (half : Inside) → IsHalf half → (space : Space) → space_of half ≡ space → (at n : ℕ) → is_start space.cells at ≡ true → length (words_from space.cells at) ≡ n → (half.base ≤ at) × (1 ≤ n) × (at + n ≤ half.base + half.used)
@@ -506,7 +526,7 @@ set-take (x ∷ xs) (suc i) (suc n) h lt le =
     ap (λ l. x ∷ l) (set-take xs i n (λ k past. h (suc k) (omega arith)) (omega arith) (omega arith) ∙ ap (λ k. take i xs ++ true ∷ replicate k false) count)
 
 -- the marks after a cell is added, up to its end and behind it
-pub pushed-marks : (half : Inside) → IsHalf half → (marks : List Bool) (count : ℕ) → marks ≡ set half.starts half.used true → 1 ≤ count → half.used + count ≤ length half.words.items → take (half.used + count) marks ≡ take half.used half.starts ++ true ∷ replicate (half.used + count - (half.used + 1)) false
+pub pushed-marks : (half : Inside) → IsHalf half → (marks : List Bool) (count : ℕ) → marks ≡ set half.starts half.used true → 1 ≤ count → half.used + count ≤ half.size → take (half.used + count) marks ≡ take half.used half.starts ++ true ∷ replicate (half.used + count - (half.used + 1)) false
 pushed-marks half h marks count is some room =
     ap (λ l. take (half.used + count) l) is ∙ set-take half.starts half.used (half.used + count) h.rest (omega arith) (omega (arith, h.marks))
 

@@ -122,15 +122,21 @@ with_cell heap kind words = settled (record heap {
 abbrev pub with_asked : Heap → ℕ → Heap
 with_asked heap words = settled (record heap { asked = words })
 
--- it is this heap, but for how many words the next collection looks at
-abbrev pub IsThis : Heap → Heap → Type 0
-IsThis heap new = new ≡ record heap { watched = new.watched }
+-- how many words of tenured cells the next collection looks at after a request: as many as before, if it is one
+-- of the young cells alone as before; none, if it is a full one. What a store tells counts only where a request
+-- was refused behind a larger one that was refused too, since then a full one gives way to one of the young cells
+abbrev pub watched_after : Heap → Heap → ℕ → ℕ
+watched_after old heap told = if is_minor heap then (if is_minor old then old.watched else told) else 0
+
+-- a request of a heap left this one, with what is watched then
+abbrev pub IsThis : Heap → Heap → Heap → Type 0
+IsThis old heap new = new ≡ record heap { watched = watched_after old heap new.watched }
 
 -- what a request of so many words makes of a heap: it is refused exactly where they exceed the free ones;
 -- else the cell goes where the next one goes
 abbrev pub Allots : Heap → ℕ → ℕ → Option ℕ → Heap → Type 0
-Allots old kind words None new = (old.free < words) × IsThis (with_asked old words) new
-Allots old kind words (Some start) new = (words ≤ old.free) × (start ≡ next_start old words) × IsThis (with_cell old kind words) new
+Allots old kind words None new = (old.free < words) × IsThis old (with_asked old words) new
+Allots old kind words (Some start) new = (words ≤ old.free) × (start ≡ next_start old words) × IsThis old (with_cell old kind words) new
 
 -- ---- a word that is set
 

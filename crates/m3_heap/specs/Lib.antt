@@ -10,5 +10,6 @@ pub mod CollectorMarks
 pub mod CollectorSpace
 pub mod CollectorHalf
 pub mod CollectorTracing
+pub mod CollectorMoving
 pub mod CollectorScanning
 pub mod CollectorHalves

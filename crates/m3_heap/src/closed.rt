@@ -27,9 +27,12 @@ impl<S: Store> Closed<S> {
     #[inline]
     pub fn set(&mut self, at: u64, word: u64) -> bool
         ensures value { result ≡ is_writable (S.heap self.old.store).cells at }
-        ensures cells { (S.heap self.new.store).cells ≡ (if result then with_word (S.heap self.old.store).cells at word else (S.heap self.old.store).cells) }
+        ensures cells { (S.heap self.new.store).cells
+            ≡ (if result then with_word (S.heap self.old.store).cells at word else
+            (S.heap self.old.store).cells) }
         ensures rest { HasOtherWords (S.heap self.old.store) (S.heap self.new.store) }
-        ensures fitting { (shapes : List Shape) → S.fits self.old.store shapes → S.fits self.new.store shapes }
+        ensures fitting { (shapes : List Shape) → S.fits self.old.store shapes
+            → S.fits self.new.store shapes }
     {
         self.store.store(at, word)
     }
@@ -38,7 +41,8 @@ impl<S: Store> Closed<S> {
     pub fn allocate(&mut self, kind: u32, words: u64) -> Option<u64>
         requires { 1 ≤ words }
         ensures allots { Allots (S.heap self.old.store) kind words result (S.heap self.new.store) }
-        ensures fitting { (shapes : List Shape) → S.fits self.old.store shapes → S.fits self.new.store shapes }
+        ensures fitting { (shapes : List Shape) → S.fits self.old.store shapes
+            → S.fits self.new.store shapes }
     {
         self.store.allocate(kind, words)
     }

@@ -1,7 +1,9 @@
 ghost use Rattle.std.specs.Bool.{OnTrue, MatchBool};
 ghost use Rattle.std.specs.Option.{IfNone};
-ghost use Rattle.std.specs.Prelude.{◌≡◌, ℕ, ◌+◌, ◌<◌, ◌↔◌, true, false, List, length, IsNone, IfSome, MatchOption};
-ghost use Rattle.m3_heap.specs.Cells.{header, kind_in, is_start, words_from, cell_word_at, with_word, total_words};
+ghost use Rattle.std.specs.Prelude.{◌≡◌, ℕ, ◌+◌, ◌<◌, ◌↔◌, true, false, List, length, IsNone};
+ghost use Rattle.std.specs.Prelude.{IfSome, MatchOption};
+ghost use Rattle.m3_heap.specs.Cells.{header, kind_in, is_start, words_from, cell_word_at};
+ghost use Rattle.m3_heap.specs.Cells.{with_word, total_words};
 ghost use Rattle.m3_heap.specs.Moves.{forwarded};
 ghost use Rattle.m3_heap.specs.Reach.{IsBadPointer, HasBadPointer};
 ghost use Rattle.m3_heap.specs.CollectorSpace.{Space};
@@ -12,9 +14,9 @@ use crate::maps::Maps;
 use crate::steps::Steps;
 use std::sync::ledger::Ledger;
 
-/// A collection by copying, as the scan of its copies sees it: the cells that are left and the copies that
-/// are kept. The header of a cell that was copied gives way to the new start, which no header reaches, so
-/// both together tell what stood there before (Cheney 1970).
+/// A collection by copying, as the scan of its copies sees it: the cells that are left and the
+/// copies that are kept. The header of a cell that was copied gives way to the new start, which no
+/// header reaches, so both together tell what stood there before (Cheney 1970).
 pub trait Copying {
     /// The cells that are left, as they stand.
     ghost left: { Self → Space };
@@ -25,17 +27,21 @@ pub trait Copying {
     /// What else its parts keep as long as the collection goes on.
     ghost keeps: { Self → Type 0 };
 
-    /// The new value of a word: its cell is copied behind the last one unless it was. None comes exactly
-    /// where the word lies where heaps lie and is no cell's start.
+    /// The new value of a word: its cell is copied behind the last one unless it was. None comes
+    /// exactly where the word lies where heaps lie and is no cell's start.
     fn forward<L: Ledger>(&mut self, word: u64, steps: &mut Steps<L>) -> Option<u64>
         requires tracing { IsTracing (left self.old) (kept self.old) }
         requires keeping { keeps self.old }
-        ensures none { IsNone result ↔ IsBadPointer (old_cells (left self.old) (kept self.old)) word }
-        ensures value { IfSome result (λ to. to ≡ forwarded (moves (left self.new) (kept self.new)) word) }
-        ensures kept { IfSome result (λ _. Keeps (left self.old) (kept self.old) (left self.new) (kept self.new) word) }
+        ensures none { IsNone result
+            ↔ IsBadPointer (old_cells (left self.old) (kept self.old)) word }
+        ensures value { IfSome result
+            (λ to. to ≡ forwarded (moves (left self.new) (kept self.new)) word) }
+        ensures kept { IfSome result
+            (λ _. Keeps (left self.old) (kept self.old) (left self.new) (kept self.new) word) }
         ensures left_stays { IfNone result (left self.new ≡ left self.old) }
         ensures kept_stays { IfNone result (kept self.new ≡ kept self.old) }
-        ensures cost { steps.new + total_words (kept self.old).cells ≡ steps.old + total_words (kept self.new).cells }
+        ensures cost { steps.new + total_words (kept self.old).cells
+            ≡ steps.old + total_words (kept self.new).cells }
         ensures keeping { keeps self.new };
 
     /// The word of a copy at an address. None comes exactly outside the copies.
@@ -74,26 +80,32 @@ fn scan_word<C: Copying, M: Maps, L: Ledger>(
     requires tracing { IsTracing (C.left copying.old) (C.kept copying.old) }
     requires keeping { C.keeps copying.old }
     requires starts { is_start (C.kept copying.old).cells copied.start ≡ true }
-    requires kind { copied.kind ≡ kind_in (header (words_from (C.kept copying.old).cells copied.start)) }
+    requires kind { copied.kind
+        ≡ kind_in (header (words_from (C.kept copying.old).cells copied.start)) }
     requires after_header { 0 < place }
     requires within { place < length (words_from (C.kept copying.old).cells copied.start) }
     ensures tracing { IsTracing (C.left copying.new) (C.kept copying.new) }
     ensures keeping { C.keeps copying.new }
-    ensures grows { Grows (C.left copying.old) (C.kept copying.old) (C.left copying.new) (C.kept copying.new) }
+    ensures grows { Grows (C.left copying.old) (C.kept copying.old) (C.left copying.new)
+        (C.kept copying.new) }
     ensures starts { is_start (C.kept copying.new).cells copied.start ≡ true }
     ensures same_length { length (words_from (C.kept copying.new).cells copied.start)
         ≡ length (words_from (C.kept copying.old).cells copied.start) }
     ensures same_header { header (words_from (C.kept copying.new).cells copied.start)
         ≡ header (words_from (C.kept copying.old).cells copied.start) }
     ensures scanned { (roots : List ℕ)
-        → Scans (M.shapes maps.now) roots (C.left copying.old) (C.kept copying.old) (copied.start + place)
+        → Scans (M.shapes maps.now) roots (C.left copying.old) (C.kept copying.old)
+        (copied.start + place)
         → MatchBool result
-        (Scans (M.shapes maps.now) roots (C.left copying.new) (C.kept copying.new) (copied.start + place + 1))
-        (HasBadPointer (M.shapes maps.now) (old_cells (C.left copying.old) (C.kept copying.old)) roots) }
+        (Scans (M.shapes maps.now) roots (C.left copying.new) (C.kept copying.new)
+        (copied.start + place + 1))
+        (HasBadPointer (M.shapes maps.now) (old_cells (C.left copying.old) (C.kept copying.old))
+        roots) }
     ensures cost { OnTrue result (steps.new
         + met (M.shapes maps.now) (C.left copying.old) (C.kept copying.old) (copied.start + place)
         + total_words (C.kept copying.old).cells ≡ steps.old
-        + met (M.shapes maps.now) (C.left copying.new) (C.kept copying.new) (copied.start + place + 1)
+        + met (M.shapes maps.now) (C.left copying.new) (C.kept copying.new)
+        (copied.start + place + 1)
         + total_words (C.kept copying.new).cells) }
 {
     let Copied { start, kind } = copied;
@@ -111,8 +123,8 @@ fn scan_word<C: Copying, M: Maps, L: Ledger>(
     }
 }
 
-// Forwards the pointers of the copy that starts at an address, and tells where it ends. None says that
-// one of them can't be a pointer.
+// Forwards the pointers of the copy that starts at an address, and tells where it ends. None says
+// that one of them can't be a pointer.
 fn scan_cell<C: Copying, M: Maps, L: Ledger>(
     copying: &mut C,
     start: u64,
@@ -124,13 +136,21 @@ fn scan_cell<C: Copying, M: Maps, L: Ledger>(
     requires starts { is_start (C.kept copying.old).cells start ≡ true }
     ensures tracing { IsTracing (C.left copying.new) (C.kept copying.new) }
     ensures keeping { C.keeps copying.new }
-    ensures grows { Grows (C.left copying.old) (C.kept copying.old) (C.left copying.new) (C.kept copying.new) }
+    ensures grows { Grows (C.left copying.old) (C.kept copying.old) (C.left copying.new)
+        (C.kept copying.new) }
     ensures further { IfSome result (λ end. start < end) }
     ensures boundary { IfSome result (IsBoundary (C.kept copying.new)) }
-    ensures scanned { (roots : List ℕ) → Scans (M.shapes maps.now) roots (C.left copying.old) (C.kept copying.old) start
-        → MatchOption result (HasBadPointer (M.shapes maps.now) (old_cells (C.left copying.old) (C.kept copying.old)) roots) (Scans (M.shapes maps.now) roots (C.left copying.new) (C.kept copying.new)) }
-    ensures cost { IfSome result (λ end. steps.new + met (M.shapes maps.now) (C.left copying.old) (C.kept copying.old) start + total_words (C.kept copying.old).cells
-        ≡ steps.old + met (M.shapes maps.now) (C.left copying.new) (C.kept copying.new) end + total_words (C.kept copying.new).cells) }
+    ensures scanned { (roots : List ℕ)
+        → Scans (M.shapes maps.now) roots (C.left copying.old) (C.kept copying.old) start
+        → MatchOption result
+        (HasBadPointer (M.shapes maps.now)
+        (old_cells (C.left copying.old) (C.kept copying.old)) roots)
+        (Scans (M.shapes maps.now) roots (C.left copying.new) (C.kept copying.new)) }
+    ensures cost { IfSome result
+        (λ end. steps.new + met (M.shapes maps.now) (C.left copying.old) (C.kept copying.old) start
+        + total_words (C.kept copying.old).cells
+        ≡ steps.old + met (M.shapes maps.now) (C.left copying.new) (C.kept copying.new) end
+        + total_words (C.kept copying.new).cells) }
 {
     let header = copying.word(start).unwrap();
     let kind = (header % (1 << 32)) as u32;
@@ -143,9 +163,9 @@ fn scan_cell<C: Copying, M: Maps, L: Ledger>(
     Some(start + words)
 }
 
-/// Copies all that the copies from an address on lead to, and forwards their pointers: the words from there
-/// on are the queue of what is still to be looked at (Cheney 1970). False says that a reached cell has a
-/// pointer that can't be one.
+/// Copies all that the copies from an address on lead to, and forwards their pointers: the words
+/// from there on are the queue of what is still to be looked at (Cheney 1970). False says that a
+/// reached cell has a pointer that can't be one.
 pub fn scan<C: Copying, M: Maps, L: Ledger>(
     copying: &mut C,
     from: u64,
@@ -157,11 +177,22 @@ pub fn scan<C: Copying, M: Maps, L: Ledger>(
     requires boundary { IsBoundary (C.kept copying.old) from }
     ensures tracing { IsTracing (C.left copying.new) (C.kept copying.new) }
     ensures keeping { C.keeps copying.new }
-    ensures grows { Grows (C.left copying.old) (C.kept copying.old) (C.left copying.new) (C.kept copying.new) }
-    ensures scanned { (roots : List ℕ) → Scans (M.shapes maps.now) roots (C.left copying.old) (C.kept copying.old) from
-        → MatchBool result (Scans (M.shapes maps.now) roots (C.left copying.new) (C.kept copying.new) ((C.kept copying.new).base + total_words (C.kept copying.new).cells)) (HasBadPointer (M.shapes maps.now) (old_cells (C.left copying.old) (C.kept copying.old)) roots) }
-    ensures cost { OnTrue result (steps.new + met (M.shapes maps.now) (C.left copying.old) (C.kept copying.old) from + total_words (C.kept copying.old).cells
-        ≡ steps.old + met (M.shapes maps.now) (C.left copying.new) (C.kept copying.new) ((C.kept copying.new).base + total_words (C.kept copying.new).cells) + total_words (C.kept copying.new).cells) }
+    ensures grows { Grows (C.left copying.old) (C.kept copying.old) (C.left copying.new)
+        (C.kept copying.new) }
+    ensures scanned { (roots : List ℕ)
+        → Scans (M.shapes maps.now) roots (C.left copying.old) (C.kept copying.old) from
+        → MatchBool result
+        (Scans (M.shapes maps.now) roots (C.left copying.new) (C.kept copying.new)
+        ((C.kept copying.new).base + total_words (C.kept copying.new).cells))
+        (HasBadPointer (M.shapes maps.now)
+        (old_cells (C.left copying.old) (C.kept copying.old)) roots) }
+    ensures cost { OnTrue result
+        (steps.new + met (M.shapes maps.now) (C.left copying.old) (C.kept copying.old) from
+        + total_words (C.kept copying.old).cells
+        ≡ steps.old
+        + met (M.shapes maps.now) (C.left copying.new) (C.kept copying.new)
+        ((C.kept copying.new).base + total_words (C.kept copying.new).cells)
+        + total_words (C.kept copying.new).cells) }
 {
     let mut at = from;
     while at < copying.end() {

@@ -1,6 +1,7 @@
 ghost use Rattle.std.specs.Bool.{OnTrue};
 ghost use Rattle.std.specs.Option.{IfNone};
-ghost use Rattle.std.specs.Prelude.{◌≡◌, ℕ, ◌+◌, ◌≤◌, ◌↔◌, true, false, if◌then◌else◌, IsNone, IfSome, IfOk, IsTrue, List, []};
+ghost use Rattle.std.specs.Prelude.{◌≡◌, ℕ, ◌+◌, ◌≤◌, ◌↔◌, true, false, if◌then◌else◌, IsNone};
+ghost use Rattle.std.specs.Prelude.{IfSome, IfOk, IsTrue, List, []};
 ghost use Rattle.m3_heap.specs.Heap.{counted};
 
 use crate::copying::Copying;
@@ -19,8 +20,8 @@ const FIRST_BASE: u64 = 1 << 60;
 
 const SECOND_BASE: u64 = 1 << 61;
 
-/// Two halves, one of them in use. A collection copies what is reached to the other half, which is in use
-/// from then on (Cheney 1970).
+/// Two halves, one of them in use. A collection copies what is reached to the other half, which is
+/// in use from then on (Cheney 1970).
 #[derive(Drop)]
 pub struct Halves {
     pair: Pair,
@@ -75,7 +76,9 @@ impl Halves {
     ghost use Rattle.m3_heap.specs.Semi.{IsOfHalves};
     ghost use Rattle.m3_heap.specs.Moves.{forwarded, with_kept, kept_words, kept_starts};
     ghost use Rattle.m3_heap.specs.Reach.{IsBadPointer, HasBadPointer};
-    ghost use Rattle.m3_heap.specs.Heap.{IsSoundHeap, SameSizes, Allots, HasOtherWords, CountsOne, ChangesHalves, KeepsReached, MovesCells, MakesRoom, CostsTrace};
+    ghost use Rattle.m3_heap.specs.Heap.{IsSoundHeap, SameSizes, Allots, HasOtherWords};
+    ghost use Rattle.m3_heap.specs.Heap.{CountsOne, ChangesHalves, KeepsReached, MovesCells};
+    ghost use Rattle.m3_heap.specs.Heap.{MakesRoom, CostsTrace};
 
     /// As `allocate` of a store.
     pub fn allocate(&mut self, kind: u32, words: u64) -> Option<u64>
@@ -107,7 +110,8 @@ impl Halves {
     pub fn store(&mut self, at: u64, word: u64) -> bool
         requires closed { self.old.is_open ≡ false }
         ensures value { result ≡ is_writable self.old.cells at }
-        ensures cells { self.new.cells ≡ (if result then with_word self.old.cells at word else self.old.cells) }
+        ensures cells { self.new.cells
+            ≡ (if result then with_word self.old.cells at word else self.old.cells) }
         ensures rest { HasOtherWords self.old self.new }
         ensures sound { IsSoundHeap self.new }
         ensures of_halves { IsOfHalves self.new }
@@ -132,9 +136,11 @@ impl Halves {
         requires open { self.old.is_open ≡ true }
         ensures none { IsNone result ↔ IsBadPointer self.old.cells word }
         ensures value { IfSome result (λ to. to ≡ forwarded self.new.moves word) }
-        ensures kept { IfSome result (λ to. self.new ≡ record self.old { moves = with_kept self.old.moves word to }) }
+        ensures kept { IfSome result
+            (λ to. self.new ≡ record self.old { moves = with_kept self.old.moves word to }) }
         ensures refused { IfNone result (self.new ≡ self.old) }
-        ensures cost { steps.new + kept_words self.old.cells self.old.moves ≡ steps.old + 1 + kept_words self.old.cells self.new.moves }
+        ensures cost { steps.new + kept_words self.old.cells self.old.moves
+            ≡ steps.old + 1 + kept_words self.old.cells self.new.moves }
         ensures sound { IsSoundHeap self.new }
         ensures of_halves { IsOfHalves self.new }
     {
@@ -145,14 +151,17 @@ impl Halves {
     /// As `finish` of a store. Where it answers true, the other half is in use.
     pub fn finish<M: Maps, L: Ledger>(&mut self, maps: &M, steps: &mut Steps<L>) -> bool
         requires open { self.old.is_open ≡ true }
-        ensures bad { result ≡ false → HasBadPointer (M.shapes maps.now) self.old.cells (kept_starts self.old.moves) }
-        ensures good { IsTrue result → HasBadPointer (M.shapes maps.now) self.old.cells (kept_starts self.old.moves) → ⊥ }
+        ensures bad { result ≡ false
+            → HasBadPointer (M.shapes maps.now) self.old.cells (kept_starts self.old.moves) }
+        ensures good { IsTrue result
+            → HasBadPointer (M.shapes maps.now) self.old.cells (kept_starts self.old.moves) → ⊥ }
         ensures reached { OnTrue result (KeepsReached (M.shapes maps.now) self.old self.new) }
         ensures moved { OnTrue result (MovesCells (M.shapes maps.now) self.old self.new) }
         ensures room { OnTrue result (MakesRoom self.old self.new) }
         ensures counted { OnTrue result (CountsOne self.old self.new) }
         ensures halves { OnTrue result (ChangesHalves self.old self.new) }
-        ensures cost { OnTrue result (CostsTrace (M.shapes maps.now) self.old self.new steps.old steps.new) }
+        ensures cost { OnTrue result
+            (CostsTrace (M.shapes maps.now) self.old self.new steps.old steps.new) }
         ensures closed { self.new.is_open ≡ false }
         ensures asked { self.new.asked ≡ 0 }
         ensures sizes { SameSizes self.old self.new }

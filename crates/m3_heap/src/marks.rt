@@ -1,5 +1,6 @@
 ghost use Rattle.std.specs.Int.{bit_at};
-ghost use Rattle.std.specs.Prelude.{◌≡◌, ◌≢◌, ℕ, ◌<◌, ◌≤◌, true, false, length, slice_index_or, slice_set, IfOk};
+ghost use Rattle.std.specs.Prelude.{◌≡◌, ◌≢◌, ℕ, ◌<◌, ◌≤◌, true, false, length, slice_index_or};
+ghost use Rattle.std.specs.Prelude.{slice_set, IfOk};
 
 use m3_base::NoMemory;
 use std::alloc::Global;
@@ -67,7 +68,8 @@ impl Marks {
         requires { from ≤ length self.now }
         ensures from { from ≤ result }
         ensures end { result ≤ length self.now }
-        ensures between { (k : ℕ) → from ≤ k → k < result → slice_index_or self.now k false ≡ false }
+        ensures between { (k : ℕ) → from ≤ k → k < result → slice_index_or self.now k false
+            ≡ false }
         ensures there { result < length self.now → slice_index_or self.now result false ≡ true }
     {
         let count = self.count;
@@ -90,7 +92,8 @@ impl Marks {
         requires first { slice_index_or self.now 0 false ≡ true }
         ensures from { result ≤ from }
         ensures there { slice_index_or self.now result false ≡ true }
-        ensures between { (k : ℕ) → result < k → k ≤ from → slice_index_or self.now k false ≡ false }
+        ensures between { (k : ℕ) → result < k → k ≤ from → slice_index_or self.now k false
+            ≡ false }
     {
         let mut at = from;
         while !self.get(at) {

@@ -7,13 +7,10 @@ ghost use Rattle.m3_heap.specs.CollectorScanning.{Scans, Grows, met, ArePlain};
 ghost use Rattle.m3_heap.specs.CollectorTracing.{IsTracing, old_cells, copies, moves, Keeps};
 
 use crate::copying::{Copying, scan};
-use crate::half::Half;
+use crate::half::{HEAP_BASE, Half};
 use crate::maps::Maps;
 use crate::steps::Steps;
 use std::sync::ledger::Ledger;
-
-/// The first address of heaps: a word from here on is a reference or nothing.
-pub const HEAP_BASE: u64 = 1 << 60;
 
 /// Two halves: the cells of one are copied to the other.
 #[derive(Drop)]
@@ -35,17 +32,7 @@ impl Copying for Pair {
         if word < HEAP_BASE {
             return Some(word);
         }
-        let Some(header) = self.here.header(word) else {
-            return None;
-        };
-        if header >= HEAP_BASE {
-            return Some(header);
-        }
-        let words = header >> 32;
-        let start = self.there.append_copy(&self.here, word, words);
-        self.here.put(word, start);
-        steps.add(words);
-        Some(start)
+        self.here.move_cell(&mut self.there, word, steps)
     }
 
     fn word(&self, at: u64) -> Option<u64> {
@@ -61,16 +48,26 @@ impl Copying for Pair {
     }
 }
 
-/// Copies all that the copies lead to, and forwards their pointers. False says that a reached cell has a
-/// pointer that can't be one.
+/// Copies all that the copies lead to, and forwards their pointers. False says that a reached cell
+/// has a pointer that can't be one.
 pub fn trace<M: Maps, L: Ledger>(pair: &mut Pair, maps: &M, steps: &mut Steps<L>) -> bool
     requires tracing { IsTracing pair.old.here pair.old.there }
-    requires plain { ArePlain (old_cells pair.old.here pair.old.there) (copies pair.old.here pair.old.there) }
+    requires plain { ArePlain (old_cells pair.old.here pair.old.there)
+        (copies pair.old.here pair.old.there) }
     ensures tracing { IsTracing pair.new.here pair.new.there }
     ensures grows { Grows pair.old.here pair.old.there pair.new.here pair.new.there }
-    ensures bad { result ≡ false → HasBadPointer (M.shapes maps.now) (old_cells pair.old.here pair.old.there) (kept_starts (moves pair.old.here pair.old.there)) }
-    ensures traced { OnTrue result (Scans (M.shapes maps.now) (kept_starts (moves pair.old.here pair.old.there)) pair.new.here pair.new.there (pair.new.there.base + total_words pair.new.there.cells)) }
-    ensures cost { OnTrue result (steps.new + total_words pair.old.there.cells ≡ steps.old + met (M.shapes maps.now) pair.new.here pair.new.there (pair.new.there.base + total_words pair.new.there.cells) + total_words pair.new.there.cells) }
+    ensures bad { result ≡ false
+        → HasBadPointer (M.shapes maps.now) (old_cells pair.old.here pair.old.there)
+        (kept_starts (moves pair.old.here pair.old.there)) }
+    ensures traced { OnTrue result
+        (Scans (M.shapes maps.now) (kept_starts (moves pair.old.here pair.old.there)) pair.new.here
+        pair.new.there (pair.new.there.base + total_words pair.new.there.cells)) }
+    ensures cost { OnTrue result
+        (steps.new + total_words pair.old.there.cells
+        ≡ steps.old
+        + met (M.shapes maps.now) pair.new.here pair.new.there
+        (pair.new.there.base + total_words pair.new.there.cells)
+        + total_words pair.new.there.cells) }
 {
     let base = pair.there.base();
     scan(pair, base, maps, steps)

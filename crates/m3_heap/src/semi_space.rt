@@ -10,8 +10,8 @@ use m3_base::NoMemory;
 use std::alloc::Global;
 use std::sync::ledger::Ledger;
 
-/// A heap of two halves, one of them in use. A collection copies what is reached to the other half, which
-/// is in use from then on (Cheney 1970).
+/// A heap of two halves, one of them in use. A collection copies what is reached to the other
+/// half, which is in use from then on (Cheney 1970).
 #[derive(Drop)]
 pub struct SemiSpace {
     halves: Halves,
@@ -23,7 +23,8 @@ impl SemiSpace {
     ghost use Rattle.std.specs.Prelude.{◌≡◌, ◌≤◌, IfOk};
     ghost use Rattle.m3_heap.specs.Semi.{new_heap};
 
-    /// A heap without cells. Both halves have so many words, and no more memory is taken from then on.
+    /// A heap without cells. Both halves have so many words, and no more memory is taken from then
+    /// on.
     pub fn new(alloc: Global, words: u64) -> Result<SemiSpace, NoMemory>
         requires at_least { 64 ≤ words }
         requires at_most { words ≤ 67108864 }
@@ -69,8 +70,8 @@ impl Store for SemiSpace {
         self.halves.visit(word, steps)
     }
 
-    /// Puts the other half in use, where it answers true: every kept cell has a new address, and that half
-    /// holds exactly what is reached from the visited words.
+    /// Puts the other half in use, where it answers true: every kept cell has a new address, and
+    /// that half holds exactly what is reached from the visited words.
     fn finish<M: Maps, L: Ledger>(&mut self, maps: &M, steps: &mut Steps<L>) -> bool {
         self.halves.finish(maps, steps)
     }

@@ -1,12 +1,13 @@
 -- Two collections of one state keep the same cells, and so many words are free; a request has one answer.
-use Rattle.std.specs.Prelude.{ℕ, suc, ◌≡◌, ◌≢◌, ◌+◌, ◌-◌, ◌<◌, ◌==◌, ◌↔◌, IsNone, min, Bool, true, false, List, [], ◌∷◌, length, Option, None, Some, is_some}
+use Rattle.std.specs.Prelude.{ℕ, suc, ◌≡◌, ◌≢◌, ◌+◌, ◌-◌, ◌<◌, ◌==◌, ◌↔◌, IsNone, ◌≤◌, ◌&&◌, nat_lt, nat_le, min, Bool, true, false, List, [], ◌∷◌, length, Option, None, Some, is_some, Result, Ok, Err}
 use Rattle.std.specs.List.{AllByRecursion}
 use Rattle.std.proofs.Common.{refl, sym, ap, subst, ◌∙◌, arith, cond, ⊎_elim, true≢false}
-use Rattle.std.proofs.lemmas.Bool.{cases_eq, cond-true, cond-false, eq-eqb, ne_eqb, false≢true}
-use Rattle.m3_heap.specs.Cells.{Cell, words_from, total_words}
+use Rattle.std.proofs.lemmas.Bool.{cases_eq, cond-true, cond-false, eq-eqb, ne_eqb, false≢true, and_parts, and_from, le-leb}
+use Rattle.m3_heap.specs.Cells.{Cell, words_from, total_words, new_cell}
 use Rattle.m3_heap.specs.Shapes.{Shape, is_pointer_word}
 use Rattle.m3_heap.specs.Moves.{Move, new_start, is_kept, DiffersFrom, AreOneToOne, mapped_from, mapped, moved_cells}
-use Rattle.m3_heap.specs.Heap.{Heap, words_free, with_asked, with_cell, Allots}
+use Rattle.m3_heap.specs.Heap.{Heap, words_free, is_minor, next_start, with_asked, with_cell, IsThis, Allots}
+use Rattle.m3_heap.proofs.TracingLemmas.{total-append}
 use Rattle.m3_image_sections.specs.Parts.{Program}
 use Rattle.m3_image.specs.Programs.{fault_of}
 use Rattle.m3_roots.specs.Collected.{shapes_of, roots_of}
@@ -14,8 +15,11 @@ use Rattle.m3_roots.proofs.CollectedLemmas.{walks_once}
 use Rattle.m3_heap.specs.Reach.{IsReachable}
 use Rattle.m3_run_meaning.specs.State.{State}
 use Rattle.m3_run_meaning.specs.Collecting.{Collects, parts_of}
-use Rattle.m3_run_meaning.specs.Making.{Allocates}
-use Rattle.m3_run_laws.specs.Agreeing.{Agree}
+use Rattle.m3_run_meaning.specs.Making.{Allocates, Makes, Makes_late, at_once, late, made_late, full_late, stuck_late}
+use Rattle.m3_base.specs.declared.outcomes.Outcome.{Outcome}
+use Rattle.m3_base.specs.declared.outcomes.Outcome.TheVariants.{HeapFull}
+use Rattle.m3_run_laws.specs.Agreeing.{Agree, EndAlike}
+use Rattle.m3_run_laws.specs.Stores.{NothingRefused}
 
 -- ---- sums over forwarding lists
 
@@ -172,10 +176,25 @@ room_after p s t u kind words answer c a =
 with-watched : Heap → ℕ → Heap
 with-watched h n = record h { watched = n }
 
--- heaps without a nursery that differ at most in the words that the next collection looks at are one
-same-but : (h one other : Heap) → one ≡ record h { watched = one.watched } → other ≡ record h { watched = other.watched } → one.watched ≡ 0 → other.watched ≡ 0 → other ≡ one
+-- what is watched after a request is told by the heaps alone, where a full collection doesn't give way to one of the
+-- young cells
+told-by : (was is : Bool) (old m n : ℕ) → (is ≡ true → was ≡ true) → cond is (cond was old m) 0 ≡ cond is (cond was old n) 0
+told-by was false old m n both = refl
+told-by true true old m n both = refl
+told-by false true old m n both = absurd (false≢true (both refl))
+
+same-request : (old h one other : Heap) → IsThis old h one → IsThis old h other → (is_minor h ≡ true → is_minor old ≡ true) → other ≡ one
 unfolding with-watched
-same-but h one other e f zero zero' = f ∙ ap (λ n. with-watched h n) (zero' ∙ sym zero) ∙ sym e
+same-request old h one other e f both = f ∙ ap (λ n. with-watched h n) (told-by (is_minor old) (is_minor h) old.watched other.watched one.watched both) ∙ sym e
+
+-- a collection of the young cells alone comes next wherever one may come later, if nothing was refused
+still-minor : (h : Heap) (b : Bool) → NothingRefused h → total_words h.cells ≤ h.size → (nat_lt 0 h.nursery && b) ≡ true → is_minor h ≡ true
+still-minor h b nothing room later =
+    let some = (and_parts (nat_lt 0 h.nursery) b later).0 in
+    and_from (nat_lt 0 h.nursery) (nat_le (h.asked + total_words h.cells) h.size) some (⊎_elim
+    (λ (none : h.nursery ≡ 0). absurd (false≢true (sym (ap (λ n. nat_lt 0 n) none) ∙ some)))
+    (λ (unasked : h.asked ≡ 0). le-leb (h.asked + total_words h.cells) h.size (omega (arith, unasked, room)))
+    nothing)
 
 with-heap : State → Heap → State
 with-heap s h = record s { heap = h }
@@ -184,18 +203,71 @@ same-state : (s one other : State) → one ≡ record s { heap = one.heap } → 
 unfolding with-heap
 same-state s one other e f same = f ∙ ap (λ h. with-heap s h) same ∙ sym e
 
-pub one_answer : (kind words : ℕ) (s one other : State) (a b : Option ℕ) → s.heap.nursery ≡ 0 → Allocates kind words s a one → Allocates kind words s b other → (b ≡ a) × (other ≡ one)
-one_answer kind words s one other None None none p q =
-    let x = p.allots.1 in
-    let y = q.allots.1 in
-    let zero = p.laws.watched (ap (λ (h : Heap). h.nursery) x ∙ none) in
-    let zero' = q.laws.watched (ap (λ (h : Heap). h.nursery) y ∙ none) in
-    (refl, same-state s one other p.rest q.rest (same-but (with_asked s.heap words) one.heap other.heap x y zero zero'))
-one_answer kind words s one other None (Some start) none p q = absurd (let full = p.allots.0 in let fits = q.allots.0 in omega (arith, full, fits))
-one_answer kind words s one other (Some start) None none p q = absurd (let fits = p.allots.0 in let full = q.allots.0 in omega (arith, full, fits))
-one_answer kind words s one other (Some start) (Some at) none p q =
-    let x = p.allots.2 in
-    let y = q.allots.2 in
-    let zero = p.laws.watched (ap (λ (h : Heap). h.nursery) x ∙ none) in
-    let zero' = q.laws.watched (ap (λ (h : Heap). h.nursery) y ∙ none) in
-    (ap Some (q.allots.1 ∙ sym p.allots.1), same-state s one other p.rest q.rest (same-but (with_cell s.heap kind words) one.heap other.heap x y zero zero'))
+-- the cells of a heap have room, since those that a request leaves do
+room-before : (kind words : ℕ) (s u : State) (a : Option ℕ) → Allocates kind words s a u → total_words s.heap.cells ≤ s.heap.size
+room-before kind words s u None p =
+    let cells = ap (λ (h : Heap). total_words h.cells) p.allots.1 in
+    let size = ap (λ (h : Heap). h.size) p.allots.1 in
+    omega (arith, cells, size, p.laws.room)
+room-before kind words s u (Some start) p =
+    let cells = ap (λ (h : Heap). total_words h.cells) p.allots.2 ∙ total-append s.heap.cells (new_cell (next_start s.heap words) kind words ∷ []) in
+    let size = ap (λ (h : Heap). h.size) p.allots.2 in
+    omega (arith, cells, size, p.laws.room)
+
+pub one_answer : (kind words : ℕ) (s one other : State) (a b : Option ℕ) → NothingRefused s.heap → Allocates kind words s a one → Allocates kind words s b other → (b ≡ a) × (other ≡ one)
+one_answer kind words s one other None None nothing p q =
+    let h = with_asked s.heap words in
+    let room = room-before kind words s one None p in
+    (refl, same-state s one other p.rest q.rest (same-request s.heap h one.heap other.heap p.allots.1 q.allots.1 (λ later. still-minor s.heap (nat_le (words + total_words s.heap.cells) s.heap.size) nothing room later)))
+one_answer kind words s one other None (Some start) nothing p q = absurd (let full = p.allots.0 in let fits = q.allots.0 in omega (arith, full, fits))
+one_answer kind words s one other (Some start) None nothing p q = absurd (let fits = p.allots.0 in let full = q.allots.0 in omega (arith, full, fits))
+one_answer kind words s one other (Some start) (Some at) nothing p q =
+    let h = with_cell s.heap kind words in
+    let room = room-before kind words s one (Some start) p in
+    (ap Some (q.allots.1 ∙ sym p.allots.1), same-state s one other p.rest q.rest (same-request s.heap h one.heap other.heap p.allots.2 q.allots.2 (λ later. still-minor s.heap (nat_le (s.heap.asked + total_words h.cells) s.heap.size) nothing room later)))
+
+-- ---- new cells
+
+ok-err : {A B : Type 0} {x : A} {y : B} → Ok x ≡ Err y → ⊥
+ok-err e = absurd (cc)
+
+-- after a refusal a cell is made exactly where its words are free behind the collection
+pub full_exactly : (p : Program) (kind words : ℕ) (s r t u : State) (answer : Result ℕ Outcome) → fault_of p ≡ None → NothingRefused s.heap → Allocates kind words s None r → Collects p r t → Makes p kind words s answer u
+    → (answer ≡ Err HeapFull) ↔ (t.heap.free < words)
+full_exactly p kind words s r t left result good nothing refused c (at_once start u a) = absurd (let fits = a.allots.0 in let full = refused.allots.0 in omega (arith, fits, full))
+full_exactly p kind words s r t left result good nothing refused c (late r' u answer refused' m) =
+    let same = (one_answer kind words s r r' None None nothing refused refused').1 in
+    later p kind words r t u answer good c (subst (λ (x : State). Makes_late p kind words x answer u) same m)
+  where
+    later : (p : Program) (kind words : ℕ) (r t u : State) (answer : Result ℕ Outcome) → fault_of p ≡ None → Collects p r t → Makes_late p kind words r answer u → (answer ≡ Err HeapFull) ↔ (t.heap.free < words)
+    later p kind words r t left result good c (made_late t' u start c' a) =
+        let free = (same_kept p r t t' good c c').free in
+        let fits = a.allots.0 in
+        (λ e. absurd (ok-err e), λ full. absurd (omega (arith, free, fits, full)))
+    later p kind words r t left result good c (full_late t' u c' a) =
+        let free = (same_kept p r t t' good c c').free in
+        let full = a.allots.0 in
+        (λ e. omega (arith, free, full), λ e. refl)
+    later p kind words r t left result good c (stuck_late u spoils) = absurd (c.whole spoils.stops)
+
+-- two requests of one state end alike
+pub end_alike : (p : Program) (kind words : ℕ) (s u v : State) (one other : Result ℕ Outcome) → fault_of p ≡ None → NothingRefused s.heap → Makes p kind words s one u → Makes p kind words s other v → EndAlike one other
+end_alike p kind words s left right first second good nothing (at_once start u a) (at_once at v b) = tt
+end_alike p kind words s left right first second good nothing (at_once start u a) (late r v other refused m) = absurd (let fits = a.allots.0 in let full = refused.allots.0 in omega (arith, fits, full))
+end_alike p kind words s left right first second good nothing (late r u one refused m) (at_once start v a) = absurd (let fits = a.allots.0 in let full = refused.allots.0 in omega (arith, fits, full))
+end_alike p kind words s left right first second good nothing (late r u one refused m) (late r' v other refused' n) =
+    let same = (one_answer kind words s r r' None None nothing refused refused').1 in
+    later p kind words r u v one other good m (subst (λ (x : State). Makes_late p kind words x other v) same n)
+  where
+    later : (p : Program) (kind words : ℕ) (r u v : State) (one other : Result ℕ Outcome) → fault_of p ≡ None → Makes_late p kind words r one u → Makes_late p kind words r other v → EndAlike one other
+    later p kind words r left right first second good (made_late t u start c a) (made_late t' v at c' b) = tt
+    later p kind words r left right first second good (made_late t u start c a) (full_late t' v c' b) =
+        absurd (let free = (same_kept p r t t' good c c').free in let fits = a.allots.0 in let full = b.allots.0 in omega (arith, free, fits, full))
+    later p kind words r left right first second good (made_late t u start c a) (stuck_late v spoils) = absurd (c.whole spoils.stops)
+    later p kind words r left right first second good (full_late t u c a) (made_late t' v at c' b) =
+        absurd (let free = (same_kept p r t t' good c c').free in let full = a.allots.0 in let fits = b.allots.0 in omega (arith, free, fits, full))
+    later p kind words r left right first second good (full_late t u c a) (full_late t' v c' b) = refl
+    later p kind words r left right first second good (full_late t u c a) (stuck_late v spoils) = absurd (c.whole spoils.stops)
+    later p kind words r left right first second good (stuck_late u spoils) (made_late t' v at c' b) = absurd (c'.whole spoils.stops)
+    later p kind words r left right first second good (stuck_late u spoils) (full_late t' v c' b) = absurd (c'.whole spoils.stops)
+    later p kind words r left right first second good (stuck_late u spoils) (stuck_late v spoils') = refl

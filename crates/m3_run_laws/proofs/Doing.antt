@@ -55,6 +55,7 @@ written p s regs memory (Goes u) turn h =
       running = a.running;
       depth = a.depth;
       turn = a.turn s.running first.turn;
+      asked = a.asked;
     }
 written p s regs memory (Rests u) turn h = absurd h
 written p s regs memory (Ends u outcome) turn h = absurd h
@@ -147,19 +148,21 @@ forks-keep p n old new first closure cell number point room f turn =
     subst (λ (a : Everyone). (a.stack ≡ old.stack) × InTurnOf p n a) (sym f.3) (refl, k)
 
 -- from a state of the same counts, with the same running thread
-keeps-from : (p : Program) (u there : State) (progress : Progress) → SameCounts u there → there.running ≡ u.running → there.all.stack ≡ u.all.stack → Keeps p there progress → Keeps p u progress
-keeps-from p u there (Goes v) counts running depth k = record {
+keeps-from : (p : Program) (u there : State) (progress : Progress) → SameCounts u there → there.running ≡ u.running → there.all.stack ≡ u.all.stack → (u.heap.asked ≡ 0 → there.heap.asked ≡ 0) → Keeps p there progress → Keeps p u progress
+keeps-from p u there (Goes v) counts running depth asked k = record {
   counts = counts_on u there v counts k.counts;
   running = k.running ∙ running;
   depth = k.depth ∙ depth;
   turn = subst (λ (m : ℕ). InTurnOf p m v.all) running k.turn;
+  asked = λ none. k.asked (asked none);
 }
-keeps-from p u there (Rests v) counts running depth k = record {
+keeps-from p u there (Rests v) counts running depth asked k = record {
   counts = counts_on u there v counts k.counts;
   depth = k.depth ∙ depth;
   at_points = k.at_points;
+  asked = λ none. k.asked (asked none);
 }
-keeps-from p u there (Ends v outcome) counts running depth k = (counts_on u there v counts k.0, k.1)
+keeps-from p u there (Ends v outcome) counts running depth asked k = (counts_on u there v counts k.0, k.1)
 
 starts-keep : (p : Program) (i : Instr) (start : ℕ) (first : ProcPart) (begins : Instr) (u : State) (t : Thread) (progress : Progress) → is_point_at p.code first.first ≡ true → length u.all.threads < u.all.allowed
     → InTurnOf p u.running u.all → Starts_thread p i start first begins u t progress → Keeps p u progress
@@ -171,7 +174,7 @@ starts-keep p i start first begins u t progress point room turn h =
     let stood = anyone p h.numbered.all.stack (with_status (status_at begins)) (u.all.forks + 1) n h.numbered.all (refl, later) (λ v. refl) (λ v awake. stands-awake begins.op begins.a begins.b) (λ v at. at) in
     let there : State = with_all h.numbered (standing_at begins (u.all.forks + 1) h.numbered.all) in
     let last : Keeps p there progress = goes_so p there (answered t.regs i.a start) progress (subst (λ (m : ℕ). InTurnOf p m there.all) (sym w.running) stood.1) h.goes in
-    keeps-from p u there progress (record { points = w.counts.points; instructions = w.counts.instructions; store = w.counts.store }) w.running (w.depth ∙ f.0) last
+    keeps-from p u there progress (record { points = w.counts.points; instructions = w.counts.instructions; store = w.counts.store }) w.running (w.depth ∙ f.0) w.asked last
 
 gives-thread : (p : Program) (i : Instr) (s : State) (answer : Result ℕ Outcome) (u : State) (progress : Progress) → BeginsAtPoints p → InTurnOf p s.running s.all → length s.all.threads ≢ s.all.allowed → Made p s answer u
     → GivesThread p i answer u progress → Keeps p s progress
@@ -193,15 +196,15 @@ left-counts : (s left : State) → SameCounts (with_all s left.all) left → Sam
 left-counts s left h = record { points = h.points; instructions = h.instructions; store = h.store }
 
 thread-keeps : (p : Program) (s left : State) (done : Ended) → Stays p (with_all s left.all) left → Leaves_turn p s.running s.all.stack done left.all → Keeps p s (became (answer_of done) left)
-thread-keeps p s left Went w k = record { counts = left-counts s left w.counts; running = w.running; depth = k.0; turn = k.1 }
-thread-keeps p s left Jumped w k = record { counts = left-counts s left w.counts; running = w.running; depth = k.0; turn = k.1 }
-thread-keeps p s left Slept w k = record { counts = left-counts s left w.counts; depth = k.0; at_points = k.1 }
+thread-keeps p s left Went w k = record { counts = left-counts s left w.counts; running = w.running; depth = k.0; turn = k.1; asked = w.asked }
+thread-keeps p s left Jumped w k = record { counts = left-counts s left w.counts; running = w.running; depth = k.0; turn = k.1; asked = w.asked }
+thread-keeps p s left Slept w k = record { counts = left-counts s left w.counts; depth = k.0; at_points = k.1; asked = w.asked }
 thread-keeps p s left (Trapped n) w k = (left-counts s left w.counts, tt)
 
 end-keeps : (p : Program) (s left : State) (done : Ended) → Stays p (with_all s left.all) left → Ends_turn p s.all.stack done left.all → Keeps p s (became (answer_of_end done) left)
-end-keeps p s left Went w k = record { counts = left-counts s left w.counts; depth = k.0; at_points = k.1 }
-end-keeps p s left Jumped w k = record { counts = left-counts s left w.counts; depth = k.0; at_points = k.1 }
-end-keeps p s left Slept w k = record { counts = left-counts s left w.counts; depth = k.0; at_points = k.1 }
+end-keeps p s left Went w k = record { counts = left-counts s left w.counts; depth = k.0; at_points = k.1; asked = w.asked }
+end-keeps p s left Jumped w k = record { counts = left-counts s left w.counts; depth = k.0; at_points = k.1; asked = w.asked }
+end-keeps p s left Slept w k = record { counts = left-counts s left w.counts; depth = k.0; at_points = k.1; asked = w.asked }
 end-keeps p s left (Trapped n) w k = (left-counts s left w.counts, tt)
 
 -- by what m3_threads says of it

@@ -79,6 +79,7 @@ settles-sound p allowed from s k progress place st keeps (goes_on u t i running 
       instructions = omega (arith, keeps.counts.instructions, st.instructions);
       short = omega (arith, limit, more);
       store = lawful_on from.heap s.heap u.heap st.store keeps.counts.store;
+      asked = λ none. keeps.asked (st.asked none);
     }
 settles-sound p allowed from s k progress place st keeps (comes_to_point u t i running next point) =
     let more = next-turn st.before (turn_limit p from) in
@@ -90,6 +91,7 @@ settles-sound p allowed from s k progress place st keeps (comes_to_point u t i r
       within = omega (arith, keeps.counts.points, st.within);
       instructions = omega (arith, keeps.counts.instructions, st.instructions, st.short, more);
       store = lawful_on from.heap s.heap u.heap st.store keeps.counts.store;
+      asked = λ none. keeps.asked (st.asked none);
     }
 settles-sound p allowed from s k progress place st keeps (leaves_code u t running none) = over-by p allowed from s k u st keeps.counts
 settles-sound p allowed from s k progress place st keeps (lasts_too_long u t i running next plain more) = over-by p allowed from s k u st keeps.counts
@@ -103,6 +105,7 @@ settles-sound p allowed from s k progress place st keeps (rests u) =
       within = omega (arith, keeps.counts.points, st.within);
       instructions = omega (arith, keeps.counts.instructions, st.instructions, st.short, more);
       store = lawful_on from.heap s.heap u.heap st.store keeps.counts.store;
+      asked = λ none. keeps.asked (st.asked none);
     }
 settles-sound p allowed from s k progress place st keeps (run_ends u outcome) = ends-soundly p allowed from u outcome keeps.1 (over-by p allowed from s k u st keeps.0)
 
@@ -154,7 +157,7 @@ some-state : (s u : State) → Some s ≡ Some u → s ≡ u
 some-state s u e = cc
 
 stays-itself : (p : Program) (s : State) → Stays p s s
-stays-itself p s = record { counts = record { points = refl; instructions = refl; store = lawful_itself s.heap }; running = refl; depth = refl; turn = λ n h. h; at_points = λ h. h; many = refl; allowed = refl }
+stays-itself p s = record { counts = record { points = refl; instructions = refl; store = lawful_itself s.heap }; running = refl; depth = refl; turn = λ n h. h; at_points = λ h. h; many = refl; allowed = refl; asked = λ none. none }
 
 pub collected-stays : (p : Program) (s : State) (asked : Bool) (o : Option State) (u : State) → Collected_if p s asked o → o ≡ Some u → Stays p s u
 collected-stays p s asked o u left e = subst (λ (x : State). Stays p s x) (some-state s u e) (stays-itself p s)
@@ -181,6 +184,7 @@ chooses_sound p allowed from s turn entry small some st few c =
       instructions = omega (arith, a.counts.instructions, st.instructions);
       short = some;
       store = lawful_on from.heap s.heap ready.heap st.store a.counts.store;
+      asked = λ none. a.asked (st.asked none);
     } in
     subst (λ (x : State). SoundTurn p allowed from x 0) (sym c.turns) st'
 
@@ -245,7 +249,7 @@ leads_sound p input allowed from c d small begins st (moves b m n first last) =
 
 -- from a state between two turns
 pub starts_sound : (p : Program) (allowed : ℕ) (s : State) → AllAtPoints p s.all → s.points ≤ allowed → SoundPoint p allowed s s
-starts_sound p allowed s at within = record { at_points = at; depth = refl; turns = 0; points = omega arith; within = within; instructions = omega arith; store = lawful_itself s.heap }
+starts_sound p allowed s at within = record { at_points = at; depth = refl; turns = 0; points = omega arith; within = within; instructions = omega arith; store = lawful_itself s.heap; asked = λ none. none }
 
 pub runs_sound : (p : Program) (input : List ℕ) (allowed : ℕ) (from : State) (schedule : List Entry) (d : Config) → allowed < 2 ^ 64 → BeginsAtPoints p → AllAtPoints p from.all → from.points ≤ allowed
     → Leads p input allowed (starting from schedule) d → IsSound p allowed from d.place

@@ -4,6 +4,7 @@ use Rattle.std.specs.List.{AllByRecursion, slice_get}
 use Rattle.std.proofs.Common.{refl, sym, ap, subst, ◌∙◌, arith, cond}
 use Rattle.m3_base.specs.declared.outcomes.Outcome.{Outcome}
 use Rattle.m3_isa.specs.declared.registers.Regs.{Regs}
+use Rattle.m3_heap.specs.Heap.{Heap}
 use Rattle.m3_threads.specs.declared.status.Thread.{Thread}
 use Rattle.m3_threads.specs.All.{Everyone, is_named}
 use Rattle.m3_threads.specs.Going.{IsAwake}
@@ -99,6 +100,7 @@ pub record Stays (p : Program) (s u : State) : Type 0 where
   pub at_points : AllAtPoints p s.all → AllAtPoints p u.all
   pub many : length u.all.threads ≡ length s.all.threads
   pub allowed : u.all.allowed ≡ s.all.allowed
+  pub asked : s.heap.asked ≡ 0 → u.heap.asked ≡ 0
 
 pub counts_on : (s t u : State) → SameCounts s t → SameCounts t u → SameCounts s u
 counts_on s t u a b = record { points = b.points ∙ a.points; instructions = b.instructions ∙ a.instructions; store = lawful_on s.heap t.heap u.heap a.store b.store }
@@ -112,10 +114,11 @@ stays_on p s t u a b = record {
   at_points = λ h. b.at_points (a.at_points h);
   many = b.many ∙ a.many;
   allowed = b.allowed ∙ a.allowed;
+  asked = λ none. b.asked (a.asked none);
 }
 
-stays-by : (p : Program) (s u : State) → SameCounts s u → u.running ≡ s.running → SameThreads s.all u.all → Stays p s u
-stays-by p s u counts running same = record {
+stays-by : (p : Program) (s u : State) → SameCounts s u → u.running ≡ s.running → SameThreads s.all u.all → u.heap.asked ≡ s.heap.asked → Stays p s u
+stays-by p s u counts running same asked = record {
   counts = counts;
   running = running;
   depth = same.depth;
@@ -123,24 +126,29 @@ stays-by p s u counts running same = record {
   at_points = λ h. points_stay p s.all u.all same h;
   many = ap (λ (ts : List Thread). length ts) same.threads;
   allowed = same.allowed;
+  asked = λ none. asked ∙ none;
 }
 
 same-all : (all new : Everyone) → new ≡ all → SameThreads all new
 same-all all new e = record { threads = ap (λ (a : Everyone). a.threads) e; depth = ap (λ (a : Everyone). a.stack) e; allowed = ap (λ (a : Everyone). a.allowed) e; counts = ap (λ (a : Everyone). a.forks + a.waits) e }
 
 pub taken_stays : (p : Program) (s : State) (n : ℕ) → Stays p s (record s { taken = n })
-taken_stays p s n = stays-by p s (record s { taken = n }) (record { points = refl; instructions = refl; store = lawful_itself s.heap }) refl (record { threads = refl; depth = refl; allowed = refl; counts = refl })
+taken_stays p s n = stays-by p s (record s { taken = n }) (record { points = refl; instructions = refl; store = lawful_itself s.heap }) refl (record { threads = refl; depth = refl; allowed = refl; counts = refl }) refl
 
 pub words_stay : (p : Program) (s u : State) → HasOtherWords s u → Stays p s u
 words_stay p s u h = stays-by p s u
     (record { points = ap (λ (x : State). x.points) h.rest; instructions = ap (λ (x : State). x.instructions) h.rest; store = words_lawful s.heap u.heap h.heap })
     (ap (λ (x : State). x.running) h.rest)
     (record { threads = ap (λ (a : Everyone). a.threads) h.all.rest; depth = ap (λ (a : Everyone). a.stack) h.all.rest; allowed = ap (λ (a : Everyone). a.allowed) h.all.rest; counts = ap (λ (a : Everyone). a.forks + a.waits) h.all.rest })
+    (ap (λ (x : Heap). x.asked) h.heap.rest)
 
-request-stays : (p : Program) (kind words : ℕ) (s : State) (o : Option ℕ) (u : State) → Allocates kind words s o u → Stays p s u
-request-stays p kind words s o u a = stays-by p s u
-    (record { points = ap (λ (x : State). x.points) a.rest; instructions = ap (λ (x : State). x.instructions) a.rest; store = request_lawful s.heap u.heap kind words o a.allots a.laws })
-    (ap (λ (x : State). x.running) a.rest) (same-all s.all u.all (ap (λ (x : State). x.all) a.rest))
+request-counts : (kind words : ℕ) (s : State) (o : Option ℕ) (u : State) → Allocates kind words s o u → SameCounts s u
+request-counts kind words s o u a =
+    record { points = ap (λ (x : State). x.points) a.rest; instructions = ap (λ (x : State). x.instructions) a.rest; store = request_lawful s.heap u.heap kind words o a.allots a.laws }
+
+made-stays : (p : Program) (kind words : ℕ) (s : State) (start : ℕ) (u : State) → Allocates kind words s (Some start) u → Stays p s u
+made-stays p kind words s start u a = stays-by p s u (request-counts kind words s (Some start) u a)
+    (ap (λ (x : State). x.running) a.rest) (same-all s.all u.all (ap (λ (x : State). x.all) a.rest)) (ap (λ (h : Heap). h.asked) a.allots.2)
 
 pub collects_stay : (p : Program) (s u : State) → Collects p s u → Stays p s u
 collects_stay p s u c =
@@ -166,6 +174,23 @@ collects_stay p s u c =
       };
       many = moves.count;
       allowed = allowed;
+      asked = λ _. c.collected.asked;
+    }
+
+-- a collection behind a request that was refused
+refused_stay : (p : Program) (kind words : ℕ) (s r u : State) → Allocates kind words s None r → Collects p r u → Stays p s u
+refused_stay p kind words s r u a c =
+    let k = collects_stay p r u c in
+    let same : r.all ≡ s.all = ap (λ (x : State). x.all) a.rest in
+    record {
+      counts = counts_on s r u (request-counts kind words s None r a) k.counts;
+      running = k.running ∙ ap (λ (x : State). x.running) a.rest;
+      depth = k.depth ∙ ap (λ (x : Everyone). x.stack) same;
+      turn = λ n h. k.turn n (subst (λ (x : Everyone). InTurnOf p n x) (sym same) h);
+      at_points = λ h. k.at_points (subst (λ (x : Everyone). AllAtPoints p x) (sym same) h);
+      many = k.many ∙ ap (λ (x : Everyone). length x.threads) same;
+      allowed = k.allowed ∙ ap (λ (x : Everyone). x.allowed) same;
+      asked = λ _. c.collected.asked;
     }
 
 pub spoils_counts : (p : Program) (s u : State) → Spoils p s u → SameCounts s u
@@ -183,12 +208,14 @@ pub record KeepsTurn (p : Program) (s u : State) : Type 0 where
   pub running : u.running ≡ s.running
   pub depth : u.all.stack ≡ s.all.stack
   pub turn : InTurnOf p s.running u.all
+  pub asked : s.heap.asked ≡ 0 → u.heap.asked ≡ 0
 
 -- it rests, and its turn is over
 pub record EndsTurn (p : Program) (s u : State) : Type 0 where
   pub counts : SameCounts s u
   pub depth : u.all.stack ≡ s.all.stack
   pub at_points : AllAtPoints p u.all
+  pub asked : s.heap.asked ≡ 0 → u.heap.asked ≡ 0
 
 abbrev pub Keeps : Program → State → Progress → Type 0
 Keeps p s (Goes u) = KeepsTurn p s u
@@ -201,8 +228,9 @@ stays_then p s t (Goes u) a k = record {
   running = k.running ∙ a.running;
   depth = k.depth ∙ a.depth;
   turn = subst (λ (n : ℕ). InTurnOf p n u.all) a.running k.turn;
+  asked = λ none. k.asked (a.asked none);
 }
-stays_then p s t (Rests u) a k = record { counts = counts_on s t u a.counts k.counts; depth = k.depth ∙ a.depth; at_points = k.at_points }
+stays_then p s t (Rests u) a k = record { counts = counts_on s t u a.counts k.counts; depth = k.depth ∙ a.depth; at_points = k.at_points; asked = λ none. k.asked (a.asked none) }
 stays_then p s t (Ends u outcome) a k = (counts_on s t u a.counts k.0, k.1)
 
 pub ends_so : (p : Program) (s u : State) (outcome : Outcome) (progress : Progress) → SameCounts s u → IsOther outcome → progress ≡ Ends u outcome → Keeps p s progress
@@ -212,7 +240,7 @@ ends_so p s u outcome progress counts other e = subst (λ (q : Progress). Keeps 
 pub goes_so : (p : Program) (s : State) (regs : Regs) (progress : Progress) → InTurnOf p s.running s.all → progress ≡ Goes (with_regs s regs) → Keeps p s progress
 goes_so p s regs progress turn e =
     let kept = still p s.all.stack (regs_set regs) s.running s.all (refl, turn) (λ t. refl) (λ t awake. awake) in
-    let k : KeepsTurn p s (with_regs s regs) = record { counts = record { points = refl; instructions = refl; store = lawful_itself s.heap }; running = refl; depth = kept.0; turn = kept.1 } in
+    let k : KeepsTurn p s (with_regs s regs) = record { counts = record { points = refl; instructions = refl; store = lawful_itself s.heap }; running = refl; depth = kept.0; turn = kept.1; asked = λ none. none } in
     subst (λ (q : Progress). Keeps p s q) (sym e) k
 
 -- the same once where threads stand stayed
@@ -227,15 +255,11 @@ abbrev pub Made : Program → State → Result ℕ Outcome → State → Type 0
 Made p s (Ok start) u = Stays p s u
 Made p s (Err outcome) u = SameCounts s u × IsOther outcome
 
-made-late : (p : Program) (kind words : ℕ) (s : State) (answer : Result ℕ Outcome) (left : State) → Makes_late p kind words s answer left → Made p s answer left
-made-late p kind words s answer left (made_late t u start c a) = stays_on p s t u (collects_stay p s t c) (request-stays p kind words t (Some start) u a)
-made-late p kind words s answer left (full_late t u c r) = (counts_on s t u (collects_stay p s t c).counts (request-stays p kind words t None u r).counts, tt)
-made-late p kind words s answer left (stuck_late u h) = (spoils_counts p s u h, tt)
-
-made-then : (p : Program) (s t : State) (answer : Result ℕ Outcome) (u : State) → Stays p s t → Made p t answer u → Made p s answer u
-made-then p s t (Ok start) u a m = stays_on p s t u a m
-made-then p s t (Err outcome) u a m = (counts_on s t u a.counts m.0, m.1)
+made-late : (p : Program) (kind words : ℕ) (s r : State) (answer : Result ℕ Outcome) (left : State) → Allocates kind words s None r → Makes_late p kind words r answer left → Made p s answer left
+made-late p kind words s r answer left refused (made_late t u start c a) = stays_on p s t u (refused_stay p kind words s r t refused c) (made-stays p kind words t start u a)
+made-late p kind words s r answer left refused (full_late t u c again) = (counts_on s t u (refused_stay p kind words s r t refused c).counts (request-counts kind words t None u again), tt)
+made-late p kind words s r answer left refused (stuck_late u h) = (counts_on s r u (request-counts kind words s None r refused) (spoils_counts p r u h), tt)
 
 pub makes_keep : (p : Program) (kind words : ℕ) (s : State) (answer : Result ℕ Outcome) (left : State) → Makes p kind words s answer left → Made p s answer left
-makes_keep p kind words s answer left (at_once start u a) = request-stays p kind words s (Some start) u a
-makes_keep p kind words s answer left (late r u again refused m) = made-then p s r again u (request-stays p kind words s None r refused) (made-late p kind words r again u m)
+makes_keep p kind words s answer left (at_once start u a) = made-stays p kind words s start u a
+makes_keep p kind words s answer left (late r u again refused m) = made-late p kind words s r again u refused m

@@ -1,5 +1,6 @@
 -- What doesn't hang on where cells lie.
-use Rattle.std.specs.Prelude.{ℕ, ◌≡◌}
+use Rattle.std.specs.Prelude.{ℕ, ◌≡◌, Result, Ok, Err}
+use Rattle.m3_base.specs.declared.outcomes.Outcome.{Outcome}
 use Rattle.m3_heap.specs.Moves.{is_kept}
 use Rattle.m3_run_meaning.specs.State.{State}
 
@@ -14,3 +15,9 @@ pub record Agree (one other : State) : Type 0 where
   pub points : other.points ≡ one.points
   pub instructions : other.instructions ≡ one.instructions
   pub collections : other.collections ≡ one.collections
+
+-- Both made a cell, or both end the run, with the same outcome.
+abbrev pub EndAlike : Result ℕ Outcome → Result ℕ Outcome → Type 0
+EndAlike (Ok start) (Ok at) = Unit {0}
+EndAlike (Err one) (Err other) = other ≡ one
+EndAlike _ _ = ⊥

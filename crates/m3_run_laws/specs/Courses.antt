@@ -19,6 +19,7 @@ pub record SoundTurn (p : Program) (allowed : ℕ) (from s : State) (k : ℕ) : 
   pub instructions : s.instructions ≤ from.instructions + before * turn_limit p from + k
   pub short : k < turn_limit p from
   pub store : StaysLawful from.heap s.heap
+  pub asked : from.heap.asked ≡ 0 → s.heap.asked ≡ 0
 
 -- between two turns
 pub record SoundPoint (p : Program) (allowed : ℕ) (from s : State) : Type 0 where
@@ -29,6 +30,7 @@ pub record SoundPoint (p : Program) (allowed : ℕ) (from s : State) : Type 0 wh
   pub within : s.points ≤ allowed
   pub instructions : s.instructions ≤ from.instructions + turns * turn_limit p from
   pub store : StaysLawful from.heap s.heap
+  pub asked : from.heap.asked ≡ 0 → s.heap.asked ≡ 0
 
 -- once it is over
 pub record SoundEnd (p : Program) (allowed : ℕ) (from s : State) : Type 0 where

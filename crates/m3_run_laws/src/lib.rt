@@ -2,18 +2,22 @@
 //! most, and the laws of its store; and what doesn't hang on where cells lie.
 #![tactic(auto)]
 
-ghost use Rattle.std.specs.Prelude.{◌≡◌, ◌≤◌, ◌<◌, ◌+◌, ◌^◌, ◌↔◌, ℕ, List, Option, None, IsNone};
+ghost use Rattle.std.specs.Prelude.{◌≡◌, ◌≤◌, ◌<◌, ◌+◌, ◌^◌, ◌↔◌, ℕ, List, Option, None};
+ghost use Rattle.std.specs.Prelude.{IsNone, Result, Err};
 ghost use Rattle.m3_base.specs.declared.outcomes.Entry.{Entry};
+ghost use Rattle.m3_base.specs.declared.outcomes.Outcome.{Outcome};
+ghost use Rattle.m3_base.specs.declared.outcomes.Outcome.TheVariants.{HeapFull};
 ghost use Rattle.m3_heap.specs.Cells.{total_words};
 ghost use Rattle.m3_image_sections.specs.Parts.{Program};
 ghost use Rattle.m3_image.specs.Programs.{fault_of};
 ghost use Rattle.m3_run_meaning.specs.State.{State};
 ghost use Rattle.m3_run_meaning.specs.Collecting.{Collects};
-ghost use Rattle.m3_run_meaning.specs.Making.{Allocates};
+ghost use Rattle.m3_run_meaning.specs.Making.{Allocates, Makes};
 ghost use Rattle.m3_run_meaning.specs.Runs.{Config, Leads, starting};
 ghost use Rattle.m3_run_laws.specs.Standing.{BeginsAtPoints, AllAtPoints};
 ghost use Rattle.m3_run_laws.specs.Courses.{IsSound};
-ghost use Rattle.m3_run_laws.specs.Agreeing.{Agree};
+ghost use Rattle.m3_run_laws.specs.Agreeing.{Agree, EndAlike};
+ghost use Rattle.m3_run_laws.specs.Stores.{NothingRefused};
 
 /// Wherever a run leads from a state between two turns, its threads stand as they may: each at a
 /// point instruction, but for the one that runs, which is awake. And it has executed no more
@@ -27,12 +31,32 @@ pub fn turns_are_sound()
         → Leads p input allowed (starting from schedule) c → IsSound p allowed from c.place }
 {}
 
-/// A request has one answer: whether a cell is made, where it goes, and all that is left. This is
-/// said of stores without a nursery.
+/// A request has one answer: whether a cell is made, where it goes, and all that is left, in a store
+/// that refused nothing since its last collection. By `turns_are_sound` that is so wherever a run
+/// leads, while it isn't over. So two runs of one image part at no request.
 pub fn requests_have_one_answer()
-    ensures { (kind words : ℕ) (s one other : State) (a b : Option ℕ) → s.heap.nursery ≡ 0
+    ensures { (kind words : ℕ) (s one other : State) (a b : Option ℕ) → NothingRefused s.heap
         → Allocates kind words s a one → Allocates kind words s b other
         → (b ≡ a) × (other ≡ one) }
+{}
+
+/// A new cell that one collection had to come before: its request ends the run with a full heap exactly
+/// where its words exceed what is free after that collection.
+pub fn full_heaps_have_no_room()
+    ensures { (p : Program) (kind words : ℕ) (s refused t u : State) (answer : Result ℕ Outcome)
+        → fault_of p ≡ None → NothingRefused s.heap
+        → Allocates kind words s None refused → Collects p refused t
+        → Makes p kind words s answer u
+        → (answer ≡ Err HeapFull) ↔ (t.heap.free < words) }
+{}
+
+/// Two runs of one image end alike at a new cell: from one state both make it, or both end with the
+/// same outcome, whatever the order in which their collectors copy.
+pub fn new_cells_end_alike()
+    ensures { (p : Program) (kind words : ℕ) (s u v : State) (one other : Result ℕ Outcome)
+        → fault_of p ≡ None → NothingRefused s.heap
+        → Makes p kind words s one u → Makes p kind words s other v
+        → EndAlike one other }
 {}
 
 /// Two collections of one state keep the same cells and leave as many words free, in the same half:

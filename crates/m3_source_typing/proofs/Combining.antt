@@ -1,5 +1,5 @@
 -- Sound phrases, and how they are put together.
-use Rattle.std.proofs.Common.{◌≡◌, ℕ, Bool, true, false, List, [], ◌∷◌, ◌++◌, Option, Some, None, refl, sym, ap, ◌∙◌, subst}
+use Rattle.std.proofs.Common.{◌≡◌, Bool, true, false, List, [], ◌∷◌, ◌++◌, Option, Some, None, refl, sym, ap, ◌∙◌, subst}
 use Rattle.m3_base.specs.declared.outcomes.FaultKind.{FaultKind}
 use Rattle.m3_base.specs.declared.places.Pos.{Pos}
 use Rattle.m3_runs.specs.Languages.{Action, Answer}
@@ -10,10 +10,10 @@ use Rattle.m3_values.specs.Store.{Store, Memory, value_now}
 use Rattle.m3_source_meaning.specs.Meanings.{Told, Around, Now, Exits, End, Evaluates, given, fault, there, computed, unless, seeing, valued, acting, holding, holding_all, standing, ◌>>=◌}
 use Rattle.m3_source_typing.specs.Stores.{IsLater, IsTyped}
 use Rattle.m3_source_typing.specs.Points.{Fits, AnswerFits, new_cell}
-use Rattle.m3_source_typing.specs.Sound.{IsGood, IsDefined, AllFit, IsSound, AreSound, Gives, IsReadable}
-use Rattle.m3_source_typing.proofs.Staying.{now_itself, and_later, type_stays}
+use Rattle.m3_source_typing.specs.Sound.{Scope, IsGood, IsDefined, AllFit, IsSound, AreSound, Gives, IsReadable}
+use Rattle.m3_source_typing.proofs.Staying.{place_stays, now_itself, and_later, type_stays}
 
-module _ (p : Program) (own : ℕ → Option ℕ) where
+module _ (p : Program) (own : Scope) where
   same_sound : (f g : Now → End) (now : Now) → ((answers : List Told) → f (record now { answers = answers }) ≡ g (record now { answers = answers })) → IsSound p g now → IsSound p f now
   same_sound f g now same sound fit =
       subst IsDefined (sym (same now.answers))
@@ -66,6 +66,17 @@ module _ (p : Program) (own : ℕ → Option ℕ) where
   pub valued_sound : (s : Store) (thing : Thing) → IsReadable p own s thing → Gives p own s (λ t v. Unit {0}) (valued thing)
   valued_sound s thing h = seeing_sound s _ (λ m. value_now m thing) (λ m l typed. let r = h.reads m l typed in (r.0, r.1, tt))
 
+  -- memory where others have gone on with the store
+  pub told_good : (m : Memory) (t : Store) → IsLater m.store t → IsTyped p None t → IsGood p own m → IsGood p own (record m { store = t })
+  told_good m t l typed good = record {
+    fair = record {
+      store = typed;
+      room = good.fair.room;
+      variables = λ x k is. let v = good.fair.variables x k is in record { value = v.value; is = v.is; typed = type_stays p m.store t l v.value k v.typed };
+    };
+    names = λ x a is. let n = good.names x a is in record { place = n.place; is = n.is; leads = place_stays p a.known a.is_variable m.store t n.place a.kind l n.leads };
+  }
+
   -- an action to which an answer comes that fits, and that makes no cell whose defaults are missing
   acting_at : (s : Store) (action : Action Thing) (around : Around) (m : Memory) (answers : List Told) (exits : Exits (Answer Thing)) → IsLater s m.store → IsGood p own m → ((a : Answer Thing) → new_cell action a ≡ None) → AreSound p own s (λ t a. AnswerFits p t action a) exits →
       AllFit p (λ later. acting action around later exits) (record { memory = m; answers = answers }) → IsDefined (acting action around (record { memory = m; answers = answers }) exits)
@@ -75,10 +86,7 @@ module _ (p : Program) (own : ℕ → Option ℕ) where
       let one : Fits p m.store action told = fit [] answers told action (standing around now) m.store refl refl in
       b.gives told.answer (record { memory = record m { store = told.store }; answers = answers })
       (and_later s m.store told.store l one.later)
-      (record {
-        store = subst (λ new. IsTyped p new told.store) (old told.answer) one.typed;
-        variables = λ x t is. let v = good.variables x t is in record { value = v.value; is = v.is; typed = type_stays p m.store told.store one.later v.value t v.typed };
-      })
+      (told_good m told.store one.later (subst (λ new. IsTyped p new told.store) (old told.answer) one.typed) good)
       one.answer
       (λ before after more next st t is leads. fit (told ∷ before) after more next st t (ap (λ xs. told ∷ xs) is) leads)
 

@@ -18,7 +18,7 @@ use Rattle.m3_source_meaning.specs.Phrases.{Expression, Adding, Valued}
 use Rattle.m3_source_meaning.specs.Constructors as meaning
 use Rattle.m3_source_typing.specs.ValueTypes.{OfRecords, class_of, member_in, record_fields, AreMembersOf, HasType, AreFields}
 use Rattle.m3_source_typing.specs.Stores.{IsLater}
-use Rattle.m3_source_typing.specs.Sound.{Gives, IsOfType}
+use Rattle.m3_source_typing.specs.Sound.{Scope, Gives, IsOfType}
 use Rattle.m3_source_typing.specs.Operators as rule
 use Rattle.m3_source_typing.specs.Expressions.{HasEachField}
 use Rattle.m3_source_typing.proofs.Staying.{type_stays}
@@ -28,23 +28,23 @@ use Rattle.m3_source_typing.proofs.Operands.{number_of}
 use Rattle.m3_source_typing.proofs.Operating.{Typed, typed_given}
 
 -- single elements of a set
-pub data TypedElements (p : Program) (own : ℕ → Option ℕ) (member : ℕ) : List Adding → Type 0 where
+pub data TypedElements (p : Program) (own : Scope) (member : ℕ) : List Adding → Type 0 where
   no_elements : TypedElements p own member []
   one_element : (e : Expression) (es : List Adding) → IsOfType p own e member → TypedElements p own member es → TypedElements p own member (meaning.with_one e ∷ es)
 
 -- an expression of a field's type, where there is such a field
-abbrev pub IsForField : Program → (ℕ → Option ℕ) → Expression → Option Field → Type 0
+abbrev pub IsForField : Program → Scope → Expression → Option Field → Type 0
 IsForField p own e None = ⊥
 IsForField p own e (Some f) = IsOfType p own e f.kind.0
 
-pub data TypedFields (p : Program) (own : ℕ → Option ℕ) (fields : List Field) : List Valued → Type 0 where
+pub data TypedFields (p : Program) (own : Scope) (fields : List Field) : List Valued → Type 0 where
   no_fields : TypedFields p own fields []
   one_field : (v : Valued) (vs : List Valued) → IsForField p own v.value (slice_get fields v.field) → TypedFields p own fields vs → TypedFields p own fields (v ∷ vs)
 
 abbrev pub field_of : Valued → ℕ
 field_of v = v.field
 
-module _ (p : Program) (own : ℕ → Option ℕ) where
+module _ (p : Program) (own : Scope) where
   -- ---- sets
 
   set_given : (s : Store) (kind member : ℕ) (ms : List ℤ) → member_in (node_of p kind) ≡ Some member → AreMembersOf ms (bounds p member) → Gives p own s (Typed p kind) (given (value.Members ms))

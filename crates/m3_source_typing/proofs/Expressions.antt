@@ -1,5 +1,5 @@
 -- Well typed expressions are defined.
-use Rattle.std.proofs.Common.{◌≡◌, ℕ, true, List, [], ◌∷◌, map, Option, Some, None, refl, sym, ap, ◌∙◌, subst}
+use Rattle.std.proofs.Common.{◌≡◌, ℕ, true, false, List, [], ◌∷◌, map, Some, None, refl, sym, ap, ◌∙◌, subst}
 use Rattle.m3_base.specs.declared.places.Pos.{Pos}
 use Rattle.m3_types.specs.declared.nodes.Field.{Field}
 use Rattle.m3_types.specs.declared.nodes.TypeId.{TypeId}
@@ -15,7 +15,7 @@ use Rattle.m3_core.specs.declared.exprs.SetElement.{SetElement}
 use Rattle.m3_values.specs.Values as value
 use Rattle.m3_values.specs.Values.{Value}
 use Rattle.m3_values.specs.Programs.{Program}
-use Rattle.m3_values.specs.Types.{node_of, unveiled, unveiled_in}
+use Rattle.m3_values.specs.Types.{node_of, is_same, unveiled, unveiled_in}
 use Rattle.m3_values.specs.Places.{Global, Is, At, whole}
 use Rattle.m3_values.specs.Store.{Store, has_type, is_text_type}
 use Rattle.m3_source_meaning.specs.Meanings.{Evaluates, given, there, ◌>>=◌}
@@ -24,7 +24,7 @@ use Rattle.m3_source_meaning.specs.Assignment.{type_of_variable}
 use Rattle.m3_source_meaning.specs.Expressions.{expression, chain, plain, of_operations, type_of}
 use Rattle.m3_source_meaning.proofs.Trees as trees
 use Rattle.m3_source_typing.specs.ValueTypes.{class_in, class_of, HasType}
-use Rattle.m3_source_typing.specs.Sound.{Gives, IsReadable, IsOfType}
+use Rattle.m3_source_typing.specs.Sound.{Scope, Gives, IsReadable, IsOfType}
 use Rattle.m3_source_typing.specs.Operators as rule
 use Rattle.m3_source_typing.specs.Operators.{is_text_in}
 use Rattle.m3_source_typing.specs.Expressions as typed
@@ -34,8 +34,10 @@ use Rattle.m3_source_typing.proofs.Staying.{type_stays}
 use Rattle.m3_source_typing.proofs.Combining.{given_sound, bind_sound}
 use Rattle.m3_source_typing.proofs.Operands as operand
 use Rattle.m3_source_typing.proofs.Operating.{Typed, typed_given, text_node}
-use Rattle.m3_source_typing.proofs.Places as places
-use Rattle.m3_source_typing.proofs.Places.{IsGiven, TypedStep, TypedSteps, TypedBase, TypedChain, thing_given, readable, global_place, read_sound, keep_sound, field_sound, element_sound, chain_sound, of_chain_sound, own_sound, given_stays}
+use Rattle.m3_source_typing.proofs.Places.{IsGiven, thing_given, readable, global_place, given_stays}
+use Rattle.m3_source_typing.proofs.Chains as chains
+use Rattle.m3_source_typing.proofs.Chains.{TypedStep, TypedSteps, TypedBase, TypedChain, read_sound, keep_sound, field_sound, element_sound, dereference_sound, object_field_sound, chain_sound, of_chain_sound, own_sound, name_sound}
+use Rattle.m3_source_typing.proofs.Sameness.{share_values}
 use Rattle.m3_source_typing.proofs.Rows as rows
 use Rattle.m3_source_typing.proofs.Rows.{TypedRow, row_sound, prefix_form, range_form, narrow_form, test_form}
 use Rattle.m3_source_typing.proofs.Constructing as parts
@@ -44,7 +46,7 @@ use Rattle.m3_source_typing.proofs.Constructing.{TypedElements, TypedFields, fie
 pub types_stay : TypesStay
 types_stay p s t v kind l h = type_stays p s t l v kind h
 
-module _ (p : Program) (own : ℕ → Option ℕ) (here : Here) where
+module _ (p : Program) (own : Scope) (here : Here) where
   -- what is no place can be read
   unread_sound : (e : Evaluates Value) (t : ℕ) → ((s : Store) → Gives p own s (Typed p t) e) → (s : Store) → Gives p own s (IsReadable p own) (e >>= (λ v. given (Is v)))
   unread_sound e t h s = bind_sound p own s (Typed p t) (IsReadable p own) _ _ (h s) (λ v k l q. given_sound p own k (IsReadable p own) (Is v) (λ m g. record { reads = λ n d typed. (v, refl) }))
@@ -71,6 +73,12 @@ module _ (p : Program) (own : ℕ → Option ℕ) (here : Here) where
   widen e t u is from to part = record {
     value = λ s. bind_sound p own s (Typed p t) (Typed p u) e.value given (is.value s)
         (λ v k l q. let z = operand.number_of p k v t from q in typed_given p own k u v (subst (λ w. HasType p k w u) (sym z.1) (operand.part_typed p k z.0 t u to part z.2)));
+    unread = is.unread;
+  }
+
+  of_same : (e : Expression) (t u : ℕ) → IsOfType p own e t → is_same p t u ≡ true → IsOfType p own e u
+  of_same e t u is alike = record {
+    value = λ s. bind_sound p own s (Typed p t) (Typed p u) e.value given (is.value s) (λ v k l q. typed_given p own k u v (share_values p k v t u alike q));
     unread = is.unread;
   }
 
@@ -117,6 +125,7 @@ module _ (p : Program) (own : ℕ → Option ℕ) (here : Here) where
         subst (λ e. IsOfType p own e kind.0) (sym (trees.expression_is p here (layer.TypeTest at kind e other)))
         (plain_typed at kind _ (test_form p own (expression p here e.now) t other.0 kind.0 (expression_sound e.now t is) from boolean))
     expression_sound _ _ (typed.widened e t wider is from to part) = widen (expression p here e) t wider (expression_sound e t is) from to part
+    expression_sound _ _ (typed.same e t other is alike) = of_same (expression p here e) t other (expression_sound e t is) alike
 
     row_typed : (t : ℕ) (os : List Operation) (result : ℕ) → IsRow p here own t os result → TypedRow p own t (map (trees.operation p here) os) result
     row_typed _ _ _ (typed.last t) = rows.none t
@@ -138,23 +147,32 @@ module _ (p : Program) (own : ℕ → Option ℕ) (here : Here) where
         subst (λ x. TypedFields p own fields (x ∷ map (trees.field p here) vs) × (map field_of (x ∷ map (trees.field p here) vs) ≡ n ∷ ns)) (sym (trees.field_is p here (record { field = n; value = e })))
         (parts.one_field v (map (trees.field p here) vs) (subst (parts.IsForField p own (expression p here e.now)) (sym there) (expression_sound e.now f.kind.0 is)) rest.0, ap (λ ms. n ∷ ms) rest.1)
 
-    chain_typed : (c : Chain) (g : Given) → IsChain p here own c g → TypedChain p own here (chain p here c) g
+    pub chain_typed : (c : Chain) (g : Given) → IsChain p here own c g → TypedChain p own here (chain p here c) g
     chain_typed _ _ (typed.steps at base row kind g h is all) =
         subst (λ c. TypedChain p own here c h) (sym (trees.chain_is p here (record { pos = at; base = base; steps = row; kind = kind })))
         (chain_sound p own here at (trees.base p here base) g h (map (trees.step p here) row.now) (type_of kind) (base_typed base g is) (steps_typed g row.now h all))
 
     base_typed : (b : Base) (g : Given) → IsBase p here own b g → TypedBase p own here (trees.base p here b) g
-    base_typed _ _ (typed.global x kind v is) =
-        subst (λ b. TypedBase p own here b (PlaceOf (type_of_variable v.kind))) (sym (trees.base_is p here (layer.Global x kind)))
+    base_typed _ _ (typed.global x kind v is fixed) =
+        let g : Given = PlaceOf true (type_of_variable v.kind) in
+        subst (λ b. TypedBase p own here b g) (sym (trees.base_is p here (layer.Global x kind)))
         (record {
-          thing = λ at s. thing_given p own (PlaceOf (type_of_variable v.kind)) s (At (whole (Global x))) (global_place p own s x v is);
-          unread = λ at s. given_sound p own s (IsReadable p own) (At (whole (Global x))) (λ u l. readable p own (PlaceOf (type_of_variable v.kind)) u (At (whole (Global x))) (global_place p own u x v is));
+          thing = λ at s. thing_given p own g s (At (whole (Global x))) (global_place p own.holds s x v is fixed);
+          unread = λ at s. given_sound p own s (IsReadable p own) (At (whole (Global x))) (λ u l. readable p own g u (At (whole (Global x))) (global_place p own.holds u x v is fixed));
         })
-    base_typed _ _ (typed.own_variable level x kind t mine is) =
-        subst (λ b. TypedBase p own here b (PlaceOf t)) (sym (trees.base_is p here (layer.Local level x kind)))
+    base_typed _ _ (typed.own_variable level x kind t mine is fixed) =
+        let g : Given = PlaceOf true t in
+        subst (λ b. TypedBase p own here b g) (sym (trees.base_is p here (layer.Local level x kind)))
         (record {
-          thing = λ at s. own_sound p own here level x t mine is s;
-          unread = λ at s. bind_sound p own s (IsGiven p own (PlaceOf t)) (IsReadable p own) _ given (own_sound p own here level x t mine is s) (λ thing u l q. given_sound p own u (IsReadable p own) thing (λ w k. readable p own (PlaceOf t) w thing (given_stays p own (PlaceOf t) u w thing k q)));
+          thing = λ at s. own_sound p own here level x t mine is fixed s;
+          unread = λ at s. bind_sound p own s (IsGiven p own.holds g) (IsReadable p own) _ given (own_sound p own here level x t mine is fixed s) (λ thing u l q. given_sound p own u (IsReadable p own) thing (λ w k. readable p own g w thing (given_stays p own.holds g u w thing k q)));
+        })
+    base_typed _ _ (typed.own_name level x kind a mine is knows) =
+        let g : Given = PlaceOf a.is_variable a.kind in
+        subst (λ b. TypedBase p own here b g) (sym (trees.base_is p here (layer.Alias level x kind)))
+        (record {
+          thing = λ at s. name_sound p own here level x a mine is knows s;
+          unread = λ at s. bind_sound p own s (IsGiven p own.holds g) (IsReadable p own) _ given (name_sound p own here level x a mine is knows s) (λ thing u l q. given_sound p own u (IsReadable p own) thing (λ w k. readable p own g w thing (given_stays p own.holds g u w thing k q)));
         })
     base_typed _ _ (typed.inner c g is) =
         let known = chain_typed c.now g is in
@@ -164,27 +182,33 @@ module _ (p : Program) (own : ℕ → Option ℕ) (here : Here) where
         let known = expression_sound e.now t is in
         subst (λ b. TypedBase p own here b (ValueOf t)) (sym (trees.base_is p here (layer.Base::Value e)))
         (record {
-          thing = λ at s. bind_sound p own s (Typed p t) (IsGiven p own (ValueOf t)) _ _ (known.value s) (λ v u l q. thing_given p own (ValueOf t) u (Is v) q);
+          thing = λ at s. bind_sound p own s (Typed p t) (IsGiven p own.holds (ValueOf t)) _ _ (known.value s) (λ v u l q. thing_given p own (ValueOf t) u (Is v) q);
           unread = λ at s. known.unread s;
         })
 
     steps_typed : (g : Given) (row : List Step) (h : Given) → AreSteps p here own g row h → TypedSteps p own here g (map (trees.step p here) row) h
-    steps_typed _ _ _ (typed.no_steps g) = places.none g
-    steps_typed _ _ _ (typed.one_step g h k s row is more) = places.next g h k (trees.step p here s) (map (trees.step p here) row) (step_typed g s h is) (steps_typed h row k more)
+    steps_typed _ _ _ (typed.no_steps g) = chains.none g
+    steps_typed _ _ _ (typed.one_step g h k s row is more) = chains.next g h k (trees.step p here s) (map (trees.step p here) row) (step_typed g s h is) (steps_typed h row k more)
 
     step_typed : (g : Given) (s : Step) (h : Given) → IsStep p here own g s h → TypedStep p own here g (trees.step p here s) h
-    step_typed _ _ _ (typed.read kind t) =
-        subst (λ x. TypedStep p own here (PlaceOf t) x (ValueOf t)) (sym (trees.step_is p here (layer.Read kind)))
-        (record { goes = λ before s thing f. read_sound p own here t s thing f })
+    step_typed _ _ _ (typed.read kind b t) =
+        subst (λ x. TypedStep p own here (PlaceOf b t) x (ValueOf t)) (sym (trees.step_is p here (layer.Read kind)))
+        (record { goes = λ before s thing f. read_sound p own here b t s thing f })
     step_typed _ _ _ (typed.keep kind t) =
-        subst (λ x. TypedStep p own here (ValueOf t) x (PlaceOf t)) (sym (trees.step_is p here (layer.Keep kind)))
+        subst (λ x. TypedStep p own here (ValueOf t) x (PlaceOf false t)) (sym (trees.step_is p here (layer.Keep kind)))
         (record { goes = λ before s thing f. keep_sound p own here t s thing f })
-    step_typed _ _ _ (typed.field n kind t f is there) =
-        subst (λ x. TypedStep p own here (PlaceOf t) x (PlaceOf f.kind.0)) (sym (trees.step_is p here (layer.Field n kind)))
-        (record { goes = λ before s thing g. field_sound p own here n t f is there s thing g })
-    step_typed _ _ _ (typed.fixed_element index kind t e i size below is of sizes indexed numbers) =
-        subst (λ x. TypedStep p own here (PlaceOf t) x (PlaceOf e)) (sym (trees.step_is p here (layer.Element index kind)))
-        (record { goes = λ before s thing g. element_sound p own here (expression p here index.now) t e i size below is of sizes (expression_sound index.now i indexed) numbers before.kind s thing g })
+    step_typed _ _ _ (typed.field n kind b t f is there fixed) =
+        subst (λ x. TypedStep p own here (PlaceOf b t) x (PlaceOf b f.kind.0)) (sym (trees.step_is p here (layer.Field n kind)))
+        (record { goes = λ before s thing g. field_sound p own here n b t f is there fixed s thing g })
+    step_typed _ _ _ (typed.dereference kind t k e objects) =
+        subst (λ x. TypedStep p own here (ValueOf t) x (PlaceOf true k)) (sym (trees.step_is p here (layer.Dereference kind)))
+        (record { goes = λ before s thing g. dereference_sound p own here before.pos t k e objects s thing g })
+    step_typed _ _ _ (typed.object_field owner n kind t u c have fixed) =
+        subst (λ x. TypedStep p own here (ValueOf t) x (PlaceOf true u)) (sym (trees.step_is p here (layer.ObjectField owner n kind)))
+        (record { goes = λ before s thing g. object_field_sound p own here before.pos owner.0 n t u c have fixed s thing g })
+    step_typed _ _ _ (typed.element_of index kind b t e i is of indexed numbers) =
+        subst (λ x. TypedStep p own here (PlaceOf b t) x (PlaceOf b e)) (sym (trees.step_is p here (layer.Element index kind)))
+        (record { goes = λ before s thing g. element_sound p own here (expression p here index.now) b t e i is of (expression_sound index.now i indexed) numbers before.kind s thing g })
 
 pub expressions_are_sound : ExpressionsAreSound
 expressions_are_sound p here own e t is = expression_sound p own here e t is

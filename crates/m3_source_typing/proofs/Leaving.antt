@@ -1,18 +1,22 @@
 -- Sound phrases that may be left by EXIT and RETURN, and how they are put together.
-use Rattle.std.proofs.Common.{◌≡◌, ℕ, ◌≤◌, true, List, [], ◌∷◌, ◌++◌, length, Option, Some, sym, ap, ◌∙◌, subst, arith}
+use Rattle.std.proofs.Common.{◌≡◌, ℕ, ◌≤◌, true, List, [], ◌∷◌, ◌++◌, length, Option, sym, ap, ◌∙◌, subst, arith}
 use Rattle.m3_values.specs.Values.{Value}
 use Rattle.m3_values.specs.Programs.{Program}
 use Rattle.m3_values.specs.Places.{Thing}
 use Rattle.m3_values.specs.Store.{Store, Memory}
-use Rattle.m3_source_meaning.specs.Meanings.{Told, Raised, Now, Exits, End, Evaluates, Acts, given, done, there, holding, raising, changing, ◌>>=◌, ◌>>◌}
+use Rattle.m3_source_meaning.specs.Meanings.{Told, Raised, Now, Exits, End, Evaluates, Acts, given, done, there, holding, in_scope, raising, changing, ◌>>=◌, ◌>>◌}
+use Rattle.m3_source_meaning.specs.Phrases.{Expression}
 use Rattle.m3_source_meaning.specs.Exceptions.{returning}
 use Rattle.m3_source_meaning.specs.Loops.{exit_loop}
 use Rattle.m3_source_meaning.specs.Travelling.{argument_type}
+use Rattle.m3_source_typing.specs.ValueTypes.{HasType}
 use Rattle.m3_source_typing.specs.Stores.{IsLater}
 use Rattle.m3_source_typing.specs.Points.{IsArgument}
-use Rattle.m3_source_typing.specs.Sound.{Leaving, IsDefined, IsSound, IsGood, Gives, AreSoundFor, Does}
+use Rattle.m3_source_typing.specs.Sound.{Owned, Knows, Becomes, Scope, Leaving, IsDefined, IsSound, IsGood, Gives, AreSoundFor, Does, IsOfType}
 use Rattle.m3_source_typing.proofs.Staying.{now_itself, and_later}
 use Rattle.m3_source_typing.proofs.Combining.{later_exits}
+use Rattle.m3_source_typing.proofs.Operating.{Typed}
+use Rattle.m3_source_typing.proofs.Places.{good_after}
 
 length_front : {A : Type 0} (xs ys : List A) → length xs ≤ length (xs ++ ys)
 length_front [] ys = omega arith
@@ -28,8 +32,8 @@ same_so_far p f g now same sound fit =
     let less : length before ≤ length now.answers = subst (λ xs. length before ≤ length xs) (sym is) front in
     fit before after told action standing s is (same before less ∙ leads)))
 
-module _ (p : Program) (own : ℕ → Option ℕ) (a : Leaving) where
-  later_for : {A : Type 0} (s t : Store) (P : Store → A → Type 0) (exits : Exits A) → IsLater s t → AreSoundFor p own a s P exits → AreSoundFor p own a t P exits
+module _ (p : Program) (own : Scope) (a : Leaving) where
+  pub later_for : {A : Type 0} (s t : Store) (P : Store → A → Type 0) (exits : Exits A) → IsLater s t → AreSoundFor p own a s P exits → AreSoundFor p own a t P exits
   later_for s t P exits h b = record {
     after = later_exits p own s t P exits h b.after;
     exit = λ is later l good. b.exit is later (and_later s t later.memory.store h l) good;
@@ -76,18 +80,22 @@ module _ (p : Program) (own : ℕ → Option ℕ) (a : Leaving) where
   pub does_return : (s : Store) (v : Option Value) → ((t : Store) → IsLater s t → IsArgument p t v a.result) → Does p own a s Nothing (returning v)
   does_return s v h = record { ends = λ around now exits l good b. b.return v now l good (h now.memory.store l) }
 
-  -- memory becomes another one that is good too
-  pub record Becomes (m : Memory) (o : Option Memory) : Type 0 where
-    pub after : Memory
-    pub is : o ≡ Some after
-    pub later : IsLater m.store after.store
-    pub good : IsGood p own after
-
-  pub does_change : (s : Store) (change : Memory → Option Memory) → ((m : Memory) → IsLater s m.store → IsGood p own m → Becomes m (change m)) → Does p own a s Nothing (changing change)
-  does_change s change h = record {
+  pub does_change : (s : Store) (known : Owned) (change : Memory → Option Memory) → Knows known own.holds → ((m : Memory) → IsLater s m.store → IsGood p own m → Becomes p known m (change m)) → Does p own a s Nothing (changing change)
+  does_change s known change k h = record {
     ends = λ around now exits l good b.
         let n = h now.memory l good in
         same_so_far p (λ later. changing change around later exits) (λ later. exits.gives tt (record later { memory = n.after })) now
         (λ answers less. ap (λ o. (there o >>= (λ memory around later exits. exits.gives tt (record later { memory = memory }))) around (record now { answers = answers }) exits) n.is)
-        (b.after.gives tt (record now { memory = n.after }) (and_later s now.memory.store n.after.store l n.later) n.good tt);
+        (b.after.gives tt (record now { memory = n.after }) (and_later s now.memory.store n.after.store l n.later) (good_after p own known now.memory (change now.memory) k good n) tt);
   }
+
+  pub does_in_scope : {A : Type 0} (s : Store) (P : Store → A → Type 0) (xs : List ℕ) (e : Evaluates A) → Does p own a s P e → Does p own a s P (in_scope xs e)
+  does_in_scope s P xs e h = record { ends = λ around now exits l good b. h.ends (record around { scope = around.scope ++ xs }) now exits l good b }
+
+  -- statements that are sound from every store on
+  abbrev pub DoesAll : Acts → Type 0
+  DoesAll e = (s : Store) → Does p own a s Nothing e
+
+  -- an expression, and what is done with its value
+  pub with_value : (e : Expression) (t : ℕ) (f : Value → Acts) → IsOfType p own e t → ((v : Value) (s : Store) → HasType p s v t → Does p own a s Nothing (f v)) → DoesAll (e.value >>= f)
+  with_value e t f is h s = does_bind s (Typed p t) Nothing e.value f (gives_does s (Typed p t) e.value (is.value s)) (λ v u l q. h v u q)

@@ -34,7 +34,7 @@ use Rattle.m3_source_meaning.specs.Operators as meaning
 use Rattle.m3_source_typing.specs.ValueTypes.{class_in, class_of, member_bounds, AreMembersOf, HasType}
 use Rattle.m3_source_typing.specs.Stores.{IsLater}
 use Rattle.m3_source_typing.specs.Points.{AnswerFits, IsMade}
-use Rattle.m3_source_typing.specs.Sound.{Gives, IsOfType}
+use Rattle.m3_source_typing.specs.Sound.{Scope, Gives, IsOfType}
 use Rattle.m3_source_typing.specs.Operators as rule
 use Rattle.m3_source_typing.specs.Operators.{is_numbers, is_text_in}
 use Rattle.m3_source_typing.proofs.Staying.{type_stays}
@@ -45,7 +45,7 @@ use Rattle.m3_source_typing.proofs.Operands.{left_true, right_true, IsIntegerRes
 abbrev pub Typed : Program → ℕ → Store → Value → Type 0
 Typed p t s v = HasType p s v t
 
-module _ (p : Program) (own : ℕ → Option ℕ) where
+module _ (p : Program) (own : Scope) where
   -- a value of a type is given
   pub typed_given : (s : Store) (t : ℕ) (v : Value) → HasType p s v t → Gives p own s (Typed p t) (given v)
   typed_given s t v h = given_sound p own s (Typed p t) v (λ u l. type_stays p s u l v t h)

@@ -1,281 +1,254 @@
--- Places that can be read from now on, and the steps of chains.
-use Rattle.std.proofs.Common.{◌≡◌, ℕ, zero, suc, pos, ◌<◌, Bool, true, false, List, [], ◌∷◌, ◌++◌, length, Option, Some, None, refl, sym, ap, ◌∙◌, subst, arith}
-use Rattle.std.specs.Prelude.{◌==◌, ◌-ℤ◌, nat_le, slice_get}
-use Rattle.std.specs.Option.{option_map, option_map_or, option_and_then}
-use Rattle.std.proofs.lemmas.Bool.{eqb-true}
-use Rattle.std.proofs.lemmas.Bool.Decides.{nat_tests}
-use Rattle.m3_base.specs.declared.outcomes.FaultKind.TheVariants as fault_kind
-use Rattle.m3_base.specs.declared.places.Pos.{Pos}
+-- Places that can be read from now on, and those that can be written.
+use Rattle.std.proofs.Common.{◌≡◌, ◌≤◌, ℕ, zero, suc, ◌<◌, ◌⊎◌, inl, inr, ⊎_elim, Bool, true, false, List, [], ◌∷◌, length, Option, Some, None, refl, sym, ap, ◌∙◌, subst, arith}
+use Rattle.std.specs.Prelude.{slice_get, slice_set}
+use Rattle.std.specs.Option.{option_and_then}
+use Rattle.std.proofs.lemmas.List.{length-set}
 use Rattle.m3_core.specs.declared.program.VarDef.{VarDef}
 use Rattle.m3_types.specs.declared.nodes.Field.{Field}
+use Rattle.m3_types.specs.declared.nodes.TypeNode.{TypeNode}
+use Rattle.m3_types.specs.declared.nodes.TypeNode.TheVariants as node
 use Rattle.m3_values.specs.Values as value
-use Rattle.m3_values.specs.Values.{Value, Values, items}
-use Rattle.m3_values.specs.Integers.{count_of}
-use Rattle.m3_values.specs.Arrays.{shape, fits}
+use Rattle.m3_values.specs.Values.{Value, Values, items, row_of}
+use Rattle.m3_values.specs.Arrays.{shape}
 use Rattle.m3_values.specs.Programs.{Program}
-use Rattle.m3_values.specs.Types.{node_of, element, type_sizes, first_index}
+use Rattle.m3_values.specs.Types.{node_of, element, object_fields}
 use Rattle.m3_values.specs.Places as place
-use Rattle.m3_values.specs.Places.{Place, Selector, Thing, Is, At, whole, selected, value_in}
-use Rattle.m3_values.specs.Store.{Store, Memory, thing_in, value_of, held_by, read, value_now}
-use Rattle.m3_source_meaning.specs.Meanings.{Evaluates, given, ◌>>=◌}
-use Rattle.m3_source_meaning.specs.Phrases.{Here, Expression, Chained, Based, Before, Stepped}
+use Rattle.m3_values.specs.Places.{Place, Thing, Is, At, whole, selected, value_in}
+use Rattle.m3_values.specs.Store as store
+use Rattle.m3_values.specs.Store.{Variables, Store, Memory, thing_in, with_thing, with_globals, with_store, value_of, read, write}
+use Rattle.m3_source_meaning.specs.Meanings.{given}
 use Rattle.m3_source_meaning.specs.Assignment.{type_of_variable}
-use Rattle.m3_source_meaning.specs.Designators as designators
-use Rattle.m3_source_meaning.specs.Expressions.{as_value, of_chain}
-use Rattle.m3_source_typing.specs.ValueTypes.{Class, OfRecords, OfArrays, class_of, record_fields, IsOfNil, HasType, AreFields, AreElements}
-use Rattle.m3_source_typing.specs.Stores.{IsLater, AreVariables}
-use Rattle.m3_source_typing.specs.Sound.{IsGood, Gives, IsReadable, IsOfType}
-use Rattle.m3_source_typing.specs.Operators as rule
+use Rattle.m3_source_typing.specs.ValueTypes.{OfRecords, OfArrays, class_of, record_fields, HasFixedSizes, HasType}
+use Rattle.m3_source_typing.specs.Stores.{IsLater, IsContentOf, AreVariables}
+use Rattle.m3_source_typing.specs.Sound.{Owned, Knows, Scope, IsFair, Becomes, IsPlaceOf, IsGood, Gives, IsReadable}
 use Rattle.m3_source_typing.specs.Expressions.{Given, PlaceOf, ValueOf}
-use Rattle.m3_source_typing.proofs.Staying.{and_later, type_stays}
-use Rattle.m3_source_typing.proofs.Combining.{given_sound, bind_sound, holding_sound, fault_sound, unless_sound, seeing_sound}
-use Rattle.m3_source_typing.proofs.Operands.{number_of, left_true}
-use Rattle.m3_source_typing.proofs.Operating.{Typed, typed_given}
+use Rattle.m3_source_typing.proofs.Staying.{place_stays, now_itself, becomes_itself, type_stays, fields_stay}
+use Rattle.m3_source_typing.proofs.Combining.{given_sound}
+use Rattle.m3_source_typing.proofs.Heads.{first_of, rest_of}
+use Rattle.m3_source_typing.proofs.Parts.{read_further, write_further, item_set, record_of, array_of, field_there, element_there, record_with, array_with, same_shape, fixed_shape}
 
--- ---- through a path
+-- a variable that is set, and each other one
+set_thing : (vs : Variables) (x : ℕ) (thing : Thing) (y : ℕ) (old : Thing) → thing_in vs y ≡ Some old → ((x ≡ y) × (thing_in (with_thing x thing vs) y ≡ Some thing)) ⊎ (thing_in (with_thing x thing vs) y ≡ Some old)
+set_thing [] x thing y old h = inr h
+set_thing (v ∷ vs) zero thing zero old h = inl (refl, refl)
+set_thing (v ∷ vs) zero thing (suc y) old h = inr h
+set_thing (v ∷ vs) (suc x) thing zero old h = inr h
+set_thing (v ∷ vs) (suc x) thing (suc y) old h = ⊎_elim (λ q. inl (ap suc q.0, q.1)) (λ q. inr q) (set_thing vs x thing y old h)
 
-same_option : (o : Option Value) → option_and_then (value_in []) o ≡ o
-same_option None = refl
-same_option (Some v) = refl
+-- a variable that wasn't made
+pub new_thing : (vs : Variables) (x : ℕ) (thing : Thing) → x < length vs → thing_in (with_thing x thing vs) x ≡ Some thing
+new_thing [] x thing less = absurd (omega arith)
+new_thing (v ∷ vs) zero thing less = refl
+new_thing (v ∷ vs) (suc x) thing less = new_thing vs x thing (omega arith)
 
-through_one : (path : List Selector) (s : Selector) (o : Option Value) → ((v : Value) → value_in (path ++ s ∷ []) v ≡ option_and_then (selected s) (value_in path v)) → option_and_then (value_in (path ++ s ∷ [])) o ≡ option_and_then (selected s) (option_and_then (value_in path) o)
-through_one path s None h = refl
-through_one path s (Some v) h = h v
+pub other_thing : (vs : Variables) (x : ℕ) (thing : Thing) (y : ℕ) (old : Thing) → thing_in vs y ≡ Some old → (x ≡ y → ⊥) → thing_in (with_thing x thing vs) y ≡ Some old
+other_thing vs x thing y old h n = ⊎_elim (λ q. absurd (n q.0)) (λ q. q) (set_thing vs x thing y old h)
 
-pub value_further : (path : List Selector) (s : Selector) (v : Value) → value_in (path ++ s ∷ []) v ≡ option_and_then (selected s) (value_in path v)
-value_further [] s v = same_option (selected s v)
-value_further (x ∷ path) s v = through_one path s (selected x v) (value_further path s)
+module _ (p : Program) where
+  pub variables_stay : (s t : Store) → IsLater s t → (vs : List Value) (xs : List VarDef) → AreVariables p s vs xs → AreVariables p t vs xs
+  variables_stay s t l [] [] h = tt
+  variables_stay s t l [] (x ∷ xs) h = h
+  variables_stay s t l (v ∷ vs) [] h = h
+  variables_stay s t l (v ∷ vs) (x ∷ xs) h = (type_stays p s t l v (type_of_variable x.kind) h.0, variables_stay s t l vs xs h.1)
 
-pub read_further : (m : Memory) (to : Place) (s : Selector) → read m (place.further to s) ≡ option_and_then (selected s) (read m to)
-read_further m to s = through_one to.path s (held_by m to.name) (value_further to.path s)
+  variable_set : (s : Store) (vs : List Value) (xs : List VarDef) (n : ℕ) (x : VarDef) (v : Value) → AreVariables p s vs xs → slice_get xs n ≡ Some x → HasType p s v (type_of_variable x.kind) → AreVariables p s (slice_set vs n v) xs
+  variable_set s [] [] n x v h e g = h
+  variable_set s [] (y ∷ xs) n x v h e g = h
+  variable_set s (u ∷ vs) [] n x v h e g = absurd h
+  variable_set s (u ∷ vs) (y ∷ xs) zero x v h e g = let q : Some y ≡ Some x = e in let same : x ≡ y = cc in (subst (λ (z : VarDef). HasType p s v (type_of_variable z.kind)) same g, h.1)
+  variable_set s (u ∷ vs) (y ∷ xs) (suc n) x v h e g = (h.0, variable_set s vs xs n x v h.1 e g)
 
--- ---- parts of values
-
-module _ (p : Program) (own : ℕ → Option ℕ) where
-  abbrev is_records : Class → Bool
-  is_records OfRecords = true
-  is_records _ = false
-
-  abbrev is_arrays : Class → Bool
-  is_arrays OfArrays = true
-  is_arrays _ = false
-
-  wrong : (test : Class → Bool) (c d e : Class) → c ≡ d → c ≡ e → test d ≡ true → test e ≡ false → ⊥
-  wrong test c d e h g is isnt = let bad : true ≡ false = sym is ∙ ap test (sym h ∙ g) ∙ isnt in absurd cc
-
-  record_of : (s : Store) (v : Value) (t : ℕ) → class_of p t ≡ OfRecords → HasType p s v t → (vs : Values) × (v ≡ value.Record vs) × AreFields p s vs (record_fields (node_of p t))
-  record_of s (value.Record vs) t c h = (vs, refl, h.1)
-  record_of s value.Nil t c h = absurd (subst IsOfNil c h)
-  record_of s (value.Ordinal z) t c h = absurd (wrong is_records _ _ _ c h.0 refl refl)
-  record_of s (value.Pointer n) t c h = absurd (wrong is_records _ _ _ c h.0 refl refl)
-  record_of s (value.Text n) t c h = absurd (wrong is_records _ _ _ c h.0 refl refl)
-  record_of s value.MainThread t c h = absurd (wrong is_records _ _ _ c h.0 refl refl)
-  record_of s (value.Procedure q a) t c h = absurd (wrong is_records _ _ _ c h.0 refl refl)
-  record_of s (value.Members ms) t c h = absurd (wrong is_records _ _ _ c h.0 refl refl)
-  record_of s (value.Array below vs) t c h = absurd (wrong is_records _ _ _ c h.0 refl refl)
-
-  pub record IsArray (s : Store) (v : Value) (t : ℕ) : Type 0 where
-    pub below : List ℕ
-    pub elements : Values
-    pub is : v ≡ value.Array below elements
-    pub typed : AreElements p s elements below (element p t)
-    pub sizes : fits (type_sizes p t) (shape (value.Array below elements)) ≡ true
-
-  array_of : (s : Store) (v : Value) (t : ℕ) → class_of p t ≡ OfArrays → HasType p s v t → IsArray s v t
-  array_of s (value.Array below vs) t c h = record { below = below; elements = vs; is = refl; typed = h.1; sizes = h.2 }
-  array_of s value.Nil t c h = absurd (subst IsOfNil c h)
-  array_of s (value.Ordinal z) t c h = absurd (wrong is_arrays _ _ _ c h.0 refl refl)
-  array_of s (value.Pointer n) t c h = absurd (wrong is_arrays _ _ _ c h.0 refl refl)
-  array_of s (value.Text n) t c h = absurd (wrong is_arrays _ _ _ c h.0 refl refl)
-  array_of s value.MainThread t c h = absurd (wrong is_arrays _ _ _ c h.0 refl refl)
-  array_of s (value.Procedure q a) t c h = absurd (wrong is_arrays _ _ _ c h.0 refl refl)
-  array_of s (value.Members ms) t c h = absurd (wrong is_arrays _ _ _ c h.0 refl refl)
-  array_of s (value.Record vs) t c h = absurd (wrong is_arrays _ _ _ c h.0 refl refl)
-
-  field_there : (s : Store) (vs : Values) (fs : List Field) (n : ℕ) (f : Field) → AreFields p s vs fs → slice_get fs n ≡ Some f → (v : Value) × (slice_get (items vs) n ≡ Some v) × HasType p s v f.kind.0
-  field_there s value.End [] n f h e = absurd (let bad : None ≡ Some f = e in cc)
-  field_there s value.End (g ∷ fs) n f h e = absurd h
-  field_there s (value.More v vs) [] n f h e = absurd h
-  field_there s (value.More v vs) (g ∷ fs) zero f h e = let q : Some g ≡ Some f = e in let same : g ≡ f = cc in (v, refl, subst (λ (x : Field). HasType p s v x.kind.0) same h.0)
-  field_there s (value.More v vs) (g ∷ fs) (suc n) f h e = field_there s vs fs n f h.1 e
-
-  element_there : (s : Store) (vs : Values) (below : List ℕ) (o : Option ℕ) (e i : ℕ) → AreElements p s vs below o → o ≡ Some e → i < length (items vs) → (v : Value) × (slice_get (items vs) i ≡ Some v) × HasType p s v e
-  element_there s vs below None e i h is less = absurd h
-  element_there s value.End below (Some k) e i h is less = absurd (omega arith)
-  element_there s (value.More v vs) below (Some k) e zero h is less = let q : Some k ≡ Some e = is in let same : k ≡ e = cc in (v, refl, subst (HasType p s v) same h.0)
-  element_there s (value.More v vs) below (Some k) e (suc i) h is less = element_there s vs below (Some k) e i h.2 is (omega arith)
-
-  size_is : (s : Store) (v : Value) (t size : ℕ) (below : List (Option ℕ)) → type_sizes p t ≡ Some size ∷ below → (a : IsArray s v t) → size ≡ length (items a.elements)
-  size_is s v t size below e a = eqb-true size (length (items a.elements)) (left_true (size == length (items a.elements)) _ (subst (λ w. fits w (shape (value.Array a.below a.elements)) ≡ true) e a.sizes))
-
-  -- ---- places
-
-  -- from now on the place holds values of a type
-  pub record IsPlaceOf (s : Store) (to : Place) (t : ℕ) : Type 0 where
-    pub reads : (m : Memory) → IsLater s m.store → IsGood p own m → (v : Value) × (read m to ≡ Some v) × HasType p m.store v t
-
-  abbrev pub IsGiven : Given → Store → Thing → Type 0
-  IsGiven (PlaceOf t) s (At to) = IsPlaceOf s to t
-  IsGiven (PlaceOf t) s (Is v) = ⊥
-  IsGiven (ValueOf t) s (Is v) = HasType p s v t
-  IsGiven (ValueOf t) s (At to) = ⊥
-
-  place_stays : (s u : Store) (to : Place) (t : ℕ) → IsLater s u → IsPlaceOf s to t → IsPlaceOf u to t
-  place_stays s u to t l h = record { reads = λ m k typed. h.reads m (and_later s u m.store l k) typed }
-
-  pub given_stays : (g : Given) (s u : Store) (thing : Thing) → IsLater s u → IsGiven g s thing → IsGiven g u thing
-  given_stays (PlaceOf t) s u (At to) l h = place_stays s u to t l h
-  given_stays (PlaceOf t) s u (Is v) l h = h
-  given_stays (ValueOf t) s u (Is v) l h = type_stays p s u l v t h
-  given_stays (ValueOf t) s u (At to) l h = h
-
-  pub readable : (g : Given) (s : Store) (thing : Thing) → IsGiven g s thing → IsReadable p own s thing
-  readable (PlaceOf t) s (At to) h = record { reads = λ m l typed. let r = h.reads m l typed in (r.0, r.1) }
-  readable (PlaceOf t) s (Is v) h = absurd h
-  readable (ValueOf t) s (Is v) h = record { reads = λ m l typed. (v, refl) }
-  readable (ValueOf t) s (At to) h = absurd h
-
-  pub thing_given : (g : Given) (s : Store) (thing : Thing) → IsGiven g s thing → Gives p own s (IsGiven g) (given thing)
-  thing_given g s thing h = given_sound p own s (IsGiven g) thing (λ u l. given_stays g s u thing l h)
-
-  pub variable_there : (s : Store) (vs : List Value) (xs : List VarDef) (n : ℕ) (x : VarDef) → AreVariables p s vs xs → slice_get xs n ≡ Some x → (v : Value) × (slice_get vs n ≡ Some v) × HasType p s v (type_of_variable x.kind)
+  variable_there : (s : Store) (vs : List Value) (xs : List VarDef) (n : ℕ) (x : VarDef) → AreVariables p s vs xs → slice_get xs n ≡ Some x → (v : Value) × (slice_get vs n ≡ Some v) × HasType p s v (type_of_variable x.kind)
   variable_there s [] [] n x h e = absurd (let bad : None ≡ Some x = e in cc)
   variable_there s [] (y ∷ xs) n x h e = absurd h
   variable_there s (v ∷ vs) [] n x h e = absurd h
   variable_there s (v ∷ vs) (y ∷ xs) zero x h e = let q : Some y ≡ Some x = e in let same : y ≡ x = cc in (v, refl, subst (λ (z : VarDef). HasType p s v (type_of_variable z.kind)) same h.0)
   variable_there s (v ∷ vs) (y ∷ xs) (suc n) x h e = variable_there s vs xs n x h.1 e
 
-  pub global_place : (s : Store) (n : ℕ) (x : VarDef) → slice_get p.globals n ≡ Some x → IsPlaceOf s (whole (place.Global n)) (type_of_variable x.kind)
-  global_place s n x e = record {
-    reads = λ m l typed. let v = variable_there m.store m.store.globals p.globals n x typed.store.globals e in (v.0, ap (option_and_then (value_in [])) v.1, v.2);
+  pub content_stays : (s t : Store) → IsLater s t → (v : Value) (kind : ℕ) (o : Option TypeNode) → IsContentOf p s v kind o → IsContentOf p t v kind o
+  content_stays s t l v kind (Some (node.RefTo brand target)) h = type_stays p s t l v target.0 h
+  content_stays s t l v kind (Some (node.OpenArray element)) h = type_stays p s t l v kind h
+  content_stays s t l (value.Record vs) kind _ h = fields_stay p s t l vs (object_fields p kind) h
+  content_stays s t l _ kind _ h = absurd h
+
+pub knows_itself : (own : Owned) → Knows own own
+knows_itself own = record { count = omega arith; kinds = λ x t is. is }
+
+pub knows_then : (known own more : Owned) → Knows known own → Knows own more → Knows known more
+knows_then known own more h g =
+    let one : known.count ≤ own.count = h.count in
+    let two : own.count ≤ more.count = g.count in
+    record { count = omega arith; kinds = λ x t is. g.kinds x t (h.kinds x t is) }
+
+module _ (p : Program) where
+  pub less_fair : (known own : Owned) (m : Memory) → Knows known own → IsFair p own m → IsFair p known m
+  less_fair known own m k fair =
+      let one : known.count ≤ own.count = k.count in
+      let room : own.count ≤ length m.own = fair.room in
+      record { store = fair.store; room = omega arith; variables = λ x t is. fair.variables x t (k.kinds x t is) }
+
+  pub becomes_so : (known : Owned) (m : Memory) (o q : Option Memory) → o ≡ q → Becomes p known m q → Becomes p known m o
+  becomes_so known m o q e b = record { after = b.after; is = e ∙ b.is; later = b.later; fair = b.fair; names = b.names }
+
+  -- a place is one where more variables are known
+  abbrev pub place_known : (known own : Owned) (b : Bool) (s : Store) (to : Place) (t : ℕ) → Knows known own → IsPlaceOf p known b s to t → IsPlaceOf p own b s to t
+  place_known known own b s to t k h = record {
+    sizes = h.sizes;
+    reads = λ m l fair. h.reads m l (less_fair known own m k fair);
+    writes = λ is m l fair v g e.
+        let n = h.writes is m l (less_fair known own m k fair) v g e in
+        record { after = n.after; is = n.is; later = n.later; fair = λ more j. n.fair more (knows_then known own more k j); names = n.names };
   }
 
-  fresh_place : (s : Store) (v : Value) (t : ℕ) → HasType p s v t → IsPlaceOf s (whole (place.Fresh v)) t
-  fresh_place s v t h = record { reads = λ m l typed. (v, refl, type_stays p s m.store l v t h) }
-
-  field_place : (s : Store) (to : Place) (t n : ℕ) (f : Field) → class_of p t ≡ OfRecords → slice_get (record_fields (node_of p t)) n ≡ Some f → IsPlaceOf s to t → IsPlaceOf s (place.further to (place.Field n)) f.kind.0
-  field_place s to t n f c e h = record {
-    reads = λ m l typed.
-        let v = h.reads m l typed in
-        let r = record_of m.store v.0 t c v.2 in
-        let w = field_there m.store r.0 (record_fields (node_of p t)) n f r.2 e in
-        (w.0, read_further m to (place.Field n) ∙ ap (option_and_then (selected (place.Field n))) (v.1 ∙ ap Some r.1) ∙ w.1, w.2);
+  -- what is written keeps memory well typed
+  pub good_after : (own : Scope) (known : Owned) (m : Memory) (o : Option Memory) → Knows known own.holds → IsGood p own m → (b : Becomes p known m o) → IsGood p own b.after
+  good_after own known m o k good b = record {
+    fair = b.fair own.holds k good.fair;
+    names = λ x a is.
+        let n = good.names x a is in
+        record { place = n.place; is = b.names x n.place n.is; leads = place_stays p a.known a.is_variable m.store b.after.store n.place a.kind b.later n.leads };
   }
 
-  element_place : (s : Store) (to : Place) (t e size i : ℕ) (below : List (Option ℕ)) → class_of p t ≡ OfArrays → element p t ≡ Some e → type_sizes p t ≡ Some size ∷ below → i < size → IsPlaceOf s to t → IsPlaceOf s (place.further to (place.Element i)) e
-  element_place s to t e size i below c is sizes less h = record {
-    reads = λ m l typed.
-        let v = h.reads m l typed in
-        let a = array_of m.store v.0 t c v.2 in
-        let long : i < length (items a.elements) = subst (λ n. i < n) (size_is m.store v.0 t size below sizes a) less in
-        let w = element_there m.store a.elements a.below (element p t) e i a.typed is long in
-        (w.0, read_further m to (place.Element i) ∙ ap (option_and_then (selected (place.Element i))) (v.1 ∙ ap Some a.is) ∙ w.1, w.2);
+  abbrev pub IsGiven : Owned → Given → Store → Thing → Type 0
+  IsGiven own (PlaceOf b t) s (At to) = IsPlaceOf p own b s to t
+  IsGiven own (PlaceOf b t) s (Is v) = ⊥
+  IsGiven own (ValueOf t) s (Is v) = HasType p s v t
+  IsGiven own (ValueOf t) s (At to) = ⊥
+
+  pub given_stays : (own : Owned) (g : Given) (s u : Store) (thing : Thing) → IsLater s u → IsGiven own g s thing → IsGiven own g u thing
+  given_stays own (PlaceOf b t) s u (At to) l h = place_stays p own b s u to t l h
+  given_stays own (PlaceOf b t) s u (Is v) l h = h
+  given_stays own (ValueOf t) s u (Is v) l h = type_stays p s u l v t h
+  given_stays own (ValueOf t) s u (At to) l h = h
+
+  pub readable : (own : Scope) (g : Given) (s : Store) (thing : Thing) → IsGiven own.holds g s thing → IsReadable p own s thing
+  readable own (PlaceOf b t) s (At to) h = record { reads = λ m l good. let r = h.reads m l good.fair in (r.0, r.1) }
+  readable own (PlaceOf b t) s (Is v) h = absurd h
+  readable own (ValueOf t) s (Is v) h = record { reads = λ m l good. (v, refl) }
+  readable own (ValueOf t) s (At to) h = absurd h
+
+  pub thing_given : (own : Scope) (g : Given) (s : Store) (thing : Thing) → IsGiven own.holds g s thing → Gives p own s (IsGiven own.holds g) (given thing)
+  thing_given own g s thing h = given_sound p own s (IsGiven own.holds g) thing (λ u l. given_stays own.holds g s u thing l h)
+
+module _ (p : Program) (known : Owned) where
+  -- ---- variables of modules
+
+  abbrev with_global : Memory → ℕ → Value → Memory
+  with_global m n v = record m { store = record m.store { globals = slice_set m.store.globals n v } }
+
+  global_later : (m : Memory) (n : ℕ) (v : Value) → IsLater m.store (with_global m n v).store
+  global_later m n v = record { cells = λ c cell is. record { now = cell; there = is; becomes = becomes_itself cell } }
+
+  global_good : (m : Memory) (n : ℕ) (x : VarDef) (v : Value) → slice_get p.globals n ≡ Some x → HasType p m.store v (type_of_variable x.kind) → (own : Owned) → IsFair p own m → IsFair p own (with_global m n v)
+  global_good m n x v e h own good =
+      let l : IsLater m.store (with_global m n v).store = global_later m n v in
+      record {
+        store = record {
+          cells = λ c kind w holder is new. content_stays p m.store (with_global m n v).store l w kind (node_of p kind) (good.store.cells c kind w holder is new);
+          globals = variable_set p (with_global m n v).store m.store.globals p.globals n x v (variables_stay p m.store (with_global m n v).store l m.store.globals p.globals good.store.globals) e (type_stays p m.store (with_global m n v).store l v (type_of_variable x.kind) h);
+        };
+        room = good.room;
+        variables = λ y t is. let w = good.variables y t is in record { value = w.value; is = w.is; typed = type_stays p m.store (with_global m n v).store l w.value t w.typed };
+      }
+
+  write_global : (m : Memory) (n : ℕ) (v old : Value) → slice_get m.store.globals n ≡ Some old → write (whole (place.Global n)) v m ≡ Some (with_global m n v)
+  write_global m n v old e =
+      ap (option_and_then (λ w. store.holding (place.Global n) v m)) e
+      ∙ ap (λ o. with_store m (with_globals m.store o)) (item_set m.store.globals n v old e)
+
+  pub global_place : (s : Store) (n : ℕ) (x : VarDef) → slice_get p.globals n ≡ Some x → HasFixedSizes p (type_of_variable x.kind) → IsPlaceOf p known true s (whole (place.Global n)) (type_of_variable x.kind)
+  global_place s n x e f = record {
+    sizes = f.sizes;
+    reads = λ m l good.
+        let v = variable_there p m.store m.store.globals p.globals n x good.store.globals e in
+        (v.0, ap (option_and_then (value_in [])) v.1, v.2, fixed_shape p m.store v.0 (type_of_variable x.kind) v.2 f);
+    writes = λ is m l good v h g.
+        let old = variable_there p m.store m.store.globals p.globals n x good.store.globals e in
+        record { after = with_global m n v; is = write_global m n v old.0 old.1; later = global_later m n v; fair = λ own k. global_good m n x v e h own; names = λ y q r. r };
   }
 
-  -- ---- steps
+  -- ---- own variables
 
-  module _ (here : Here) where
-    own_place : (s : Store) (x t : ℕ) → own x ≡ Some t → IsPlaceOf s (whole (place.Own x)) t
-    own_place s x t is = record {
-      reads = λ m l typed. let v = typed.variables x t is in (v.value, ap (λ o. option_and_then (value_in []) (option_and_then value_of o)) v.is, v.typed);
-    }
+  abbrev pub with_own : Memory → ℕ → Value → Memory
+  with_own m x v = record m { own = with_thing x (Is v) m.own }
 
-    own_name_sound : (x t : ℕ) → own x ≡ Some t → (s : Store) → Gives p own s (IsGiven (PlaceOf t)) (designators.own_name p here x)
-    own_name_sound x t is s = seeing_sound p own s (IsGiven (PlaceOf t)) (λ m. option_map (designators.stands_for (place.Own x)) (thing_in m.own x))
-        (λ m l typed. let v = typed.variables x t is in (At (whole (place.Own x)), ap (option_map (designators.stands_for (place.Own x))) v.is, own_place m.store x t is))
+  same_type : (own : Owned) (x y t u : ℕ) → x ≡ y → own.kind x ≡ Some t → own.kind y ≡ Some u → t ≡ u
+  same_type own x y t u e f g = let q : Some t ≡ Some u = sym f ∙ ap own.kind e ∙ g in cc
 
-    -- the place of an own variable
-    pub own_sound : (level x t : ℕ) → designators.is_own p here level x ≡ true → own x ≡ Some t → (s : Store) → Gives p own s (IsGiven (PlaceOf t)) (designators.named p here level x)
-    own_sound level x t mine is s = subst (λ b. Gives p own s (IsGiven (PlaceOf t)) (designators.named_by p here b level x)) (sym mine) (own_name_sound x t is s)
+  own_good : (m : Memory) (x t : ℕ) (v : Value) → HasType p m.store v t → (own : Owned) → own.kind x ≡ Some t → IsFair p own m → IsFair p own (with_own m x v)
+  own_good m x t v h own e good = record {
+    store = good.store;
+    room = subst (λ n. own.count ≤ n) (sym (length-set m.own x (Some (Is v)))) good.room;
+    variables = λ y u is.
+        let w = good.variables y u is in
+        ⊎_elim
+        (λ q. record { value = v; is = q.1; typed = subst (HasType p m.store v) (same_type own x y t u q.0 e is) h })
+        (λ q. record { value = w.value; is = q; typed = w.typed })
+        (set_thing m.own x (Is v) y (Is w.value) w.is);
+  }
 
-    pub read_sound : (t : ℕ) (s : Store) (thing : Thing) → IsGiven (PlaceOf t) s thing → Gives p own s (IsGiven (ValueOf t)) (designators.read_step p here thing)
-    read_sound t s (Is v) h = absurd h
-    read_sound t s (At to) h =
-        bind_sound p own s (Typed p t) (IsGiven (ValueOf t)) _ _
-        (seeing_sound p own s (Typed p t) (λ m. value_now m (At to)) (λ m l typed. h.reads m l typed))
-        (λ v u l q. thing_given (ValueOf t) u (Is v) q)
+  names_stay : (m : Memory) (x : ℕ) (v old : Value) → thing_in m.own x ≡ Some (Is old) → (y : ℕ) (to : Place) → thing_in m.own y ≡ Some (At to) → thing_in (with_own m x v).own y ≡ Some (At to)
+  names_stay m x v old e y to is = other_thing m.own x (Is v) y (At to) is (λ q. let bad : Some (Is old) ≡ Some (At to) = sym e ∙ ap (thing_in m.own) q ∙ is in absurd cc)
 
-    pub keep_sound : (t : ℕ) (s : Store) (thing : Thing) → IsGiven (ValueOf t) s thing → Gives p own s (IsGiven (PlaceOf t)) (designators.keep_step p here thing)
-    keep_sound t s (Is v) h = thing_given (PlaceOf t) s (At (whole (place.Fresh v))) (fresh_place s v t h)
-    keep_sound t s (At to) h = absurd h
+  write_own : (m : Memory) (x : ℕ) (v old : Value) → thing_in m.own x ≡ Some (Is old) → write (whole (place.Own x)) v m ≡ Some (with_own m x v)
+  write_own m x v old e = ap (λ o. option_and_then (λ w. store.holding (place.Own x) v m) (option_and_then value_of o)) e
 
-    pub field_sound : (n t : ℕ) (f : Field) → class_of p t ≡ OfRecords → slice_get (record_fields (node_of p t)) n ≡ Some f → (s : Store) (thing : Thing) → IsGiven (PlaceOf t) s thing → Gives p own s (IsGiven (PlaceOf f.kind.0)) (designators.field_step p here n thing)
-    field_sound n t f c e s (At to) h = thing_given (PlaceOf f.kind.0) s (At (place.further to (place.Field n))) (field_place s to t n f c e h)
-    field_sound n t f c e s (Is v) h = absurd h
+  pub own_place : (s : Store) (x t : ℕ) → known.kind x ≡ Some t → HasFixedSizes p t → IsPlaceOf p known true s (whole (place.Own x)) t
+  own_place s x t e f = record {
+    sizes = f.sizes;
+    reads = λ m l good.
+        let v = good.variables x t e in
+        (v.value, ap (λ o. option_and_then (value_in []) (option_and_then value_of o)) v.is, v.typed, fixed_shape p m.store v.value t v.typed f);
+    writes = λ is m l good v h g.
+        let w = good.variables x t e in
+        record { after = with_own m x v; is = write_own m x v w.value w.is; later = now_itself m.store; fair = λ own k. own_good m x t v h own (k.kinds x t e); names = names_stay m x v w.value w.is };
+  }
 
-    below_size : (size i : ℕ) → nat_le size i ≡ false → i < size
-    below_size size i h = grind (arith, nat_tests)
+  -- ---- other places
 
-    there_sound : (at : Pos) (to : Place) (size : ℕ) (i : Option ℕ) (t e : ℕ) (below : List (Option ℕ)) → class_of p t ≡ OfArrays → element p t ≡ Some e → type_sizes p t ≡ Some size ∷ below → (s : Store) → IsPlaceOf s to t → Gives p own s (IsGiven (PlaceOf e)) (designators.element_there p here at to size i)
-    there_sound at to size None t e below c is sizes s h = fault_sound p own s _ fault_kind.Index at
-    there_sound at to size (Some i) t e below c is sizes s h =
-        bind_sound p own s (λ u w. nat_le size i ≡ false) (IsGiven (PlaceOf e)) _ _ (unless_sound p own s fault_kind.Index at (nat_le size i))
-        (λ w u l q. thing_given (PlaceOf e) u (At (place.further to (place.Element i))) (element_place u to t e size i below c is sizes (below_size size i q) (place_stays s u to t l h)))
+  pub fresh_place : (s : Store) (v : Value) (t : ℕ) → HasType p s v t → IsPlaceOf p known false s (whole (place.Fresh v)) t
+  fresh_place s v t h = record {
+    sizes = shape v;
+    reads = λ m l good. (v, refl, type_stays p s m.store l v t h, refl);
+    writes = λ is m l good w g e. absurd (let bad : false ≡ true = is in cc);
+  }
 
-    pub element_sound : (index : Expression) (t e i size : ℕ) (below : List (Option ℕ)) → class_of p t ≡ OfArrays → element p t ≡ Some e → type_sizes p t ≡ Some size ∷ below → IsOfType p own index i → rule.is_ordinal p i ≡ true → (kind : Option ℕ) (s : Store) (thing : Thing) → IsGiven (PlaceOf t) s thing → Gives p own s (IsGiven (PlaceOf e)) (designators.element_step p here index kind thing)
-    element_sound index t e i size below c is sizes typed numbers kind s (Is v) h = absurd h
-    element_sound index t e i size below c is sizes typed numbers kind s (At to) h =
-        bind_sound p own s (Typed p i) (IsGiven (PlaceOf e)) _ _ (holding_sound p own s (Typed p i) (At to) index.value (typed.value s))
-        (λ n u l q. let z = number_of p u n i numbers q in
-        bind_sound p own u (Typed p t) (IsGiven (PlaceOf e)) _ _ (seeing_sound p own u (Typed p t) (λ m. read m to) (λ m k good. h.reads m (and_later s u m.store l k) good))
-        (λ array w k f. let a = array_of w array t c f in
-        subst (λ x. Gives p own w (IsGiven (PlaceOf e)) (designators.element_at p here index.pos kind to array x)) (sym z.1)
-        (subst (λ x. Gives p own w (IsGiven (PlaceOf e)) (designators.element_at p here index.pos kind to x (value.Ordinal z.0))) (sym a.is)
-        (subst (λ x. Gives p own w (IsGiven (PlaceOf e)) (designators.element_there p here index.pos to x (count_of (z.0 -ℤ option_map_or (first_index p) kind (pos 0))))) (size_is w array t size below sizes a)
-        (there_sound index.pos to size (count_of (z.0 -ℤ option_map_or (first_index p) kind (pos 0))) t e below c is sizes w (place_stays s w to t (and_later s u w l k) h))))))
+  pub field_place : (b : Bool) (s : Store) (to : Place) (t n : ℕ) (f : Field) → class_of p t ≡ OfRecords → slice_get (record_fields (node_of p t)) n ≡ Some f → HasFixedSizes p f.kind.0 → IsPlaceOf p known b s to t → IsPlaceOf p known b s (place.further to (place.Field n)) f.kind.0
+  field_place b s to t n f c e fixed h = record {
+    sizes = fixed.sizes;
+    reads = λ m l good.
+        let v = h.reads m l good in
+        let r = record_of p m.store v.0 t c v.2 in
+        let w = field_there p m.store r.0 (record_fields (node_of p t)) n f r.2 e in
+        (w.0, read_further m to (place.Field n) ∙ ap (option_and_then (selected (place.Field n))) (v.1 ∙ ap Some r.1) ∙ w.1, w.2, fixed_shape p m.store w.0 f.kind.0 w.2 fixed);
+    writes = λ is m l good new g k.
+        let v = h.reads m l good in
+        let r = record_of p m.store v.0 t c v.2 in
+        let w = field_there p m.store r.0 (record_fields (node_of p t)) n f r.2 e in
+        let changed : Value = value.Record (row_of (slice_set (items r.0) n new)) in
+        becomes_so p known m (write (place.further to (place.Field n)) new m) (write to changed m)
+        (write_further m to (place.Field n) (value.Record r.0) w.0 new changed (v.1 ∙ ap Some r.1) w.1 (ap (λ o. place.as_record o) (item_set (items r.0) n new w.0 w.1)))
+        (h.writes is m l good changed (record_with p m.store r.0 t n f new c r.2 e g) (sym (ap shape r.1) ∙ v.3));
+  }
 
-    -- ---- chains
-
-    pub record TypedStep (g : Given) (x : Stepped) (h : Given) : Type 0 where
-      pub goes : (before : Before) (s : Store) (thing : Thing) → IsGiven g s thing → Gives p own s (IsGiven h) (x.goes before thing)
-
-    pub data TypedSteps : Given → List Stepped → Given → Type 0 where
-      none : (g : Given) → TypedSteps g [] g
-      next : (g h k : Given) (x : Stepped) (xs : List Stepped) → TypedStep g x h → TypedSteps h xs k → TypedSteps g (x ∷ xs) k
-
-    pub record TypedBase (b : Based) (g : Given) : Type 0 where
-      pub thing : (at : Pos) (s : Store) → Gives p own s (IsGiven g) (b.thing at)
-      pub unread : (at : Pos) (s : Store) → Gives p own s (IsReadable p own) (b.unread at)
-
-    pub record TypedChain (c : Chained) (g : Given) : Type 0 where
-      pub thing : (s : Store) → Gives p own s (IsGiven g) c.thing
-      pub unread : (s : Store) → Gives p own s (IsReadable p own) c.unread
-
-    to_read : (g : Given) (s : Store) (e : Evaluates Thing) → Gives p own s (IsGiven g) e → Gives p own s (IsReadable p own) (e >>= given)
-    to_read g s e h = bind_sound p own s (IsGiven g) (IsReadable p own) e given h (λ t u l q. given_sound p own u (IsReadable p own) t (λ w k. readable g w t (given_stays g u w t k q)))
-
-    steps_sound : (g h : Given) (xs : List Stepped) → TypedSteps g xs h → (before : Before) (s : Store) (thing : Thing) → IsGiven g s thing → Gives p own s (IsGiven h) (designators.stepping p here before xs thing)
-    steps_sound _ _ _ (none g) before s thing f = thing_given g s thing f
-    steps_sound _ _ _ (next g h k x xs step more) before s thing f =
-        bind_sound p own s (IsGiven h) (IsGiven k) _ _ (step.goes before s thing f) (λ t u l q. steps_sound h k xs more (record before { kind = x.kind }) u t q)
-
-    last_unread : (g h : Given) (x : Stepped) (b : Bool) → TypedStep g x h → (before : Before) (s : Store) (thing : Thing) → IsGiven g s thing → Gives p own s (IsReadable p own) (elim b as (λ y. Evaluates Thing) [ true ↦ given thing | false ↦ x.goes before thing ])
-    last_unread g h x true step before s thing f = to_read g s (given thing) (thing_given g s thing f)
-    last_unread g h x false step before s thing f = to_read h s (x.goes before thing) (step.goes before s thing f)
-
-    unread_sound : (g h : Given) (xs : List Stepped) → TypedSteps g xs h → (before : Before) (s : Store) (thing : Thing) → IsGiven g s thing → Gives p own s (IsReadable p own) (designators.stepping_unread p here before xs thing)
-    unread_sound _ _ _ (none g) before s thing f = to_read g s (given thing) (thing_given g s thing f)
-    unread_sound _ _ _ (next g h k x [] step more) before s thing f = last_unread g h x x.is_read step before s thing f
-    unread_sound _ _ _ (next g h k x (y ∷ xs) step more) before s thing f =
-        bind_sound p own s (IsGiven h) (IsReadable p own) _ _ (step.goes before s thing f) (λ t u l q. unread_sound h k (y ∷ xs) more (record before { kind = x.kind }) u t q)
-
-    chain_unread_sound : (at : Pos) (b : Based) (g h : Given) (xs : List Stepped) → TypedBase b g → TypedSteps g xs h → (s : Store) → Gives p own s (IsReadable p own) (designators.chain_unread p here at b xs)
-    chain_unread_sound at b g h [] base steps s = base.unread at s
-    chain_unread_sound at b g h (x ∷ xs) base steps s =
-        bind_sound p own s (IsGiven g) (IsReadable p own) _ _ (base.thing at s) (λ t u l q. unread_sound g h (x ∷ xs) steps (record { pos = at; kind = b.kind }) u t q)
-
-    pub chain_sound : (at : Pos) (b : Based) (g h : Given) (xs : List Stepped) (kind : Option ℕ) → TypedBase b g → TypedSteps g xs h → TypedChain (designators.chained p here at b xs kind) h
-    chain_sound at b g h xs kind base steps = record {
-      thing = λ s. bind_sound p own s (IsGiven g) (IsGiven h) _ _ (base.thing at s) (λ t u l q. steps_sound g h xs steps (record { pos = at; kind = b.kind }) u t q);
-      unread = chain_unread_sound at b g h xs base steps;
-    }
-
-    value_sound : (t : ℕ) (s : Store) (thing : Thing) → IsGiven (ValueOf t) s thing → Gives p own s (Typed p t) (as_value thing)
-    value_sound t s (Is v) h = typed_given p own s t v h
-    value_sound t s (At to) h = absurd h
-
-    pub of_chain_sound : (c : Chained) (t : ℕ) → TypedChain c (ValueOf t) → IsOfType p own (of_chain c) t
-    of_chain_sound c t h = record {
-      value = λ s. bind_sound p own s (IsGiven (ValueOf t)) (Typed p t) _ _ (h.thing s) (λ thing u l q. value_sound t u thing q);
-      unread = h.unread;
-    }
+  pub element_place : (b : Bool) (s : Store) (to : Place) (t e i : ℕ) → class_of p t ≡ OfArrays → element p t ≡ Some e → (h : IsPlaceOf p known b s to t) → i < first_of h.sizes → IsPlaceOf p known b s (place.further to (place.Element i)) e
+  element_place b s to t e i c is h less = record {
+    sizes = rest_of h.sizes;
+    reads = λ m l good.
+        let v = h.reads m l good in
+        let a = array_of p m.store v.0 t c v.2 in
+        let shaped : shape (value.Array a.below a.elements) ≡ h.sizes = sym (ap shape a.is) ∙ v.3 in
+        let long : i < length (items a.elements) = subst (λ ns. i < first_of ns) (sym shaped) less in
+        let w = element_there p m.store a.elements a.below (element p t) e i a.typed is long in
+        (w.0, read_further m to (place.Element i) ∙ ap (option_and_then (selected (place.Element i))) (v.1 ∙ ap Some a.is) ∙ w.1, w.2, w.3 ∙ ap rest_of shaped);
+    writes = λ may m l good new g k.
+        let v = h.reads m l good in
+        let a = array_of p m.store v.0 t c v.2 in
+        let shaped : shape (value.Array a.below a.elements) ≡ h.sizes = sym (ap shape a.is) ∙ v.3 in
+        let long : i < length (items a.elements) = subst (λ ns. i < first_of ns) (sym shaped) less in
+        let w = element_there p m.store a.elements a.below (element p t) e i a.typed is long in
+        let changed : Value = value.Array a.below (row_of (slice_set (items a.elements) i new)) in
+        becomes_so p known m (write (place.further to (place.Element i)) new m) (write to changed m)
+        (write_further m to (place.Element i) (value.Array a.below a.elements) w.0 new changed (v.1 ∙ ap Some a.is) w.1 (ap (λ o. place.as_array a.below o) (item_set (items a.elements) i new w.0 w.1)))
+        (h.writes may m l good changed (array_with p m.store a.elements a.below t e i new (subst (λ x. HasType p m.store x t) a.is v.2) is g (k ∙ sym (ap rest_of shaped))) (same_shape p a.elements a.below i new ∙ shaped));
+  }

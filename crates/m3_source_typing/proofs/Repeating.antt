@@ -1,5 +1,5 @@
 -- Loops of sound turns are sound.
-use Rattle.std.proofs.Common.{◌≡◌, ℕ, zero, suc, ◌≤◌, ◌<◌, Bool, true, false, List, length, Option, refl, sym, ap, ◌∙◌, subst, arith}
+use Rattle.std.proofs.Common.{◌≡◌, ℕ, zero, suc, ◌≤◌, ◌<◌, Bool, true, false, List, length, refl, sym, ap, ◌∙◌, subst, arith}
 use Rattle.std.specs.Prelude.{nat_lt}
 use Rattle.std.proofs.lemmas.Bool.Decides.{nat_tests}
 use Rattle.m3_base.specs.declared.outcomes.FaultKind.TheVariants.{Overflow}
@@ -9,7 +9,7 @@ use Rattle.m3_source_meaning.specs.Meanings.{Told, Around, Now, Exits, End, Faul
 use Rattle.m3_source_meaning.specs.Loops.{repeatedly}
 use Rattle.m3_source_laws.proofs.Turns.{Takes, goes_on}
 use Rattle.m3_source_typing.specs.Stores.{IsLater}
-use Rattle.m3_source_typing.specs.Sound.{Leaving, IsDefined, IsSound, IsGood, AreSoundFor, Does}
+use Rattle.m3_source_typing.specs.Sound.{Scope, Leaving, IsDefined, IsSound, IsGood, AreSoundFor, Does}
 use Rattle.m3_source_typing.proofs.Leaving.{same_so_far, Nothing}
 
 -- the end of a course, or any other that is defined
@@ -23,7 +23,7 @@ is_less m n h = grind (arith, nat_tests)
 below : (m n : ℕ) → nat_lt m n ≡ true → m < n
 below m n h = grind (arith, nat_tests)
 
-module _ (p : Program) (own : ℕ → Option ℕ) (a : Leaving) (turn : Evaluates Bool) (takes : Takes turn) (does : (t : Store) → Does p own a t (λ u b. Unit {0}) turn) where
+module _ (p : Program) (own : Scope) (a : Leaving) (turn : Evaluates Bool) (takes : Takes turn) (does : (t : Store) → Does p own a t (λ u b. Unit {0}) turn) where
   -- what follows a turn, where it has taken an answer
   abbrev next_exits : ℕ → Around → Exits (Unit {0}) → Exits Bool
   next_exits n around exits = record {

@@ -21,7 +21,7 @@ use Rattle.m3_source_meaning.specs.Meanings.{given, seeing, ◌>>=◌}
 use Rattle.m3_source_meaning.specs.Phrases.{Expression, Operated}
 use Rattle.m3_source_meaning.specs.Operators as meaning
 use Rattle.m3_source_typing.specs.ValueTypes.{Class, OfNumbers, OfReferences, OfProcedures, OfSets, OfRecords, OfArrays, NoType, class_in, class_of, IsOfNil, IsNumberOf, HasType}
-use Rattle.m3_source_typing.specs.Sound.{Gives, IsReadable, IsOfType}
+use Rattle.m3_source_typing.specs.Sound.{Scope, Gives, IsReadable, IsOfType}
 use Rattle.m3_source_typing.specs.Operators as rule
 use Rattle.m3_source_typing.specs.Operators.{is_numbers, is_references}
 use Rattle.m3_source_typing.proofs.Staying.{and_later, type_stays}
@@ -30,11 +30,11 @@ use Rattle.m3_source_typing.proofs.Operands.{left_true, right_true, number_of}
 use Rattle.m3_source_typing.proofs.Operating.{Typed, typed_given, truth_given, identical_sound, operated_sound, prefixed_sound}
 
 -- operators in a row, from an operand of a type on to a result
-pub data TypedRow (p : Program) (own : ℕ → Option ℕ) : ℕ → List Operated → ℕ → Type 0 where
+pub data TypedRow (p : Program) (own : Scope) : ℕ → List Operated → ℕ → Type 0 where
   none : (t : ℕ) → TypedRow p own t [] t
   more : (t right kind result : ℕ) (o : Operated) (os : List Operated) → IsOfType p own o.right right → rule.operator_fits p o.operator t right kind ≡ true → TypedRow p own kind os result → TypedRow p own t (o ∷ os) result
 
-module _ (p : Program) (own : ℕ → Option ℕ) where
+module _ (p : Program) (own : Scope) where
   structures : (o : Operator) (to : Pos) (e : Expression) (kind : Option ℕ) (t r u : ℕ) (s : Store) (v w : Value) → rule.operator_fits p o t r u ≡ true → meaning.is_structural o ≡ true → Gives p own s (Typed p u) (meaning.compared_by (meaning.relation_of o) compared.Structures v w)
   structures (operator.Compare x compared.Structures) to e kind t r u s v w fits so = identical_sound p own x u s v w (right_true _ _ (left_true _ (rule.is_boolean p u) fits)) (right_true _ (rule.is_boolean p u) fits)
   structures (operator.Compare x compared.Ordinals) to e kind t r u s v w fits so = absurd (let bad : false ≡ true = so in cc)
@@ -72,7 +72,7 @@ module _ (p : Program) (own : ℕ → Option ℕ) where
 
   -- ---- conversions
 
-  ordinal_bounds : (o : Option TypeNode) → is_numbers (class_in o) ≡ true → (b : Bounds) × (bounds_in o ≡ Some b)
+  pub ordinal_bounds : (o : Option TypeNode) → is_numbers (class_in o) ≡ true → (b : Bounds) × (bounds_in o ≡ Some b)
   ordinal_bounds (Some node.Integer) h = (_, refl)
   ordinal_bounds (Some node.Boolean) h = (_, refl)
   ordinal_bounds (Some node.Character) h = (_, refl)
@@ -94,7 +94,7 @@ module _ (p : Program) (own : ℕ → Option ℕ) where
   number_class OfArrays h = absurd (let bad : false ≡ true = h in cc)
   number_class NoType h = absurd (let bad : false ≡ true = h in cc)
 
-  in_bounds : (at : Pos) (o : Option Bounds) (b : Bounds) (z : ℤ) (s : Store) → o ≡ Some b → Gives p own s (λ k u. IsNumberOf z o) (meaning.within at o z)
+  pub in_bounds : (at : Pos) (o : Option Bounds) (b : Bounds) (z : ℤ) (s : Store) → o ≡ Some b → Gives p own s (λ k u. IsNumberOf z o) (meaning.within at o z)
   in_bounds at None b z s e = absurd (let bad : None ≡ Some b = e in cc)
   in_bounds at (Some c) b z s e = bind_sound p own s (λ k u. not (is_between c.first c.last z) ≡ false) _ _ given (unless_sound p own s fault_kind.Range at (not (is_between c.first c.last z)))
       (λ u k l q. given_sound p own k _ u (λ m g. not_not _ q))
@@ -139,7 +139,7 @@ module _ (p : Program) (own : ℕ → Option ℕ) where
   reference_class NoType h = absurd (let bad : false ≡ true = h in cc)
 
   -- a reference that is of a type
-  narrowed : (s : Store) (v : Value) (t k : ℕ) → is_references (class_of p t) ≡ true → is_references (class_of p k) ≡ true → HasType p s v t → has_type p s k v ≡ Some true → HasType p s v k
+  pub narrowed : (s : Store) (v : Value) (t k : ℕ) → is_references (class_of p t) ≡ true → is_references (class_of p k) ≡ true → HasType p s v t → has_type p s k v ≡ Some true → HasType p s v k
   narrowed s value.Nil t k n m h e = subst IsOfNil (sym (reference_class (class_of p k) m)) tt
   narrowed s (value.Pointer c) t k n m h e = (reference_class (class_of p k) m, e)
   narrowed s (value.Text c) t k n m h e = (reference_class (class_of p k) m, e, h.2)
@@ -150,7 +150,7 @@ module _ (p : Program) (own : ℕ → Option ℕ) where
   narrowed s (value.Record vs) t k n m h e = absurd (wrong_class _ _ n h.0 refl)
   narrowed s (value.Array below vs) t k n m h e = absurd (wrong_class _ _ n h.0 refl)
 
-  tested : (s : Store) (v : Value) (t k : ℕ) → is_references (class_of p t) ≡ true → HasType p s v t → Gives p own s (λ u b. (has_type p u k v ≡ Some b) × HasType p u v t) (seeing (λ m. has_type p m.store k v))
+  pub tested : (s : Store) (v : Value) (t k : ℕ) → is_references (class_of p t) ≡ true → HasType p s v t → Gives p own s (λ u b. (has_type p u k v ≡ Some b) × HasType p u v t) (seeing (λ m. has_type p m.store k v))
   tested s v t k n h = seeing_sound p own s _ (λ m. has_type p m.store k v)
       (λ m l typed. let g = type_stays p s m.store l v t h in let b = tells m.store v t k n g in (b.0, b.1, (b.1, g)))
 

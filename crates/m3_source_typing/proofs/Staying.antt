@@ -1,16 +1,18 @@
 -- Values keep their types as the store goes on.
-use Rattle.std.proofs.Common.{◌≡◌, ℕ, true, List, [], ◌∷◌, Option, Some, None, refl, sym, ap, ◌∙◌}
+use Rattle.std.proofs.Common.{◌≡◌, ℕ, Bool, true, List, [], ◌∷◌, Option, Some, None, refl, sym, ap, ◌∙◌}
 use Rattle.std.specs.Option.{option_map}
 use Rattle.m3_types.specs.declared.nodes.Field.{Field}
 use Rattle.m3_values.specs.Values as value
 use Rattle.m3_values.specs.Values.{Value, Values}
 use Rattle.m3_values.specs.Programs.{Program}
 use Rattle.m3_values.specs.Types.{node_of, element, unveiled}
+use Rattle.m3_values.specs.Places.{Place}
 use Rattle.m3_values.specs.Store as store
 use Rattle.m3_values.specs.Store.{Cell, Store, cell_at, cell_has_type, has_type}
 use Rattle.m3_source_typing.specs.ValueTypes.{HasType, AreFields, AreElements, record_fields}
+use Rattle.m3_source_typing.specs.Sound.{Owned, IsPlaceOf}
 use Rattle.m3_source_typing.specs.Stores as stores
-use Rattle.m3_source_typing.specs.Stores.{Becomes, HasStill, IsLater, outline}
+use Rattle.m3_source_typing.specs.Stores.{Becomes, HasStill, IsLater}
 
 pub becomes_itself : (cell : Cell) → Becomes cell cell
 becomes_itself (store.Made kind v n) = stores.made kind v v n n refl
@@ -70,3 +72,11 @@ module _ (p : Program) where
     elements_stay s t h vs below None e = absurd e
     elements_stay s t h value.End below (Some k) e = tt
     elements_stay s t h (value.More v vs) below (Some k) e = (type_stays s t h v k e.0, e.1, elements_stay s t h vs below (Some k) e.2)
+
+  -- a place is one from every later store on
+  abbrev pub place_stays : (known : Owned) (b : Bool) (s u : Store) (to : Place) (t : ℕ) → IsLater s u → IsPlaceOf p known b s to t → IsPlaceOf p known b u to t
+  place_stays known b s u to t l h = record {
+    sizes = h.sizes;
+    reads = λ m k fair. h.reads m (and_later s u m.store l k) fair;
+    writes = λ is m k fair v g e. h.writes is m (and_later s u m.store l k) fair v g e;
+  }

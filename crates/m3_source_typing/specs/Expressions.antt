@@ -1,6 +1,6 @@
 -- WELL TYPED EXPRESSIONS: one rule for each form of the checked tree. The forms without a rule are
 -- named in docs/PROOFS.md.
-use Rattle.std.specs.Prelude.{◌≡◌, ℕ, ℤ, ◌==◌, ◌<◌, true, List, [], ◌∷◌, length, Option, Some, slice_get}
+use Rattle.std.specs.Prelude.{◌≡◌, ℕ, ℤ, ◌==◌, ◌<◌, Bool, true, false, List, [], ◌∷◌, length, Option, Some, slice_get}
 use Rattle.std.specs.Borrow.{Bor}
 use Rattle.std.specs.List.{list_any}
 use Rattle.m3_base.specs.declared.places.Pos.{Pos}
@@ -22,17 +22,18 @@ use Rattle.m3_core.specs.declared.values.ValueId.{ValueId}
 use Rattle.m3_values.specs.Values.{Value}
 use Rattle.m3_values.specs.Programs.{Program, procedure_at}
 use Rattle.m3_values.specs.Constants.{constant_at}
-use Rattle.m3_values.specs.Store.{Store}
+use Rattle.m3_values.specs.Store.{Store, is_text_type, is_thread_type, is_made_type}
 use Rattle.m3_source_meaning.specs.Phrases.{Here}
 use Rattle.m3_source_meaning.specs.Designators.{is_own}
 use Rattle.m3_source_meaning.specs.Assignment.{type_of_variable}
-use Rattle.m3_values.specs.Types.{bounds, node_of, element, type_sizes}
-use Rattle.m3_source_typing.specs.ValueTypes.{OfProcedures, OfRecords, OfArrays, HasType, class_of, member_in, record_fields, IsOfNil, IsNumberOf, IsProcedureOf}
+use Rattle.m3_values.specs.Types.{bounds, node_of, element, target_in, parent, is_object_in, unveiled, object_fields, object_field as field_of_object, is_same}
+use Rattle.m3_source_typing.specs.ValueTypes.{OfReferences, OfProcedures, OfRecords, OfArrays, HasType, HasFixedSizes, class_of, member_in, record_fields, IsOfNil, IsNumberOf, IsProcedureOf}
+use Rattle.m3_source_typing.specs.Sound.{Knows, Alias, Scope}
 use Rattle.m3_source_typing.specs.Operators.{is_ordinal, is_boolean, is_text_in, is_part, is_references, prefixes_fit, operator_fits}
 
--- what a chain gives up to a step: a place of a variable of a type, or a value of one
+-- what a chain gives up to a step: a place of a type, which is a variable or not, or a value of one
 pub data Given : Type 0 where
-  PlaceOf : ℕ → Given
+  PlaceOf : (is_variable : Bool) → ℕ → Given
   ValueOf : ℕ → Given
 
 -- the places of the fields that have values, each once
@@ -41,8 +42,27 @@ HasEachField fields ns =
     (length ns ≡ length fields)
     × ((n : ℕ) → n < length fields → list_any (λ m. m == n) ns ≡ true)
 
+-- what has subtypes by declaration is an object type
+abbrev pub ParentsAreObjects : Program → Type 0
+ParentsAreObjects p = (t u : ℕ) → parent p t ≡ Some u → is_object_in (node_of p u) ≡ true
+
+-- the cells of an object type have a field of a type at a place
+pub record HasField (p : Program) (kind n u : ℕ) : Type 0 where
+  pub object : is_object_in (node_of p kind) ≡ true
+  pub field : Field
+  pub there : slice_get (object_fields p kind) n ≡ Some field
+  pub same : is_same p field.kind.0 u ≡ true
+
+-- Each cell that is a value of a reference type has such a field: so none of them is a text or a
+-- thread.
+pub record HaveField (p : Program) (t n u : ℕ) : Type 0 where
+  pub no_text : is_text_type p (node_of p (unveiled p t)) ≡ false
+  pub no_thread : is_thread_type p (node_of p (unveiled p t)) ≡ false
+  pub each : (kind : ℕ)
+      → is_made_type p kind (unveiled p t) (node_of p (unveiled p t)) ≡ true → HasField p kind n u
+
 -- in an activation of whose own variables these are made, and have these types
-module _ (p : Program) (here : Here) (own : ℕ → Option ℕ) where
+module _ (p : Program) (here : Here) (own : Scope) where
   mutual
     -- THE EXPRESSION IS WELL TYPED, and of this type
     pub data IsExpression : CoreExpr → ℕ → Type 0 where
@@ -98,6 +118,9 @@ module _ (p : Program) (here : Here) (own : ℕ → Option ℕ) where
       -- a number of a type is one of each type that has all numbers of that one
       widened : (e : CoreExpr) (t wider : ℕ) → IsExpression e t → is_ordinal p t ≡ true
           → is_ordinal p wider ≡ true → is_part p t wider ≡ true → IsExpression e wider
+      -- and a value of a type is one of each type that is the same
+      same : (e : CoreExpr) (t other : ℕ) → IsExpression e t → is_same p t other ≡ true
+          → IsExpression e other
 
     -- operators in a row with their right operands, from a left operand of a type to a result
     pub data IsRow : ℕ → List Operation → ℕ → Type 0 where
@@ -134,10 +157,16 @@ module _ (p : Program) (here : Here) (own : ℕ → Option ℕ) where
     -- what a chain begins with
     pub data IsBase : Base → Given → Type 0 where
       global : (x : ℕ) (kind : TypeId) (v : VarDef) → slice_get p.globals x ≡ Some v
-          → IsBase (roll-Base (layer.Global x kind)) (PlaceOf (type_of_variable v.kind))
+          → HasFixedSizes p (type_of_variable v.kind)
+          → IsBase (roll-Base (layer.Global x kind)) (PlaceOf true (type_of_variable v.kind))
       -- a variable of the activation that is made and that nobody else can reach
       own_variable : (level x : ℕ) (kind : TypeId) (t : ℕ) → is_own p here level x ≡ true
-          → own x ≡ Some t → IsBase (roll-Base (layer.Local level x kind)) (PlaceOf t)
+          → own.holds.kind x ≡ Some t → HasFixedSizes p t
+          → IsBase (roll-Base (layer.Local level x kind)) (PlaceOf true t)
+      -- a name that stands for a place
+      own_name : (level x : ℕ) (kind : TypeId) (a : Alias) → is_own p here level x ≡ true
+          → own.names x ≡ Some a → Knows a.known own.holds
+          → IsBase (roll-Base (layer.Alias level x kind)) (PlaceOf a.is_variable a.kind)
       inner : (c : Bor Chain) (g : Given) → IsChain c.now g
           → IsBase (roll-Base (layer.Inner c)) g
       value : (e : Bor CoreExpr) (t : ℕ) → IsExpression e.now t
@@ -149,15 +178,27 @@ module _ (p : Program) (here : Here) (own : ℕ → Option ℕ) where
           → AreSteps g (s ∷ row) k
 
     pub data IsStep : Given → Step → Given → Type 0 where
-      read : (kind : TypeId) (t : ℕ)
-          → IsStep (PlaceOf t) (roll-Step (layer.Read kind)) (ValueOf t)
+      read : (kind : TypeId) (is_variable : Bool) (t : ℕ)
+          → IsStep (PlaceOf is_variable t) (roll-Step (layer.Read kind)) (ValueOf t)
       keep : (kind : TypeId) (t : ℕ)
-          → IsStep (ValueOf t) (roll-Step (layer.Keep kind)) (PlaceOf t)
-      field : (n : ℕ) (kind : TypeId) (t : ℕ) (f : Field) → class_of p t ≡ OfRecords
-          → slice_get (record_fields (node_of p t)) n ≡ Some f
-          → IsStep (PlaceOf t) (roll-Step (layer.Field n kind)) (PlaceOf f.kind.0)
-      -- an element of an array whose type says how many there are
-      fixed_element : (index : Bor CoreExpr) (kind : TypeId) (t e i size : ℕ)
-          (below : List (Option ℕ)) → class_of p t ≡ OfArrays → element p t ≡ Some e
-          → type_sizes p t ≡ Some size ∷ below → IsExpression index.now i → is_ordinal p i ≡ true
-          → IsStep (PlaceOf t) (roll-Step (layer.Element index kind)) (PlaceOf e)
+          → IsStep (ValueOf t) (roll-Step (layer.Keep kind)) (PlaceOf false t)
+      -- a field of a record is a variable where the record is, and so is an element of an array
+      field : (n : ℕ) (kind : TypeId) (is_variable : Bool) (t : ℕ) (f : Field)
+          → class_of p t ≡ OfRecords → slice_get (record_fields (node_of p t)) n ≡ Some f
+          → HasFixedSizes p f.kind.0
+          → IsStep (PlaceOf is_variable t) (roll-Step (layer.Field n kind))
+          (PlaceOf is_variable f.kind.0)
+      -- the referent of a reference: NIL is a fault
+      dereference : (kind : TypeId) (t target : ℕ) → target_in (node_of p t) ≡ Some target
+          → ParentsAreObjects p
+          → IsStep (ValueOf t) (roll-Step (layer.Dereference kind)) (PlaceOf true target)
+      -- a field of an object: NIL is a fault
+      object_field : (owner : TypeId) (n : ℕ) (kind : TypeId) (t u : ℕ)
+          → class_of p t ≡ OfReferences → HaveField p t (field_of_object p owner.0 n) u
+          → HasFixedSizes p u
+          → IsStep (ValueOf t) (roll-Step (layer.ObjectField owner n kind)) (PlaceOf true u)
+      element_of : (index : Bor CoreExpr) (kind : TypeId) (is_variable : Bool) (t e i : ℕ)
+          → class_of p t ≡ OfArrays → element p t ≡ Some e → IsExpression index.now i
+          → is_ordinal p i ≡ true
+          → IsStep (PlaceOf is_variable t) (roll-Step (layer.Element index kind))
+          (PlaceOf is_variable e)

@@ -1,16 +1,40 @@
 -- WHAT IS WELL TYPED IS DEFINED: what this says of a phrase.
-use Rattle.std.specs.Prelude.{◌≡◌, ℕ, Bool, true, List, ◌∷◌, ◌++◌, Option, Some, None}
+use Rattle.std.specs.Prelude.{◌≡◌, ◌≤◌, ℕ, Bool, true, List, ◌∷◌, ◌++◌, length, Option, Some, None}
 use Rattle.m3_runs.specs.Languages.{Action}
 use Rattle.m3_values.specs.Values.{Value}
 use Rattle.m3_values.specs.Programs.{Program}
-use Rattle.m3_values.specs.Places.{Thing, Is}
-use Rattle.m3_values.specs.Store.{Store, Memory, thing_in, value_now}
+use Rattle.m3_values.specs.Arrays.{shape}
+use Rattle.m3_values.specs.Places.{Place, Thing, Is, At}
+use Rattle.m3_values.specs.Store.{Store, Memory, thing_in, read, write, value_now}
 use Rattle.m3_source_meaning.specs.Meanings.{Told, Raised, Around, Standing, Now, Exits, End, Waits, Left, Faulted, Undefined, Evaluates}
 use Rattle.m3_source_meaning.specs.Phrases.{Expression}
 use Rattle.m3_source_meaning.specs.Travelling.{argument_type}
 use Rattle.m3_source_typing.specs.ValueTypes.{HasType}
 use Rattle.m3_source_typing.specs.Stores.{IsLater, IsTyped}
 use Rattle.m3_source_typing.specs.Points.{Fits, IsArgument}
+
+-- The own variables of an activation that hold values: how many variables its procedure declares,
+-- and which of them are known to be made, with their types.
+pub record Owned : Type 0 where
+  pub count : ℕ
+  pub kind : ℕ → Option ℕ
+
+-- all that is known in the first is known in the second
+pub record Knows (known own : Owned) : Type 0 where
+  pub count : known.count ≤ own.count
+  pub kinds : (x t : ℕ) → known.kind x ≡ Some t → own.kind x ≡ Some t
+
+-- a name that stands for a place of a type, which is a variable or not, and the variables that were
+-- known where it was bound
+pub record Alias : Type 0 where
+  pub known : Owned
+  pub is_variable : Bool
+  pub kind : ℕ
+
+-- what is known of an activation at a place of its procedure
+pub record Scope : Type 0 where
+  pub holds : Owned
+  pub names : ℕ → Option Alias
 
 -- how statements may be left beside their end and exceptions: by EXIT, where they stand in a loop,
 -- and by RETURN, with a value of the type of a result where there is one
@@ -43,12 +67,45 @@ module _ (p : Program) where
     pub is : thing_in m.own x ≡ Some (Is value)
     pub typed : HasType p m.store value t
 
-module _ (p : Program) (own : ℕ → Option ℕ) where
-  -- Memory is well typed: the store is, and the own variables of the activation that are known to
-  -- be made hold values of their types.
-  pub record IsGood (m : Memory) : Type 0 where
+  -- The store is well typed, and the own variables of the activation that are known to be made hold
+  -- values of their types. There is room for the others.
+  pub record IsFair (own : Owned) (m : Memory) : Type 0 where
     pub store : IsTyped p None m.store
-    pub variables : (x t : ℕ) → own x ≡ Some t → HasOwn p m x t
+    pub room : own.count ≤ length m.own
+    pub variables : (x t : ℕ) → own.kind x ≡ Some t → HasOwn m x t
+
+  -- Memory becomes another one, in which all variables that were known before hold values of their
+  -- types still, and names stand for the same places.
+  pub record Becomes (known : Owned) (m : Memory) (o : Option Memory) : Type 0 where
+    pub after : Memory
+    pub is : o ≡ Some after
+    pub later : IsLater m.store after.store
+    pub fair : (own : Owned) → Knows known own → IsFair own m → IsFair own after
+    pub names : (x : ℕ) (place : Place) → thing_in m.own x ≡ Some (At place)
+        → thing_in after.own x ≡ Some (At place)
+
+  -- From a store on the place holds values of a type, which have one shape, wherever these own
+  -- variables hold values of their types; and values of the type that have that shape may be written
+  -- to it, where it is a variable.
+  pub record IsPlaceOf (known : Owned) (is_variable : Bool) (s : Store) (to : Place) (t : ℕ)
+      : Type 0 where
+    pub sizes : List ℕ
+    pub reads : (m : Memory) → IsLater s m.store → IsFair known m
+        → (v : Value) × (read m to ≡ Some v) × HasType p m.store v t × (shape v ≡ sizes)
+    pub writes : is_variable ≡ true → (m : Memory) → IsLater s m.store → IsFair known m
+        → (v : Value) → HasType p m.store v t → shape v ≡ sizes → Becomes known m (write to v m)
+
+  -- what a name stands for
+  pub record HasName (m : Memory) (x : ℕ) (a : Alias) : Type 0 where
+    pub place : Place
+    pub is : thing_in m.own x ≡ Some (At place)
+    pub leads : IsPlaceOf a.known a.is_variable m.store place a.kind
+
+module _ (p : Program) (own : Scope) where
+  -- MEMORY IS WELL TYPED: the store and the own variables are, and the names stand for such places.
+  pub record IsGood (m : Memory) : Type 0 where
+    pub fair : IsFair p own.holds m
+    pub names : (x : ℕ) (a : Alias) → own.names x ≡ Some a → HasName p m x a
 
   -- what follows a phrase that gives such things is sound, in every later well typed store
   pub record AreSound {A : Type 0} (s : Store) (P : Store → A → Type 0) (exits : Exits A)

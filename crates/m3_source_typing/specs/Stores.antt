@@ -3,31 +3,20 @@ use Rattle.std.specs.Prelude.{◌≡◌, ℕ, Bool, List, [], ◌∷◌, Option,
 use Rattle.m3_core.specs.declared.program.VarDef.{VarDef}
 use Rattle.m3_types.specs.declared.nodes.TypeNode.{TypeNode}
 use Rattle.m3_types.specs.declared.nodes.TypeNode.TheVariants as node
-use Rattle.m3_values.specs.Values.{Value, Values, End, More, Nil, Record, Array}
+use Rattle.m3_values.specs.Values.{Value, Record}
+use Rattle.m3_values.specs.Arrays.{shape}
 use Rattle.m3_values.specs.Programs.{Program}
 use Rattle.m3_values.specs.Types.{node_of, object_fields}
 use Rattle.m3_values.specs.Store.{Cell, Made, Bytes, Forked, Store, cell_at}
 use Rattle.m3_source_meaning.specs.Assignment.{type_of_variable}
 use Rattle.m3_source_typing.specs.ValueTypes.{HasType, AreFields}
 
--- The outline of a value: NIL for each part that has no parts. It is all of a variable that no
--- write changes: fields stay fields, and an array keeps its sizes.
-abbrev mutual
-  pub outline : Value → Value
-  outline (Record vs) = Record (outlines vs)
-  outline (Array below vs) = Array below (outlines vs)
-  outline v = Nil
-
-  pub outlines : Values → Values
-  outlines End = End
-  outlines (More v vs) = More (outline v) (outlines vs)
-
 -- ---- what stays
 
--- what a cell may become: it keeps its type and its outline, a text its bytes, and the cell of a
--- thread its number
+-- what a cell may become: it keeps its type and the shape of what it holds, a text its bytes, and the
+-- cell of a thread its number
 pub data Becomes : Cell → Cell → Type 0 where
-  made : (kind : ℕ) (v u : Value) (m n : ℕ) → outline v ≡ outline u
+  made : (kind : ℕ) (v u : Value) (m n : ℕ) → shape v ≡ shape u
       → Becomes (Made kind v m) (Made kind u n)
   text : (bytes : List ℕ) → Becomes (Bytes bytes) (Bytes bytes)
   thread : (number : ℕ) (v u : Option Value) (a b : Bool)

@@ -1,5 +1,5 @@
 -- THE VALUES OF A TYPE, in a store: what a variable of the type may hold.
-use Rattle.std.specs.Prelude.{◌≡◌, ℕ, ℤ, ◌&&◌, ◌<◌, Bool, true, false, List, [], ◌∷◌, length, Option, Some, None}
+use Rattle.std.specs.Prelude.{◌≡◌, ℕ, ℤ, ◌&&◌, ◌==◌, ◌<◌, Bool, true, false, List, [], ◌∷◌, length, map, Option, Some, None}
 use Rattle.std.specs.Option.{option_map, option_and_then}
 use Rattle.m3_core.specs.declared.program.ProcDef.{ProcDef}
 use Rattle.m3_types.specs.declared.nodes.Field.{Field}
@@ -13,7 +13,7 @@ use Rattle.m3_values.specs.Values.{Value, Values, End, More, Ordinal, Nil, Point
 use Rattle.m3_values.specs.Integers.{is_between}
 use Rattle.m3_values.specs.Programs.{Program, procedure_at}
 use Rattle.m3_values.specs.Types.{Bounds, bounds, node_of, element, formals_in, is_same, type_sizes}
-use Rattle.m3_values.specs.Arrays.{shape, fits}
+use Rattle.m3_values.specs.Arrays.{shape}
 use Rattle.m3_values.specs.Store.{Store, has_type}
 
 -- ---- what a type is of
@@ -80,12 +80,26 @@ abbrev pub AreMembersOf : List ℤ → Option Bounds → Type 0
 AreMembersOf [] b = Unit {0}
 AreMembersOf (m ∷ ms) b = IsNumberOf m b × AreMembersOf ms b
 
+-- ---- arrays
+
+-- a shape has so many dimensions, and the sizes that are said of them
+abbrev pub has_sizes : List (Option ℕ) → List ℕ → Bool
+has_sizes [] [] = true
+has_sizes (None ∷ wanted) (n ∷ sizes) = has_sizes wanted sizes
+has_sizes (Some size ∷ wanted) (n ∷ sizes) = (size == n) && has_sizes wanted sizes
+has_sizes _ _ = false
+
 module _ (p : Program) where
   abbrev pub class_of : ℕ → Class
   class_of t = class_in (node_of p t)
 
   abbrev pub member_bounds : ℕ → Option Bounds
   member_bounds t = option_and_then (bounds p) (member_in (node_of p t))
+
+  -- the type says the size of each dimension, as that of every variable does
+  pub record HasFixedSizes (t : ℕ) : Type 0 where
+    pub sizes : List ℕ
+    pub are : type_sizes p t ≡ map Some sizes
 
   -- ---- procedures
 
@@ -133,7 +147,7 @@ module _ (p : Program) where
         (class_of t ≡ OfRecords) × AreFields s vs (record_fields (node_of p t))
     HasType s (Array below vs) t =
         (class_of t ≡ OfArrays) × AreElements s vs below (element p t)
-        × (fits (type_sizes p t) (shape (Array below vs)) ≡ true)
+        × (has_sizes (type_sizes p t) (shape (Array below vs)) ≡ true)
 
     -- each field of a record has a value of its type
     pub AreFields : Store → Values → List Field → Type 0

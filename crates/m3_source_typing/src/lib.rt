@@ -2,11 +2,16 @@
 //! defined: no course of one comes to what has no meaning, whatever answers it is told that fit.
 #![tactic(auto)]
 
-ghost use Rattle.m3_source_typing.specs.Laws.{TypesStay, ExpressionsAreSound, BodiesAreSound};
+ghost use Rattle.m3_source_typing.specs.Laws.{TypesStay, SameTypesShareValues, ExpressionsAreSound, BodiesAreSound};
 
 /// A value keeps its type, however the store goes on.
 pub fn types_stay()
     ensures { TypesStay }
+{}
+
+/// Types that are the same have the same values.
+pub fn same_types_share_values()
+    ensures { SameTypesShareValues }
 {}
 
 /// The meaning of a well typed expression is defined in each activation and gives values of its

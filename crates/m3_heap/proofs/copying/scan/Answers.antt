@@ -1,7 +1,7 @@
-use Rattle.std.proofs.Common.{◌≡◌, ◌+◌, ℕ, sym, ap, subst, ◌∙◌, arith}
+use Rattle.std.proofs.Common.{◌≡◌, ◌+◌, ℕ, subst, arith}
 use Rattle.m3_heap.specs.Cells.{total_words}
-use Rattle.m3_heap.specs.CollectorScanning.{Scans, IsBoundary, met}
-use Rattle.m3_heap.proofs.TraceLemmas.{grows-none, grows-on, boundary-start, boundary-end, bad-before}
+use Rattle.m3_heap.specs.CollectorScanning.{Scans, met}
+use Rattle.m3_heap.proofs.TraceLemmas.{grows-none, grows-on, boundary-end, bad-before}
 use Rattle.m3_heap.proofs.WordLemmas.{kept-total}
 use Rattle.m3_heap.proofs.copying.scan.Goals as goal
 

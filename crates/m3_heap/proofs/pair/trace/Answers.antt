@@ -2,9 +2,8 @@ use Rattle.std.specs.Bool.{OnTrue}
 use Rattle.std.proofs.Common.{◌≡◌, ◌+◌, ℕ, Bool, true, false, sym, ap, subst, ◌∙◌, arith}
 use Rattle.m3_heap.specs.Cells.{total_words}
 use Rattle.m3_heap.specs.Moves.{kept_starts}
-use Rattle.m3_heap.specs.Reach.{HasBadPointer}
 use Rattle.m3_heap.specs.CollectorScanning.{Scans, IsBoundary, met}
-use Rattle.m3_heap.specs.CollectorTracing.{old_cells, moves}
+use Rattle.m3_heap.specs.CollectorTracing.{moves}
 use Rattle.m3_heap.proofs.TraceLemmas.{first-boundary, scans-none, met-none, visited-reached, when-true, when-false}
 use Rattle.m3_heap.proofs.pair.trace.Given as given
 use Rattle.m3_heap.proofs.pair.trace.Goals as goal

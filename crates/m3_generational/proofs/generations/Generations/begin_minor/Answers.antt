@@ -1,4 +1,5 @@
 use Rattle.std.proofs.Common.{◌≡◌, Bool, true, false, refl, sym, ap, ◌∙◌, ◌++◌}
+use Rattle.std.proofs.lemmas.Bool.{false≢true}
 use Rattle.m3_heap.specs.Moves.{staying}
 use Rattle.m3_heap.specs.Heap.{Heap, is_minor, old_starts}
 use Rattle.m3_generational.specs.Remembering.{Remembering}
@@ -34,7 +35,7 @@ returns-clause-opened c =
     ∙ ap (λ (v : Remembering). record v.heap { is_open = true; moves = staying v.heap.tenured }) c.self.view_is
 
 pub invariant_of-self : goal.invariant_of-self
-invariant_of-self c = record { placed = (begins c).0.keeping.placed; marks = c.self.invariant.marks; as_open = (begins c).0; mode = λ _. ap (λ (h : Heap). is_minor h) (returns-clause-opened c) ∙ c.requires.minor }
+invariant_of-self c = record { placed = (begins c).0.keeping.placed; marks = c.self.invariant.marks; as_open = (begins c).0; beyond = λ shut. absurd (false≢true (sym shut)); mode = λ _. ap (λ (h : Heap). is_minor h) (returns-clause-opened c) ∙ c.requires.minor }
 
 pub returns-clause-sound : goal.returns-clause-sound
 returns-clause-sound c = let i = c.self.inside in open-sound (after c) i.left.value i.remembered i.asked i.minors i.fulls (begins c).0

@@ -26,16 +26,17 @@ invariant_of-self-2 g c =
     let s = exchanged c.trace_full-is_traced.new.spaces c.swap.new.x c.swap.new.y c.clear-2.new.self in
     record {
       placed = e.placed;
-      marks = c.clear-3.ensures.length ∙ c.self.invariant.marks ∙ sym (end-size (g.M.Maps.shapes c.args.maps.now) c.self.inside c.args.self.now c.trace_full-is_traced.new.spaces s c.of.result.value e);
+      marks = c.clear.ensures.length ∙ c.self.invariant.marks ∙ sym (end-size (g.M.Maps.shapes c.args.maps.now) c.self.inside c.args.self.now c.trace_full-is_traced.new.spaces s c.of.result.value e);
       as_open = end-resting (g.M.Maps.shapes c.args.maps.now) c.self.inside c.args.self.now c.trace_full-is_traced.new.spaces s c.of.result.value e;
+      beyond = λ _ place _. c.clear.ensures.clear place;
       mode = λ opened. absurd (false≢true opened);
     }
 
 pub returns-clause-done : goal.returns-clause-done
 returns-clause-done g c =
-    full-finishes (g.M.Maps.shapes c.args.maps.now) c.self.inside c.args.self.now c.trace_full-is_traced.new.spaces c.swap.new.x c.swap.new.y c.clear-2.new.self c.of.result.value c.clear-3.new.self c.one_more-self-inside.result c.args.steps.now c.trace_full-is_traced.new.steps (ends g c) c.one_more-self-inside.ensures c.clear-3.ensures.clear c.if-not-is_traced.ensures.cost
+    full-finishes (g.M.Maps.shapes c.args.maps.now) c.self.inside c.args.self.now c.trace_full-is_traced.new.spaces c.swap.new.x c.swap.new.y c.clear-2.new.self c.of.result.value c.clear.new.self c.one_more-self-inside.result c.args.steps.now c.trace_full-is_traced.new.steps (ends g c) c.one_more-self-inside.ensures c.clear.ensures.clear c.if-not-is_traced.ensures.cost
 
 pub returns-clause-sound : goal.returns-clause-sound
 returns-clause-sound g c =
     let s = exchanged c.trace_full-is_traced.new.spaces c.swap.new.x c.swap.new.y c.clear-2.new.self in
-    end-sound (g.M.Maps.shapes c.args.maps.now) c.self.inside c.args.self.now c.trace_full-is_traced.new.spaces s c.of.result.value c.clear-3.new.self 0 c.self.inside.minors c.one_more-self-inside.result (full-end (g.M.Maps.shapes c.args.maps.now) c.self.inside c.args.self.now c.trace_full-is_traced.new.spaces c.swap.new.x c.swap.new.y c.clear-2.new.self c.of.result.value (ends g c))
+    end-sound (g.M.Maps.shapes c.args.maps.now) c.self.inside c.args.self.now c.trace_full-is_traced.new.spaces s c.of.result.value c.clear.new.self 0 c.self.inside.minors c.one_more-self-inside.result (full-end (g.M.Maps.shapes c.args.maps.now) c.self.inside c.args.self.now c.trace_full-is_traced.new.spaces c.swap.new.x c.swap.new.y c.clear-2.new.self c.of.result.value (ends g c))

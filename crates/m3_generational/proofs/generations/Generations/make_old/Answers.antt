@@ -7,6 +7,7 @@ use Rattle.m3_generational.specs.Collecting.{ArePlaced}
 use Rattle.m3_generational.specs.declared.spaces.Spaces.{Spaces}
 use Rattle.std.proofs.lemmas.Bool.{false≢true}
 use Rattle.m3_generational.proofs.HeapLemmas.{is-closed, resting, SamePlaces, still-placed, made-old, room-left, rest-old, closed-sound}
+use Rattle.m3_heap.proofs.TracingLemmas.{total-append}
 use Rattle.m3_generational.proofs.FitLemmas.{fits-told, fits-again, fits-push}
 use Rattle.m3_generational.proofs.generations.Generations.make_old.Goals as goal
 
@@ -55,16 +56,19 @@ rested c =
     let i = c.self.inside in
     rest-old c.self.inside.spaces (after c) c.args.kind c.args.words c.append_zeroed.result (rests c) (same c) (omega arith) c.requires.some (all-room c) c.append_zeroed.ensures.start refl (cells c)
 
+longer : (c : goal.After-append_zeroed) → total_words c.self.inside.spaces.here.cells ≤ total_words c.append_zeroed.new.self.cells
+longer c = let total = ap total_words (cells c) ∙ total-append c.self.inside.spaces.here.cells (new_cell c.append_zeroed.result c.args.kind c.args.words ∷ []) in omega (arith, total)
+
 pub invariant_of-self : goal.invariant_of-self
 invariant_of-self c =
     let P : Bool → Type 0 = λ b. IsAsOpen b (after c) in
-    record { placed = placed c; marks = c.self.invariant.marks ∙ sym c.append_zeroed.ensures.size; as_open = subst P (sym (closed c)) (rested c); mode = λ opened. absurd (false≢true (sym (closed c) ∙ opened)) }
+    record { placed = placed c; marks = c.self.invariant.marks ∙ sym c.append_zeroed.ensures.size; as_open = subst P (sym (closed c)) (rested c); beyond = λ _ place past. c.self.invariant.beyond (closed c) place (omega (arith, past, longer c)); mode = λ opened. absurd (false≢true (sym (closed c) ∙ opened)) }
 
 pub returns-clause-allots : goal.returns-clause-allots
 returns-clause-allots c =
     let i = c.self.inside in
     subst (λ (v : Remembering). Allots v.heap c.args.kind c.args.words (Some c.append_zeroed.result) (heap_seen i.is_open (after c) i.left.value i.remembered i.asked i.minors i.fulls)) c.self.view_is
-    (made-old i.is_open i.spaces (after c) i.left.value i.remembered i.asked i.minors i.fulls c.args.kind c.args.words c.append_zeroed.result (closed c) (rests c) (same c) c.requires.some (room c) (large c) c.append_zeroed.ensures.start refl (cells c))
+    (made-old i.is_open i.spaces (after c) i.left.value i.remembered i.asked i.minors i.fulls c.args.kind c.args.words c.append_zeroed.result (closed c) (rests c) (c.self.invariant.beyond (closed c)) (same c) c.requires.some (room c) (large c) c.append_zeroed.ensures.start refl (cells c))
 
 pub returns-clause-fitting : goal.returns-clause-fitting
 returns-clause-fitting c = λ shapes was.

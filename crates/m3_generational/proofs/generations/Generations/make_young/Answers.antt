@@ -50,7 +50,7 @@ rested c =
 pub invariant_of-self : goal.invariant_of-self
 invariant_of-self c =
     let P : Bool → Type 0 = λ b. IsAsOpen b (after c) in
-    record { placed = placed c; marks = c.self.invariant.marks; as_open = subst P (sym (closed c)) (rested c); mode = λ opened. absurd (false≢true (sym (closed c) ∙ opened)) }
+    record { placed = placed c; marks = c.self.invariant.marks; as_open = subst P (sym (closed c)) (rested c); beyond = c.self.invariant.beyond; mode = λ opened. absurd (false≢true (sym (closed c) ∙ opened)) }
 
 pub returns-clause-allots : goal.returns-clause-allots
 returns-clause-allots c =

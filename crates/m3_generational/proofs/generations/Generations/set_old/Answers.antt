@@ -1,7 +1,7 @@
-use Rattle.std.proofs.Common.{◌≡◌, Bool, List, true, false, refl, sym, subst, ◌∙◌, arith, length, length-set, ap, set, ◌-◌}
+use Rattle.std.proofs.Common.{◌≡◌, Bool, List, true, false, refl, sym, subst, ◌∙◌, arith, length, get_or, length-set, get_or-set_other, ap, set, ◌-◌}
 use Rattle.m3_generational.specs.Inside.{IsAsOpen}
 use Rattle.std.proofs.lemmas.Bool.{false≢true}
-use Rattle.m3_generational.proofs.HeapLemmas.{IsPut, with_here, put-closed, put-placed, put-rested, put-value, put-cells, put-rest, put-sound, put-inside}
+use Rattle.m3_generational.proofs.HeapLemmas.{IsPut, with_here, put-closed, put-placed, put-rested, put-value, put-cells, put-rest, put-sound, put-among, put-inside, put-total}
 use Rattle.m3_generational.proofs.FitLemmas.{put-off, put-on}
 use Rattle.m3_generational.proofs.generations.Generations.set_old.Goals as goal
 
@@ -76,6 +76,12 @@ invariant_of-self-2 c =
       placed = put-placed i c.args.self.now c.replace.new.self c.args.at c.args.word true (on-set c);
       marks = ap (λ (l : List Bool). length l) (marked c) ∙ length-set i.remembered (c.args.at - i.spaces.here.base) true ∙ c.self.invariant.marks ∙ sym c.replace.ensures.size;
       as_open = subst P (sym (put-closed i c.args.self.now c.replace.new.self c.args.at c.args.word true (on-set c))) (put-rested i c.args.self.now c.replace.new.self c.args.at c.args.word true (on-set c));
+      beyond = λ _ place past.
+          let inside = put-among i c.args.self.now c.replace.new.self c.args.at c.args.word true (on-set c) refl in
+          let total = put-total i c.args.self.now c.replace.new.self c.args.at c.args.word true (on-set c) in
+          ap (λ (l : List Bool). get_or l place false) (marked c)
+          ∙ get_or-set_other i.remembered (c.args.at - i.spaces.here.base) place true false (λ same. omega (arith, same, inside.0, inside.1, total, past))
+          ∙ c.self.invariant.beyond (put-closed i c.args.self.now c.replace.new.self c.args.at c.args.word true (on-set c)) place (omega (arith, total, past));
       mode = λ opened. absurd (false≢true (sym (put-closed i c.args.self.now c.replace.new.self c.args.at c.args.word true (on-set c)) ∙ opened));
     }
 

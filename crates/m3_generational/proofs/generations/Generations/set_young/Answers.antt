@@ -41,7 +41,7 @@ told c =
 pub invariant_of-self : goal.invariant_of-self
 invariant_of-self c =
     let P : Bool → Type 0 = λ b. IsAsOpen b (after c) in
-    record { placed = placed c; marks = c.self.invariant.marks; as_open = subst P (sym (closed c)) (rested c); mode = λ opened. absurd (false≢true (sym (closed c) ∙ opened)) }
+    record { placed = placed c; marks = c.self.invariant.marks; as_open = subst P (sym (closed c)) (rested c); beyond = c.self.invariant.beyond; mode = λ opened. absurd (false≢true (sym (closed c) ∙ opened)) }
 
 pub returns-clause-value : goal.returns-clause-value
 returns-clause-value c = subst (λ (v : Remembering). c.replace.result ≡ is_writable v.heap.cells c.args.at) c.self.view_is (told c).0

@@ -1,4 +1,5 @@
 use Rattle.std.proofs.Common.{Bool, sym, subst, ap, ◌∙◌, arith}
+use Rattle.std.proofs.lemmas.Bool.{false≢true}
 use Rattle.m3_generational.specs.Inside.{IsAsOpen}
 use Rattle.m3_generational.proofs.VisitLemmas.{IsVisit, collecting, visit-open, visit-collecting, visit-mode, visit-sizes, visit-none, visit-value, visit-kept, visit-refused, visit-cost, visit-sound}
 use Rattle.m3_generational.specs.Remembering.{Remembering}
@@ -22,6 +23,7 @@ invariant_of-self g c =
       placed = then.keeping.placed;
       marks = c.self.invariant.marks ∙ sym (visit-sizes c.self.inside c.args.self.now c.forward_word.new.spaces c.args.word c.forward_word.result c.tick.new.self c.forward_word.new.steps (visit g c));
       as_open = subst P (sym (visit-open c.self.inside c.args.self.now c.forward_word.new.spaces c.args.word c.forward_word.result c.tick.new.self c.forward_word.new.steps (visit g c))) then;
+      beyond = λ shut. absurd (false≢true (sym shut ∙ visit-open c.self.inside c.args.self.now c.forward_word.new.spaces c.args.word c.forward_word.result c.tick.new.self c.forward_word.new.steps (visit g c)));
       mode = λ _. visit-mode c.self.inside c.args.self.now c.forward_word.new.spaces c.args.word c.forward_word.result c.tick.new.self c.forward_word.new.steps (visit g c);
     }
 
