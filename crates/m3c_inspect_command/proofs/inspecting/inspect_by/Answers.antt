@@ -1,6 +1,7 @@
 use Rattle.std.proofs.Common.{Bool, ap, refl, sym, ◌∙◌, subst}
 use Rattle.m3_generational.specs.First.{first_heap}
 use Rattle.m3c_image_commands.specs.Reports.{counted, ending}
+use Rattle.m3c_image_commands.specs.Statuses.{putting}
 use Rattle.m3_base.specs.declared.outcomes.Outcome.{Outcome}
 use Rattle.m3_image.specs.Views.{image_view}
 use Rattle.m3_run_state.specs.Seen.{state_of, program_of}
@@ -24,7 +25,7 @@ returns-then-is_spent g c =
     let spent = spent_if c.in-Ok-run.outcome (sym c.is_spent.ensures ∙ c.if-is_spent.true) in
     let stops = stops_of i setting (program_of m) m.input.now _ (state_of m) to c.in-Ok-run.outcome ran.0 made.program made.input (c.in-Ok-make.ensures ∙ young) made.begins ran.2 in
     points_used i setting c.args.run.tells_collections _ to c.show.result (subst (λ (o : Outcome). Stops i setting to o) spent stops)
-    (subst (λ (y : Bool). Shows i y c.args.run.tells_collections to _ c.show.result) (sym c.requires.heap) c.show.ensures)
+    (subst (λ (y : Bool). Shows i y c.args.run.tells_collections to (putting g.O.Sink c.args.out.now c.show.new.out) c.show.result) (sym c.requires.heap) c.show.ensures)
 
 pub returns : goal.returns
 returns g c =
