@@ -1,17 +1,19 @@
 -- WHAT A RUN IS GIVEN, on the machine and in the source: the room that it may take, which the source
 -- knows nothing of, and its limits, schedule and input.
-use Rattle.std.specs.Prelude.{ℕ, ◌≡◌, ◌≤◌, List, map, Option}
+use Rattle.std.specs.Prelude.{ℕ, ◌≡◌, ◌≤◌, Bool, List, map, Option}
 use Rattle.m3_base.specs.declared.outcomes.Entry.{Entry}
-use Rattle.m3_heap.specs.Semi.{new_heap}
+use Rattle.m3_generational.specs.First.{first_heap}
 use Rattle.m3_image_sections.specs.Parts.{Program}
 use Rattle.m3_run_meaning.specs.State.{State}
 use Rattle.m3_run_meaning.specs.Runs.{Begins, Config, Runs, state_at}
 use Rattle.m3_runs.specs.States.{Given}
 
--- words of one half of the heap and of each stack; the threads that may not have ended at once, the
--- points that may be passed, the schedule, and the bytes of the input
+-- words of one half of the heap, whether it is one of generations, and words of each stack; the
+-- threads that may not have ended at once, the points that may be passed, the schedule, and the bytes
+-- of the input
 pub record Setting : Type 0 where
   pub heap : ℕ
+  pub young : Bool
   pub stack : ℕ
   pub threads : ℕ
   pub points : ℕ
@@ -33,7 +35,7 @@ pub record IsInRange (s : Setting) : Type 0 where
 -- THE RUNS OF AN IMAGE that have executed so many instructions, or fewer because they ended
 pub record ImageRuns (p : Program) (s : Setting) (instructions : ℕ) (c : Config) : Type 0 where
   pub start : State
-  pub begins : Begins p (new_heap s.heap) s.threads s.stack start
+  pub begins : Begins p (first_heap s.young s.heap) s.threads s.stack start
   pub runs : Runs p s.input s.points start s.schedule instructions c
 
 -- the points that it has passed

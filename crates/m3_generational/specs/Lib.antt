@@ -1,3 +1,4 @@
 pub mod Remembering
 pub mod Collecting
 pub mod Inside
+pub mod First

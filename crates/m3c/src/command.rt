@@ -12,10 +12,10 @@ use std::alloc::Global;
 
 /// Carries out the command that the words give, without the program's name, and gives its status.
 ///
-/// The commands are `build IMAGE FILE..`, `run IMAGE`, `exec FILE..`, `dump IMAGE` and `bench N`.
-/// Output goes to `out`, one line to `err`, and the bytes of the image that was built, run or
-/// dumped to `image`. The image of one FILE with a text in the plain form comes from the generator
-/// that is proved. No such status but 4 comes where a sink failed.
+/// The commands are `build IMAGE FILE..`, `run IMAGE`, `exec FILE..`, `dump IMAGE`, `bench N` and
+/// `inspect IMAGE --at K`. Output goes to `out`, one line to `err`, and the bytes of the image that
+/// was built, run, dumped or inspected to `image`. The image of one FILE with a text in the plain
+/// form comes from the generator that is proved. No such status but 4 comes where a sink failed.
 pub fn m3c<F: Shelf, O: Sink, E: Sink>(
     alloc: Global,
     words: Vec<String>,

@@ -1,5 +1,5 @@
 -- From the parts of a command over an image to what it answers.
-use Rattle.std.proofs.Common.{◌≡◌, ◌<◌, ◌+◌, ◌^◌, arith, ℕ, Bool, List, [], Option, refl, sym, ◌∙◌, subst, inl, inr}
+use Rattle.std.proofs.Common.{◌≡◌, ◌<◌, ◌+◌, ◌^◌, arith, ℕ, Bool, cond, true, false, List, [], Option, refl, sym, ◌∙◌, subst, inl, inr}
 use Rattle.std.specs.Prelude.{Result, Ok, Err, IfSome, IsOk, IsErr, is_some, None, Some}
 use Rattle.std.specs.Prelude.{◌++◌}
 use Rattle.std.proofs.Common.{ap, append_assoc}
@@ -9,7 +9,7 @@ use Rattle.std.specs.Option.{option_map}
 use Rattle.m3_image.specs.Images.{read_of}
 use Rattle.m3_base.specs.declared.outcomes.Outcome.{Outcome}
 use Rattle.m3_heap.specs.Heap.{Heap}
-use Rattle.m3_heap.specs.Semi.{new_heap}
+use Rattle.m3_generational.specs.First.{first_heap}
 use Rattle.m3_image_sections.specs.Parts.{Image, Program}
 use Rattle.m3_run_meaning.specs.State.{State}
 use Rattle.m3_run_meaning.specs.Runs.{Begins, begins, Leads, moves, starting}
@@ -26,7 +26,7 @@ use Rattle.m3_base.specs.ScheduleRefusals.{IsScheduleRefusal}
 use Rattle.m3_base.specs.declared.schedules.ScheduleRefusal.{ScheduleRefusal}
 use Rattle.m3_base.specs.declared.schedules.ScheduleRefusal.TheVariants.{BadLine, TooMany}
 use Rattle.m3_image_sections.specs.declared.refusal.ImageRefusal.{ImageRefusal}
-use Rattle.m3c_image_commands.specs.Reports.{Setting, Ended, RanAsFar, end_status, report}
+use Rattle.m3c_image_commands.specs.Reports.{Setting, Ended, RanAsFar, end_status, ending, counted}
 use Rattle.m3c_image_commands.specs.Statuses.{Shelving, Putting, putting, StoresNothing, PutsNothing, Took, TookFront, RefusesBy, Unfetched, read_fault, no_memory as wants_memory, absent, too_long, LacksMemory, IsRead, IsGiven, image_cap}
 use Rattle.m3c_image_commands.specs.Refusals.{image_line, bad_line, too_many, IsScheduleLine, of_bad_line, of_too_many, RefusesImage, RefusesSchedule}
 use Rattle.m3c_image_commands.specs.ImageCommands.{by_schedule, on_input, Ends, ImageAnswer, image_refused, ended, RunsImage, BytesRanAsFar, RunsBytes, RunAnswer, OfRun, Runs, DumpAnswer, not_dumped, dumped, DumpsBytes, CutsDump, no_memory, Dumps}
@@ -38,9 +38,13 @@ begins-first p heap threads stack s (begins i next) = refl
 pub begins_first : (p : Program) (heap : Heap) (threads stack points : ℕ) (s : State) → Begins p heap threads stack s → points < 2 ^ 63 → s.points + points < 2 ^ 63
 begins_first p heap threads stack points s begun few = let none = begins-first p heap threads stack s begun in omega (arith, none, few)
 
+zero_either : (b : Bool) → ◌≡◌ {A = ℕ} (cond b 0 0) 0
+zero_either true = refl
+zero_either false = refl
+
 -- a heap that was just made keeps the laws of a store
-new_lawful : (words : ℕ) → IsLawful (new_heap words)
-new_lawful words = record {
+first_lawful : (young : Bool) (words : ℕ) → IsLawful (first_heap young words)
+first_lawful false words = record {
   laws = record {
     half = refl;
     young = omega arith;
@@ -55,11 +59,26 @@ new_lawful words = record {
   };
   closed = refl;
 }
+first_lawful true words = record {
+  laws = record {
+    half = refl;
+    young = omega arith;
+    some = omega arith;
+    room = omega arith;
+    placed = tt;
+    apart = tt;
+    free = refl;
+    tenured = refl;
+    watched = λ e. zero_either _;
+    minors = λ e. refl;
+  };
+  closed = refl;
+}
 
 -- the run of a machine that was made for it
-pub ends_run : (i : Image) (setting : Setting) (tells : Bool) (out : Putting) (p : Program) (input : List ℕ) (heap : Heap) (start to : State) (outcome : Outcome) (status : ℕ) (line : List ℕ) → p ≡ i.program → input ≡ setting.input → heap ≡ new_heap setting.heap
+pub ends_run : (i : Image) (setting : Setting) (tells : Bool) (out : Putting) (p : Program) (input : List ℕ) (heap : Heap) (start to : State) (outcome : Outcome) (status : ℕ) (line : List ℕ) → p ≡ i.program → input ≡ setting.input → heap ≡ first_heap setting.young setting.heap
     → Begins i.program heap setting.threads setting.stack start → (bytes : List ℕ) × Took out.taken bytes × Ran p input start setting.schedule setting.points bytes to outcome
-    → status ≡ end_status outcome → line ≡ report i tells outcome to.points to.instructions to.collections → Ended i setting tells out status line
+    → status ≡ end_status outcome → line ≡ counted setting.young tells (ending i outcome) to → Ended i setting tells out status line
 ends_run i setting tells out p input heap start to outcome status line program same empty begun ran by-status by-line = record {
   outcome = outcome;
   to = to;
@@ -67,7 +86,7 @@ ends_run i setting tells out p input heap start to outcome status line program s
   run = record {
     start = start;
     begins = subst (λ (h : Heap). Begins i.program h setting.threads setting.stack start) empty begun;
-    lawful = new_lawful setting.heap;
+    lawful = first_lawful setting.young setting.heap;
     ran = subst (λ (q : List ℕ). Ran i.program q start setting.schedule setting.points ran.0 to outcome) same (subst (λ (q : Program). Ran q input start setting.schedule setting.points ran.0 to outcome) program ran.2);
   };
   put = ran.1;
@@ -96,7 +115,7 @@ module _ {O : Type 0} (g : SinkGhosts O) (before after : O) where
   cut_front : (earlier bytes : List ℕ) → CutsOff g before after earlier bytes → TookFront (g.taken before, g.taken after) (earlier ++ bytes)
   cut_front earlier bytes h = front-of (g.taken before) (g.taken h.at) (g.taken after) (g.waiting h.at) earlier h.part h.piece bytes h.took h.next h.left
 
-  pub ran_as_far : (i : Image) (setting : Setting) (p : Program) (input : List ℕ) (heap : Heap) (start : State) → p ≡ i.program → input ≡ setting.input → heap ≡ new_heap setting.heap
+  pub ran_as_far : (i : Image) (setting : Setting) (p : Program) (input : List ℕ) (heap : Heap) (start : State) → p ≡ i.program → input ≡ setting.input → heap ≡ first_heap setting.young setting.heap
       → Begins i.program heap setting.threads setting.stack start → RanToFault g p input start setting.schedule setting.points before after → RanAsFar i setting (putting g before after)
   ran_as_far i setting p input heap start program same empty begun h =
       let allowed = start.points + setting.points in
@@ -239,11 +258,11 @@ dumps_fetched shelf out name image bytes (Ok a) e s r h = record { held = s; ans
 dumps_fetched shelf out name image bytes (Err x) e s r h = record { held = s; answer = tt; refusal = inr (r, subst (λ (y : List ℕ). CutsDump y out x) e h) }
 
 -- the run of a machine that was made for it, whatever became of its output
-pub run_of : (i : Image) (setting : Setting) (p : Program) (input : List ℕ) (heap : Heap) (start to : State) (outcome : Outcome) (bytes : List ℕ) → p ≡ i.program → input ≡ setting.input → heap ≡ new_heap setting.heap → Begins i.program heap setting.threads setting.stack start
-    → Ran p input start setting.schedule setting.points bytes to outcome → RunOf i.program (new_heap setting.heap) setting.threads setting.stack setting.points setting.schedule setting.input bytes to outcome
+pub run_of : (i : Image) (setting : Setting) (p : Program) (input : List ℕ) (heap : Heap) (start to : State) (outcome : Outcome) (bytes : List ℕ) → p ≡ i.program → input ≡ setting.input → heap ≡ first_heap setting.young setting.heap → Begins i.program heap setting.threads setting.stack start
+    → Ran p input start setting.schedule setting.points bytes to outcome → RunOf i.program (first_heap setting.young setting.heap) setting.threads setting.stack setting.points setting.schedule setting.input bytes to outcome
 run_of i setting p input heap start to outcome bytes program same empty begun ran = record {
   start = start;
   begins = subst (λ (h : Heap). Begins i.program h setting.threads setting.stack start) empty begun;
-  lawful = new_lawful setting.heap;
+  lawful = first_lawful setting.young setting.heap;
   ran = subst (λ (q : List ℕ). Ran i.program q start setting.schedule setting.points bytes to outcome) same (subst (λ (q : Program). Ran q input start setting.schedule setting.points bytes to outcome) program ran);
 }

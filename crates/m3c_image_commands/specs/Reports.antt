@@ -1,11 +1,12 @@
--- The line that says how a run ended: the ending, the points passed and the instructions executed, and where
--- switches were given the collections made.
+-- The line that says how a run ended: the ending, the points passed and the instructions executed, where switches were
+-- given the collections made, and of a heap of generations how many of them were minor and how many were full.
 use Rattle.std.specs.Prelude.{ℕ, ◌≡◌, ◌+◌, Bool, true, false, Option, None, Some, List, [], ◌∷◌, ◌++◌, length, max, codes, decimal, slice_get}
 use Rattle.m3_base.specs.declared.outcomes.Outcome.{Outcome}
 use Rattle.m3_base.specs.declared.outcomes.Outcome.TheVariants.{Done, Fault, Uncaught, Deadlock, ThreadsFull, Spent, HeapFull, StackFull, Trap}
 use Rattle.m3_base.specs.declared.outcomes.Entry.{Entry}
 use Rattle.m3_base.specs.Faults.{name_of_fault}
-use Rattle.m3_heap.specs.Semi.{new_heap}
+use Rattle.m3_heap.specs.Heap.{Heap}
+use Rattle.m3_generational.specs.First.{first_heap}
 use Rattle.m3_image_sections.specs.Parts.{Image}
 use Rattle.m3_run_meaning.specs.State.{State}
 use Rattle.m3_run_meaning.specs.Runs.{Config, Begins, Leads, starting}
@@ -53,7 +54,17 @@ abbrev pub with_collections : Bool → List ℕ → ℕ → List ℕ
 with_collections false line collections = line
 with_collections true line collections = line ++ codes " collections " ++ decimal collections
 
--- the line, which tells the collections or doesn't
+-- of a heap of generations
+abbrev pub with_generations : Bool → List ℕ → Heap → List ℕ
+with_generations false line heap = line
+with_generations true line heap = line ++ codes " minor " ++ decimal heap.minors ++ codes " full " ++ decimal heap.fulls
+
+-- a line that begins so, with the counts of a state behind it
+abbrev pub counted : (young tells : Bool) → List ℕ → State → List ℕ
+counted young tells line to =
+    with_generations young (with_collections tells (with_counts line to.points to.instructions) to.collections) to.heap ++ codes "\n"
+
+-- the line of a run over a heap of halves, which tells the collections or doesn't
 abbrev pub report : Image → Bool → Outcome → ℕ → ℕ → ℕ → List ℕ
 report i tells outcome points instructions collections =
     with_collections tells (with_counts (ending i outcome) points instructions) collections ++ codes "\n"
@@ -64,34 +75,35 @@ pub record Setting : Type 0 where
   pub heap : ℕ
   pub stack : ℕ
   pub threads : ℕ
+  pub young : Bool
   pub schedule : List Entry
   pub input : List ℕ
 
 -- the bounds of a run, before its switches and its input are read
 abbrev pub within : Bounds → Setting
 within bounds =
-    record { points = bounds.points; heap = bounds.heap; stack = bounds.stack; threads = bounds.threads; schedule = []; input = [] }
+    record { points = bounds.points; heap = bounds.heap; stack = bounds.stack; threads = bounds.threads; young = bounds.young; schedule = []; input = [] }
 
 abbrev pub setting_of : Limits → Setting
 setting_of limits = within (bounds_of limits)
 
--- A run of an image ended: it is a run of its program from the start, over a heap of two halves. Its output was put, and
--- the status and the line are those of its outcome and its counts.
+-- A run of an image ended: it is a run of its program from the start, over the heap of the setting. Its output was put,
+-- and the status and the line are those of its outcome and its counts.
 pub record Ended (i : Image) (setting : Setting) (tells : Bool) (out : Putting) (status : ℕ) (line : List ℕ) : Type 0 where
   pub outcome : Outcome
   pub to : State
   pub bytes : List ℕ
-  pub run : RunOf i.program (new_heap setting.heap) setting.threads setting.stack setting.points setting.schedule setting.input bytes to outcome
+  pub run : RunOf i.program (first_heap setting.young setting.heap) setting.threads setting.stack setting.points setting.schedule setting.input bytes to outcome
   pub put : Took out.taken bytes
   pub by_status : status ≡ end_status outcome
-  pub by_line : line ≡ report i tells outcome to.points to.instructions to.collections
+  pub by_line : line ≡ counted setting.young tells (ending i outcome) to
 
 -- A put of a run of an image failed: out has a front of the output of this run, which is one of its program from the
--- start, over a heap of two halves, and came as far as the instruction whose output was put last.
+-- start, over the heap of the setting, and came as far as the instruction whose output was put last.
 pub record RanAsFar (i : Image) (setting : Setting) (out : Putting) : Type 0 where
   pub start : State
   pub reached : Config
-  pub begins : Begins i.program (new_heap setting.heap) setting.threads setting.stack start
+  pub begins : Begins i.program (first_heap setting.young setting.heap) setting.threads setting.stack start
   pub leads : Leads i.program setting.input (start.points + setting.points) (starting start setting.schedule) reached
   pub put : TookFront out.taken reached.output
 

@@ -4,6 +4,7 @@
 mod answers;
 mod dumping;
 mod fetching;
+mod heaps;
 mod line;
 mod refusals;
 mod running;
@@ -11,6 +12,7 @@ mod running;
 pub use answers::{Answer, Refusal, tell};
 pub use dumping::dump_image;
 pub use fetching::{RunFiles, fetch, fetch_run_files};
+pub use heaps::FirstHeap;
 pub use line::{LINE_ROOM, answer_of, counted_answer, longest_name};
 pub use refusals::push_number;
 pub use running::{Run, fetch_all, read_image, run_bytes, run_image, schedule_of};

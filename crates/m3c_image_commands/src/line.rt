@@ -7,9 +7,11 @@ ghost use Rattle.m3_base.specs.declared.outcomes.Outcome.TheVariants.{Fault, Unc
 ghost use Rattle.m3_image.specs.Views.{image_view};
 ghost use Rattle.m3_image_sections.specs.PartViews.{names_of};
 ghost use Rattle.m3c_image_commands.specs.Reports.{end_status, name_bytes, ending, with_counts};
-ghost use Rattle.m3c_image_commands.specs.Reports.{with_collections, report, longest, longest_name};
+ghost use Rattle.m3c_image_commands.specs.Reports.{with_collections, counted, longest, longest_name};
+ghost use Rattle.m3_run_state.specs.Seen.{state_of};
 
 use crate::answers::Answer;
+use crate::heaps::FirstHeap;
 use itoa::Buffer;
 use m3_base::{FaultKind, Outcome, fault_name};
 use m3_heap::Store;
@@ -19,10 +21,10 @@ use m3_machine::Machine;
 use std::sync::ledger::Ledger;
 
 /// The most bytes that a line has beside the name in it.
-pub const LINE_ROOM: usize = 256;
+pub const LINE_ROOM: usize = 320;
 
 /// Adds bytes to a line that has the room.
-fn add(line: &mut Vec<u8>, piece: &[u8])
+pub(crate) fn add(line: &mut Vec<u8>, piece: &[u8])
     requires { vec_len line.old + length piece.now ≤ vec_capacity line.old }
     ensures items { line.new.items ≡ line.old.items ++ piece.now }
     ensures len { vec_len line.new ≡ vec_len line.old + length piece.now }
@@ -35,7 +37,7 @@ fn add(line: &mut Vec<u8>, piece: &[u8])
 }
 
 /// Adds a number in decimal.
-fn add_number(line: &mut Vec<u8>, number: u64)
+pub(crate) fn add_number(line: &mut Vec<u8>, number: u64)
     requires { vec_len line.old + 20 ≤ vec_capacity line.old }
     ensures items { line.new.items ≡ line.old.items ++ decimal number }
     ensures len { vec_len line.new ≤ vec_len line.old + 20 }
@@ -217,7 +219,7 @@ fn add_collections<S: Store, L: Ledger>(
 }
 
 /// The answer of a machine whose run ended so, in a line that has the room.
-pub fn answer_of<S: Store, L: Ledger>(
+pub fn answer_of<S: FirstHeap, L: Ledger>(
     mut line: Vec<u8>,
     image: &ImageView<'_>,
     machine: &Machine<'_, S, L>,
@@ -225,30 +227,30 @@ pub fn answer_of<S: Store, L: Ledger>(
     tells: bool,
 ) -> Answer
     requires empty { line.items ≡ [] }
-    requires room { longest_name (image_view image.now) + 256 ≤ vec_capacity line }
+    requires room { longest_name (image_view image.now) + 320 ≤ vec_capacity line }
     ensures status { result.status ≡ end_status outcome }
-    ensures line { result.line.items ≡ report (image_view image.now) tells outcome
-        machine.now.parts.points machine.now.parts.instructions machine.now.parts.collections }
+    ensures line { result.line.items ≡ counted S.young tells (ending (image_view image.now) outcome)
+        (state_of machine.now.parts) }
 {
     let status = add_ending(&mut line, image, outcome);
     counted_answer(line, status, machine, tells)
 }
 
 /// The answer of a status and of a line, which has the room, with the counts of a machine behind it.
-pub fn counted_answer<S: Store, L: Ledger>(
+pub fn counted_answer<S: FirstHeap, L: Ledger>(
     mut line: Vec<u8>,
     status: u8,
     machine: &Machine<'_, S, L>,
     tells: bool,
 ) -> Answer
-    requires { vec_len line + 160 ≤ vec_capacity line }
+    requires { vec_len line + 220 ≤ vec_capacity line }
     ensures status { result.status ≡ status }
-    ensures line { result.line.items ≡ with_collections tells (with_counts line.items
-        machine.now.parts.points machine.now.parts.instructions) machine.now.parts.collections
-        ++ codes "\n" }
+    ensures line { result.line.items
+        ≡ counted S.young tells line.items (state_of machine.now.parts) }
 {
     add_counts(&mut line, machine);
     add_collections(&mut line, machine, tells);
+    machine.store().tell(&mut line);
     add(&mut line, b"\n");
     Answer { status, line }
 }

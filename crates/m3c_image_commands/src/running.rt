@@ -13,9 +13,11 @@ ghost use Rattle.m3c_words.specs.Orders.{name_of};
 
 use crate::answers::{Answer, Refusal};
 use crate::fetching::{RunFiles, fetch, fetch_run_files};
+use crate::heaps::FirstHeap;
 use crate::line::{LINE_ROOM, answer_of, longest_name};
 use crate::refusals::{bad_line, image_line, refuse, too_many};
 use m3_base::{Entry, ScheduleRefusal, read_schedule};
+use m3_generational::Generational;
 use m3_heap::{SemiSpace, Steps};
 use m3_image::ImageView;
 use m3_machine::{Machine, Stacks};
@@ -69,9 +71,9 @@ pub fn schedule_of(
     }
 }
 
-/// Runs an image, and says how that ended. All memory is taken before the first instruction. The
-/// steps of its collections are counted by a ledger of its own.
-fn run_by<O: Sink, L: Ledger>(
+/// Runs an image over such a heap, and says how that ended. All memory is taken before the first
+/// instruction. The steps of its collections are counted by a ledger of its own.
+fn run_by<S: FirstHeap, O: Sink, L: Ledger>(
     alloc: Global,
     image: ImageView<'_>,
     run: Run<'_>,
@@ -81,6 +83,7 @@ fn run_by<O: Sink, L: Ledger>(
     requires name { blank.name ≡ L.name }
     requires parts { blank.parts ≡ L.parts }
     requires whole { blank.parts ≡ 1 }
+    requires heap { run.limits.young ≡ S.young }
     ensures { Ends (image_view image.entry) (setting_of_run run.entry)
         run.entry.tells_collections (putting O.Sink out.old out.new) result }
 {
@@ -88,7 +91,7 @@ fn run_by<O: Sink, L: Ledger>(
     let Ok(line) = Vec::with_capacity(alloc, room) else {
         return Err(Refusal::NO_MEMORY);
     };
-    let Ok(store) = SemiSpace::new(alloc, run.limits.heap) else {
+    let Ok(store) = S::make(alloc, run.limits.heap) else {
         return Err(Refusal::NO_MEMORY);
     };
     let limits = run.limits;
@@ -120,7 +123,11 @@ fn run_view<O: Sink>(
     ensures { Ends (image_view image.entry) (setting_of_run run.entry)
         run.entry.tells_collections (putting O.Sink out.old out.new) result }
 {
-    run_by::<O, Brand>(alloc, image, run, out, Blank::new(1))
+    if run.limits.young {
+        run_by::<Generational, O, Brand>(alloc, image, run, out, Blank::new(1))
+    } else {
+        run_by::<SemiSpace, O, Brand>(alloc, image, run, out, Blank::new(1))
+    }
 }
 
 /// Runs the image of some bytes, and says how that ended, or why they are no image.

@@ -6,7 +6,7 @@ use Rattle.m3_base.specs.declared.outcomes.Entry.{Entry}
 use Rattle.m3_base.specs.declared.outcomes.Outcome.{Outcome}
 use Rattle.m3_base.specs.declared.outcomes.Outcome.TheVariants.{Done, Fault, Uncaught, Deadlock, ThreadsFull, Spent, HeapFull, StackFull, Trap}
 use Rattle.m3_heap.specs.Heap.{Heap}
-use Rattle.m3_heap.specs.Semi.{new_heap}
+use Rattle.m3_generational.specs.First.{first_heap}
 use Rattle.m3_threads.specs.All.{Everyone}
 use Rattle.m3_image.specs.Images.{read_of}
 use Rattle.m3_image_sections.specs.Parts.{Image, Program}
@@ -30,14 +30,14 @@ use Rattle.m3c_inspect_command.specs.Inspecting.{Stops, is_spent, shown_line, en
 
 -- ---- the state that is left
 
-pub text_shown : (i j : Image) (tells : Bool) (to : State) (out : Putting) (answer : Answer) (v : View) (result : Result Answer Refusal) → j ≡ i → IsShown j to.all to.globals (shown_of v) → answer.status ≡ 0 → answer.line.items ≡ shown_line tells to → PutsText (text_of i (shown_of v)) answer out result
-    → Shows i tells to out result
-text_shown i j tells to out answer v (Ok a) same is status line h =
+pub text_shown : (i j : Image) (young tells : Bool) (to : State) (out : Putting) (answer : Answer) (v : View) (result : Result Answer Refusal) → j ≡ i → IsShown j to.all to.globals (shown_of v) → answer.status ≡ 0 → answer.line.items ≡ shown_line young tells to → PutsText (text_of i (shown_of v)) answer out result
+    → Shows i young tells to out result
+text_shown i j young tells to out answer v (Ok a) same is status line h =
     let here = subst (λ (x : Image). IsShown x to.all to.globals (shown_of v)) same is in
-    subst (λ (x : Answer). ShowsState i tells to out x.status x.line.items) (sym h.0)
-    (subst (λ (n : ℕ). ShowsState i tells to out n answer.line.items) (sym status) (subst (λ (l : List ℕ). ShowsState i tells to out 0 l) (sym line) (state_shown (shown_of v) here h.1)))
-text_shown i j tells to out answer v (Err r) same is status line (inl none) = inl none
-text_shown i j tells to out answer v (Err r) same is status line (inr failed) = inr (record {
+    subst (λ (x : Answer). ShowsState i young tells to out x.status x.line.items) (sym h.0)
+    (subst (λ (n : ℕ). ShowsState i young tells to out n answer.line.items) (sym status) (subst (λ (l : List ℕ). ShowsState i young tells to out 0 l) (sym line) (state_shown (shown_of v) here h.1)))
+text_shown i j young tells to out answer v (Err r) same is status line (inl none) = inl none
+text_shown i j young tells to out answer v (Err r) same is status line (inr failed) = inr (record {
   s = shown_of v;
   shown = subst (λ (x : Image). IsShown x to.all to.globals (shown_of v)) same is;
   lacks = failed.0;
@@ -45,10 +45,10 @@ text_shown i j tells to out answer v (Err r) same is status line (inr failed) = 
   front = failed.2;
 })
 
-pub frame_told : (i j : Image) (tells : Bool) (to : State) (out : Putting) (status : ℕ) (line : List ℕ) (number : ℕ) → j ≡ i → IsUnframed j to.all number → status ≡ 17 → line ≡ end_line i tells (Trap 9) to → PutsNothing out → ShowsState i tells to out status line
-frame_told i j tells to out status line number same is s l nothing =
+pub frame_told : (i j : Image) (young tells : Bool) (to : State) (out : Putting) (status : ℕ) (line : List ℕ) (number : ℕ) → j ≡ i → IsUnframed j to.all number → status ≡ 17 → line ≡ end_line i young tells (Trap 9) to → PutsNothing out → ShowsState i young tells to out status line
+frame_told i j young tells to out status line number same is s l nothing =
     let here = subst (λ (x : Image). IsUnframed x to.all number) same is in
-    subst (λ (n : ℕ). ShowsState i tells to out n line) (sym s) (subst (λ (x : List ℕ). ShowsState i tells to out 17 x) (sym l) (state_unframed number here nothing))
+    subst (λ (n : ℕ). ShowsState i young tells to out n line) (sym s) (subst (λ (x : List ℕ). ShowsState i young tells to out 17 x) (sym l) (state_unframed number here nothing))
 
 -- the thread that is told of
 pub unframed_of : (i : Image) (all : Everyone) (e : ViewRefused) (number : ℕ) → e ≡ Frame number → Refuses i all e → IsUnframed i all number
@@ -56,7 +56,7 @@ unframed_of i all e number is h = subst (λ (x : ViewRefused). Refuses i all x) 
 
 -- ---- the run
 
-pub stops_of : (i : Image) (setting : Setting) (p : Program) (input : List ℕ) (heap : Heap) (start to : State) (outcome : Outcome) (bytes : List ℕ) → p ≡ i.program → input ≡ setting.input → heap ≡ new_heap setting.heap → Begins i.program heap setting.threads setting.stack start
+pub stops_of : (i : Image) (setting : Setting) (p : Program) (input : List ℕ) (heap : Heap) (start to : State) (outcome : Outcome) (bytes : List ℕ) → p ≡ i.program → input ≡ setting.input → heap ≡ first_heap setting.young setting.heap → Begins i.program heap setting.threads setting.stack start
     → Ran p input start setting.schedule setting.points bytes to outcome → Stops i setting to outcome
 stops_of i setting p input heap start to outcome bytes program same empty begun ran = record { bytes = bytes; run = run_of i setting p input heap start to outcome bytes program same empty begun ran }
 
@@ -74,16 +74,16 @@ spent_if (Trap n) e = absurd cc
 pub other_if : (outcome : Outcome) → is_spent outcome ≡ false → outcome ≡ Spent → ⊥
 other_if outcome e same = let f : is_spent outcome ≡ true = ap is_spent same in absurd cc
 
-of_state : (i : Image) (setting : Setting) (tells : Bool) (out : Putting) (to : State) (status : ℕ) (line : List ℕ) → Stops i setting to Spent → ShowsState i tells to out status line → Inspected i setting tells out status line
+of_state : (i : Image) (setting : Setting) (tells : Bool) (out : Putting) (to : State) (status : ℕ) (line : List ℕ) → Stops i setting to Spent → ShowsState i setting.young tells to out status line → Inspected i setting tells out status line
 of_state i setting tells out to _ _ stops (state_shown s is took) = shown to s stops is took
 of_state i setting tells out to _ _ stops (state_unframed number is nothing) = unframed to number stops is nothing
 
-pub points_used : (i : Image) (setting : Setting) (tells : Bool) (out : Putting) (to : State) (result : Result Answer Refusal) → Stops i setting to Spent → Shows i tells to out result → InspectsView i setting tells out result
+pub points_used : (i : Image) (setting : Setting) (tells : Bool) (out : Putting) (to : State) (result : Result Answer Refusal) → Stops i setting to Spent → Shows i setting.young tells to out result → InspectsView i setting tells out result
 points_used i setting tells out to (Ok a) stops h = of_state i setting tells out to a.status a.line.items stops h
 points_used i setting tells out to (Err r) stops (inl none) = inl none
 points_used i setting tells out to (Err r) stops (inr failed) = inr (record { to = to; s = failed.s; stops = stops; shown = failed.shown; lacks = failed.lacks; rose = failed.rose; front = failed.front })
 
-pub other_end : (i : Image) (setting : Setting) (tells : Bool) (out : Putting) (to : State) (outcome : Outcome) (status : ℕ) (line : List ℕ) → Stops i setting to outcome → (outcome ≡ Spent → ⊥) → PutsNothing out → status ≡ end_status outcome → line ≡ end_line i tells outcome to → Inspected i setting tells out status line
+pub other_end : (i : Image) (setting : Setting) (tells : Bool) (out : Putting) (to : State) (outcome : Outcome) (status : ℕ) (line : List ℕ) → Stops i setting to outcome → (outcome ≡ Spent → ⊥) → PutsNothing out → status ≡ end_status outcome → line ≡ end_line i setting.young tells outcome to → Inspected i setting tells out status line
 other_end i setting tells out to outcome status line stops other nothing s l =
     subst (λ (n : ℕ). Inspected i setting tells out n line) (sym s) (subst (λ (x : List ℕ). Inspected i setting tells out (end_status outcome) x) (sym l) (ended to outcome stops other nothing))
 

@@ -4,7 +4,7 @@ use Rattle.m3_base.specs.Schedules.{IsSchedule}
 use Rattle.m3_base.specs.declared.outcomes.Entry.{Entry}
 use Rattle.m3_base.specs.declared.outcomes.Outcome.{Outcome}
 use Rattle.m3_base.specs.declared.outcomes.Outcome.TheVariants.{Spent, Trap}
-use Rattle.m3_heap.specs.Semi.{new_heap}
+use Rattle.m3_generational.specs.First.{first_heap}
 use Rattle.m3_image.specs.Images.{read_of}
 use Rattle.m3_image_sections.specs.Parts.{Image}
 use Rattle.m3_image_sections.specs.declared.refusal.ImageRefusal.{ImageRefusal}
@@ -16,34 +16,33 @@ use Rattle.m3c_image_commands.specs.declared.answers.Answer.{Answer}
 use Rattle.m3c_image_commands.specs.declared.answers.Refusal.{Refusal}
 use Rattle.m3c_image_commands.specs.Statuses.{Shelving, Putting, StoresNothing, PutsNothing, Took, TookFront, CountRose, IsRead, IsGiven, image_cap, Unfetched, LacksMemory, LacksOutput}
 use Rattle.m3c_image_commands.specs.Refusals.{image_line}
-use Rattle.m3c_image_commands.specs.Reports.{Setting, end_status, report, with_counts, with_collections}
+use Rattle.m3c_image_commands.specs.Reports.{Setting, end_status, ending, counted}
 use Rattle.m3c_image_commands.specs.ImageCommands.{RefusesSwitches, by_schedule, on_input, OfRun}
 
--- a run of an image ended in a state: it is a run of its program from the start, over a heap of two halves, which may
--- pass the points of the setting
+-- a run of an image ended in a state: it is a run of its program from the start, over the heap of the setting, which may pass
+-- its points
 pub record Stops (i : Image) (setting : Setting) (to : State) (outcome : Outcome) : Type 0 where
   pub bytes : List ℕ
-  pub run : RunOf i.program (new_heap setting.heap) setting.threads setting.stack setting.points setting.schedule setting.input bytes to outcome
+  pub run : RunOf i.program (first_heap setting.young setting.heap) setting.threads setting.stack setting.points setting.schedule setting.input bytes to outcome
 
 abbrev pub is_spent : Outcome → Bool
 is_spent Spent = true
 is_spent _ = false
 
 -- the line of a state that was shown
-abbrev pub shown_line : Bool → State → List ℕ
-shown_line tells to =
-    with_collections tells (with_counts (codes "inspected") to.points to.instructions) to.collections ++ codes "\n"
+abbrev pub shown_line : (young tells : Bool) → State → List ℕ
+shown_line young tells to = counted young tells (codes "inspected") to
 
 -- the line of any other end
-abbrev pub end_line : Image → Bool → Outcome → State → List ℕ
-end_line i tells outcome to = report i tells outcome to.points to.instructions to.collections
+abbrev pub end_line : Image → (young tells : Bool) → Outcome → State → List ℕ
+end_line i young tells outcome to = counted young tells (ending i outcome) to
 
 -- The status and the line. Where the points are used up, the state is shown, unless a thread hasn't its frames, which is
 -- told as trap 9; every other end is told as that of a run.
 pub data Inspected (i : Image) (setting : Setting) (tells : Bool) (out : Putting) : ℕ → List ℕ → Type 0 where
-  shown : (to : State) (s : Shown) → Stops i setting to Spent → IsShown i to.all to.globals s → Took out.taken (text_of i s) → Inspected i setting tells out 0 (shown_line tells to)
-  unframed : (to : State) (number : ℕ) → Stops i setting to Spent → IsUnframed i to.all number → PutsNothing out → Inspected i setting tells out 17 (end_line i tells (Trap 9) to)
-  ended : (to : State) (outcome : Outcome) → Stops i setting to outcome → (outcome ≡ Spent → ⊥) → PutsNothing out → Inspected i setting tells out (end_status outcome) (end_line i tells outcome to)
+  shown : (to : State) (s : Shown) → Stops i setting to Spent → IsShown i to.all to.globals s → Took out.taken (text_of i s) → Inspected i setting tells out 0 (shown_line setting.young tells to)
+  unframed : (to : State) (number : ℕ) → Stops i setting to Spent → IsUnframed i to.all number → PutsNothing out → Inspected i setting tells out 17 (end_line i setting.young tells (Trap 9) to)
+  ended : (to : State) (outcome : Outcome) → Stops i setting to outcome → (outcome ≡ Spent → ⊥) → PutsNothing out → Inspected i setting tells out (end_status outcome) (end_line i setting.young tells outcome to)
 
 -- a put of what is shown failed, and out has a front of it
 pub record NotShown (i : Image) (setting : Setting) (out : Putting) (r : Refusal) : Type 0 where
@@ -70,9 +69,9 @@ PutsText text answer out result =
     MatchResult result (λ a. (a ≡ answer) × Took out.taken text) (λ r. (LacksMemory r × PutsNothing out) ⊎ (LacksOutput r × CountRose out.faults × TookFront out.taken text))
 
 -- a state is shown, or a thread in it hasn't its frames
-pub data ShowsState (i : Image) (tells : Bool) (to : State) (out : Putting) : ℕ → List ℕ → Type 0 where
-  state_shown : (s : Shown) → IsShown i to.all to.globals s → Took out.taken (text_of i s) → ShowsState i tells to out 0 (shown_line tells to)
-  state_unframed : (number : ℕ) → IsUnframed i to.all number → PutsNothing out → ShowsState i tells to out 17 (end_line i tells (Trap 9) to)
+pub data ShowsState (i : Image) (young tells : Bool) (to : State) (out : Putting) : ℕ → List ℕ → Type 0 where
+  state_shown : (s : Shown) → IsShown i to.all to.globals s → Took out.taken (text_of i s) → ShowsState i young tells to out 0 (shown_line young tells to)
+  state_unframed : (number : ℕ) → IsUnframed i to.all number → PutsNothing out → ShowsState i young tells to out 17 (end_line i young tells (Trap 9) to)
 
 pub record PutFailed (i : Image) (to : State) (out : Putting) (r : Refusal) : Type 0 where
   pub s : Shown
@@ -81,9 +80,9 @@ pub record PutFailed (i : Image) (to : State) (out : Putting) (r : Refusal) : Ty
   pub rose : CountRose out.faults
   pub front : TookFront out.taken (text_of i s)
 
-abbrev pub Shows : Image → Bool → State → Putting → Result Answer Refusal → Type 0
-Shows i tells to out result =
-    MatchResult result (λ a. ShowsState i tells to out a.status a.line.items) (λ r. (LacksMemory r × PutsNothing out) ⊎ PutFailed i to out r)
+abbrev pub Shows : Image → (young tells : Bool) → State → Putting → Result Answer Refusal → Type 0
+Shows i young tells to out result =
+    MatchResult result (λ a. ShowsState i young tells to out a.status a.line.items) (λ r. (LacksMemory r × PutsNothing out) ⊎ PutFailed i to out r)
 
 -- ---- bytes, and a text of switches
 

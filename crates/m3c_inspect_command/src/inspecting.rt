@@ -13,13 +13,14 @@ ghost use Rattle.m3c_inspect_command.specs.Inspecting.{PutsText, Shows, is_spent
 ghost use Rattle.m3c_words.specs.Orders.{name_of};
 
 use m3_base::Outcome;
-use m3_heap::{SemiSpace, Steps, Store};
+use m3_generational::Generational;
+use m3_heap::{SemiSpace, Steps};
 use m3_image::ImageView;
 use m3_inspect::{Quiet, View, ViewRefused, text, view};
 use m3_machine::{Machine, Stacks};
 use m3_ports::{Shelf, Sink};
 use m3c_image_commands::{
-    Answer, LINE_ROOM, Refusal, Run, answer_of, counted_answer, fetch_all, longest_name,
+    Answer, FirstHeap, LINE_ROOM, Refusal, Run, answer_of, counted_answer, fetch_all, longest_name,
     read_image, schedule_of,
 };
 use m3c_words::RunOptions;
@@ -49,7 +50,7 @@ fn put_view<O: Sink>(
 
 /// Puts what a machine shows whose run used up its points. A thread that hasn't its frames is told
 /// as trap 9.
-fn show<S: Store, L: Ledger, O: Sink>(
+fn show<S: FirstHeap, L: Ledger, O: Sink>(
     alloc: Global,
     mut line: Vec<u8>,
     image: &ImageView<'_>,
@@ -58,9 +59,9 @@ fn show<S: Store, L: Ledger, O: Sink>(
     out: &mut O,
 ) -> Result<Answer, Refusal<'static>>
     requires empty { line.items ≡ [] }
-    requires room { longest_name (image_view image.now) + 256 ≤ vec_capacity line }
+    requires room { longest_name (image_view image.now) + 320 ≤ vec_capacity line }
     requires image { image_of machine.now.parts.image ≡ image_view image.now }
-    ensures { Shows (image_view image.now) tells (state_of machine.now.parts)
+    ensures { Shows (image_view image.now) S.young tells (state_of machine.now.parts)
         (putting O.Sink out.old out.new) result }
 {
     match view(alloc, machine) {
@@ -86,9 +87,9 @@ fn is_spent(outcome: Outcome) -> bool
     matches!(outcome, Outcome::Spent)
 }
 
-/// Runs an image for the points of its limits, and puts what it shows then. The steps of its
-/// collections are counted by a ledger of its own.
-fn inspect_by<O: Sink, L: Ledger>(
+/// Runs an image over such a heap for the points of its limits, and puts what it shows then. The
+/// steps of its collections are counted by a ledger of its own.
+fn inspect_by<S: FirstHeap, O: Sink, L: Ledger>(
     alloc: Global,
     image: ImageView<'_>,
     run: Run<'_>,
@@ -98,6 +99,7 @@ fn inspect_by<O: Sink, L: Ledger>(
     requires name { blank.name ≡ L.name }
     requires parts { blank.parts ≡ L.parts }
     requires whole { blank.parts ≡ 1 }
+    requires heap { run.limits.young ≡ S.young }
     ensures { InspectsView (image_view image.entry) (setting_of_run run.entry)
         run.entry.tells_collections (putting O.Sink out.old out.new) result }
 {
@@ -105,7 +107,7 @@ fn inspect_by<O: Sink, L: Ledger>(
     let Ok(line) = Vec::with_capacity(alloc, room) else {
         return Err(Refusal::NO_MEMORY);
     };
-    let Ok(store) = SemiSpace::new(alloc, run.limits.heap) else {
+    let Ok(store) = S::make(alloc, run.limits.heap) else {
         return Err(Refusal::NO_MEMORY);
     };
     let limits = run.limits;
@@ -139,7 +141,11 @@ fn inspect_view<O: Sink>(
     ensures { InspectsView (image_view image.entry) (setting_of_run run.entry)
         run.entry.tells_collections (putting O.Sink out.old out.new) result }
 {
-    inspect_by::<O, Brand>(alloc, image, run, out, Blank::new(1))
+    if run.limits.young {
+        inspect_by::<Generational, O, Brand>(alloc, image, run, out, Blank::new(1))
+    } else {
+        inspect_by::<SemiSpace, O, Brand>(alloc, image, run, out, Blank::new(1))
+    }
 }
 
 /// Reads an image and a schedule, runs the one by the other, and puts what it shows then.

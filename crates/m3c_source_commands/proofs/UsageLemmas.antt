@@ -10,9 +10,10 @@ use Rattle.m3c_image_commands.specs.declared.answers.Refusal.{Refusal}
 use Rattle.m3c_image_commands.specs.Statuses.{Shelving, Putting, PutsNothing, Only, IsRead, image_cap, LacksMemory, LacksOutput, Cuts, Refuses, Unfetched, read_fault, no_memory, absent, too_long, Tells}
 use Rattle.m3c_image_commands.specs.Reports.{Setting, Ended, end_status, within}
 use Rattle.m3c_image_commands.specs.ImageCommands.{on_input, ImageAnswer, image_refused, ended, RunAnswer, DumpAnswer, not_dumped, dumped, CutsDump, no_memory as no_more, not_put}
+use Rattle.m3c_inspect_command.specs.Inspecting.{BytesAnswer, CutsBytes, InspectAnswer, Inspected, NotShown, ended as run_to_end, image_refused as not_inspected, inspected, shown, unframed}
 use Rattle.m3c_source_commands.specs.Judging.{Judgement, OfSome}
 use Rattle.m3c_source_commands.specs.SourceCommands.{BuildAnswer, not_built, stored, ExecAnswer, not_run, no_schedule, run_ended, IsOfNumber}
-use Rattle.m3c_source_commands.specs.Orders.{Order, build, run, exec, dump, bench, Fulfils, bench_setting}
+use Rattle.m3c_source_commands.specs.Orders.{Order, build, run, exec, dump, bench, inspect, Fulfils, bench_setting}
 
 -- ---- answers
 
@@ -54,6 +55,19 @@ exec_other judges files texts image switches MayRunBy setting tells out status l
 exec_other judges files texts image switches MayRunBy setting tells out status line (no_schedule s l of h) e = nine_other status h.0 e
 exec_other judges files texts image switches MayRunBy setting tells out status line (run_ended i schedule s l of read may h) e = ended_other i _ tells out status line h e
 
+inspected_other : (i : Image) (setting : Setting) (tells : Bool) (out : Putting) (status : ℕ) (line : List ℕ) → Inspected i setting tells out status line → status ≡ 2 → ⊥
+inspected_other i setting tells out status line (shown to s stops is took) e = omega arith
+inspected_other i setting tells out status line (unframed to number stops is p) e = omega arith
+inspected_other i setting tells out status line (run_to_end to outcome stops other p) e = end_other outcome e
+
+inspect_other : (image : List ℕ) (setting : Setting) (tells : Bool) (out : Putting) (status : ℕ) (line : List ℕ) → InspectAnswer image setting tells out status line → status ≡ 2 → ⊥
+inspect_other image setting tells out status line (not_inspected r bad p) e = omega arith
+inspect_other image setting tells out status line (inspected i s l read h) e = inspected_other i setting tells out status line h e
+
+view_other : (image switches : List ℕ) (setting : Setting) (tells : Bool) (out : Putting) (status : ℕ) (line : List ℕ) → BytesAnswer image switches setting tells out status line → status ≡ 2 → ⊥
+view_other image switches setting tells out status line (inl h) e = inspect_other image _ tells out status line h.2 e
+view_other image switches setting tells out status line (inr h) e = nine_other status h.0.0 e
+
 -- ---- refusals
 
 unfetched_other : (shelf : Shelving) (Reads : List ℕ → ℕ → Type 0) (status : ℕ) (front name : List ℕ) → Unfetched shelf Reads status front name → status ≡ 2 → ⊥
@@ -85,6 +99,10 @@ not_dumped_other : (shelf : Shelving) (name image : List ℕ) (out : Putting) (r
 not_dumped_other shelf name image out r (inl u) e = unfetched_other shelf (Only name image_cap) r.status r.front.now r.name.now u.0 e
 not_dumped_other shelf name image out r (inr d) e = cut_dump_other image out r d.1 e
 
+cut_view_other : (image switches : List ℕ) (setting : Setting) (out : Putting) (r : Refusal) → CutsBytes image switches setting out r → r.status ≡ 2 → ⊥
+cut_view_other image switches setting out r (inl h) e = memory_other r h.0 e
+cut_view_other image switches setting out r (inr h) e = output_other r h.2.2.2.lacks e
+
 -- ---- commands
 
 -- the status of an answer or of a refusal
@@ -105,6 +123,12 @@ fulfilled_other judges (dump name) shelf out image (Ok a) h e = dump_other image
 fulfilled_other judges (dump name) shelf out image (Err r) h e = not_dumped_other shelf name image out r h.refusal e
 fulfilled_other judges (bench number) shelf out image (Ok a) h e = exec_other (OfSome judges) [] [] image [] (IsOfNumber number) bench_setting false out a.status a.line.items h.0 e
 fulfilled_other judges (bench number) shelf out image (Err r) h e = cut_other out r h.0.0 e
+fulfilled_other judges (inspect name options) shelf out image (Ok a) h e = view_other image h.answer.1.0 (on_input (within options.bounds) h.answer.1.1) (is_some options.switches) out a.status a.line.items h.answer.1.4 e
+fulfilled_other judges (inspect name options) shelf out image (Err r) h e =
+    elim h.refusal [
+      | inl u ↦ unfetched_other shelf _ r.status r.front.now r.name.now u.0 e
+      | inr d ↦ cut_view_other image d.1.0 _ out r d.1.4 e
+    ]
 
 told_other : (err : Putting) (result : Result Answer Refusal) → Tells err result 2 → result_status result ≡ 2
 told_other err (Ok a) (inl h) = sym h.0

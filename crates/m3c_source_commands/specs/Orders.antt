@@ -1,12 +1,13 @@
 -- Every command: what its words ask for, and what it answers.
 use Rattle.std.specs.Prelude.{ℕ, ◌≡◌, false, None, Some, Result, List, [], codes}
-pub use Rattle.m3c_words.specs.Orders.{Order, build, run, exec, dump, bench, order_of}
+pub use Rattle.m3c_words.specs.Orders.{Order, build, run, exec, dump, bench, inspect, order_of}
 use Rattle.m3c_words.specs.Asked.{asked, usual_options}
 use Rattle.m3c_image_commands.specs.declared.answers.Answer.{Answer}
 use Rattle.m3c_image_commands.specs.declared.answers.Refusal.{Refusal}
 use Rattle.m3c_image_commands.specs.Statuses.{Shelving, Putting, StoresNothing, PutsNothing, Says, Tells}
 use Rattle.m3c_image_commands.specs.Reports.{Setting, within}
 use Rattle.m3c_image_commands.specs.ImageCommands.{Runs, Dumps}
+use Rattle.m3c_inspect_command.specs.Inspecting.{Inspects}
 use Rattle.m3c_source_commands.specs.Judging.{Judgement, OfSome}
 use Rattle.m3c_source_commands.specs.SourceCommands.{Builds, ExecsTexts, Execs, IsOfNumber}
 
@@ -15,7 +16,7 @@ abbrev pub usual_setting : Setting
 usual_setting = within usual_options.bounds
 
 abbrev pub bench_setting : Setting
-bench_setting = within (record { points = 1000000; heap = 32768; stack = 16384; threads = 8 })
+bench_setting = within (record { points = 1000000; heap = 32768; stack = 16384; threads = 8; young = false })
 
 -- what each command answers by a checker, and what it does to the shelf and to out; that of `bench` is a run by the
 -- schedule of its number, of a workload that the checker accepts
@@ -28,6 +29,8 @@ Fulfils judges (exec files options) shelf out image result =
 Fulfils judges (dump name) shelf out image result = Dumps shelf out name image result
 Fulfils judges (bench number) shelf out image result =
     ExecsTexts (OfSome judges) [] [] image [] (IsOfNumber number) bench_setting false out result × StoresNothing shelf
+Fulfils judges (inspect name options) shelf out image result =
+    Inspects shelf out name options.switches options.input (within options.bounds) image result
 
 abbrev pub usage_line : List ℕ
 usage_line = codes "usage: m3c build, run, exec, dump or bench\n"

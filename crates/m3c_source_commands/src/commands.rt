@@ -20,6 +20,7 @@ use m3_workload::make;
 use m3c_image_commands::{
     Answer, Refusal, Run, RunFiles, dump_image, fetch_run_files, run_bytes, run_image, tell,
 };
+use m3c_inspect_command::inspect_image;
 use m3c_words::{Limits, Request, RunOptions, read_words};
 use std::alloc::Global;
 
@@ -176,12 +177,16 @@ fn carry_out<'a, C: Checks, F: Shelf, O: Sink>(
         }
         Request::Dump { image: name } => dump_image(alloc, *name, shelf, out, image),
         Request::Bench { number } => bench::<C, O>(alloc, *number, out, image),
+        Request::Inspect {
+            image: name,
+            options,
+        } => inspect_image(alloc, *name, *options, shelf, out, image),
     }
 }
 
 /// Carries out the command that some words say, without the program's name, by a checker: output
-/// goes to `out`, one line to `err`, and the bytes of the image that was built, run or dumped to
-/// `image`, which is to be empty before. Gives the status.
+/// goes to `out`, one line to `err`, and the bytes of the image that was built, run, dumped or
+/// inspected to `image`, which is to be empty before. Gives the status.
 pub fn command<C: Checks, F: Shelf, O: Sink, E: Sink>(
     alloc: Global,
     words: &[&str],

@@ -12,9 +12,9 @@ use Rattle.clap.specs.Simple.{Shape, built, entered, filled, filled_from, names_
 use Rattle.clap.specs.declared.parser.matches.ValueSource.{ValueSource}
 use Rattle.clap.specs.declared.parser.matches.ValueSource.TheVariants.{CommandLine}
 use Rattle.clap.specs.declared.builder.value_parser.Reading.{Reading}
-use Rattle.m3c_words.specs.Orders.{Options, Order, run, exec}
-use Rattle.m3c_words.specs.Grammar.{exec_command, file_words, grammar, image_word, run_command}
-use Rattle.m3c_words.specs.Asked.{asked, exec_in, order_in, options_in, parsed, run_in, files_in, word_in}
+use Rattle.m3c_words.specs.Orders.{Options, Order, run, exec, inspect}
+use Rattle.m3c_words.specs.Grammar.{exec_command, file_words, grammar, image_command, image_word, inspect_command, run_command}
+use Rattle.m3c_words.specs.Asked.{asked, exec_in, inspect_in, order_in, options_at, options_in, parsed, run_in, files_in, word_in}
 use Rattle.m3c_words.specs.Sentences.{HasOptionsBefore, options_asked, with_behind}
 
 -- ---- rows
@@ -158,6 +158,10 @@ pub run_entered : (words : List Text) → subcommand_of grammar (codes "run" ∷
 unfolding grammar walked
 run_entered words = ap (entered (built grammar)) (stops_with nothing_held idle 1 false (codes "run") [] words)
 
+pub inspect_entered : (words : List Text) → subcommand_of grammar (codes "inspect" ∷ words) ≡ Some (rows_at (leaf inspect_command) words)
+unfolding grammar walked
+inspect_entered words = ap (entered (built grammar)) (stops_with nothing_held idle 1 false (codes "inspect") [] words)
+
 abbrev pub rows_by : Shape → List Text → List Row
 rows_by s words = rows_after (leaf s).rules [] words
 
@@ -174,6 +178,10 @@ run_order : (words : List Text) (order : Order) → asked (codes "run" ∷ words
 unfolding parsed order_in
 run_order words order asks = parsed_order (is_empty (fault_of grammar (codes "run" ∷ words))) (subcommand_of grammar (codes "run" ∷ words)) (codes "run") (rows_by run_command words) order (run_entered words) asks
 
+inspect_order : (words : List Text) (order : Order) → asked (codes "inspect" ∷ words) ≡ Some order → inspect_in (rows_by inspect_command words) ≡ Some order
+unfolding parsed order_in
+inspect_order words order asks = parsed_order (is_empty (fault_of grammar (codes "inspect" ∷ words))) (subcommand_of grammar (codes "inspect" ∷ words)) (codes "inspect") (rows_by inspect_command words) order (inspect_entered words) asks
+
 -- ---- its options
 
 file_kept : (opt : Text) → bytes_eq (codes "FILE") opt ≡ false → KeepsRow (leaf exec_command).rules opt
@@ -183,10 +191,10 @@ file_kept opt differs p = go (1 == p)
     go true = λ values rows. with_values_keeps (codes "FILE") opt (reading_by (filled file_words)) CommandLine (values_or_missing (filled file_words) values) differs rows
     go false = tt
 
-image_kept : (opt : Text) → bytes_eq (codes "IMAGE") opt ≡ false → KeepsRow (leaf run_command).rules opt
-image_kept opt differs p = go (1 == p)
+image_kept : (name points opt : Text) → bytes_eq (codes "IMAGE") opt ≡ false → KeepsRow (leaf (image_command name points)).rules opt
+image_kept name points opt differs p = go (1 == p)
   where
-    go : (b : Bool) → IfSome (cond b (Some (with_index 1 (filled image_word))) None) (Kept (leaf run_command).rules opt)
+    go : (b : Bool) → IfSome (cond b (Some (with_index 1 (filled image_word))) None) (Kept (leaf (image_command name points)).rules opt)
     go true = λ values rows.
         with_values_keeps (codes "IMAGE") opt (reading_by (filled image_word)) CommandLine (values_or_missing (filled image_word) values) differs (without (codes "IMAGE") rows)
         ∙ without_keeps (codes "IMAGE") opt differs rows
@@ -197,30 +205,47 @@ abbrev AgreeOn : List Row → List Row → Text → Type 0
 AgreeOn rows others opt = found opt rows ≡ found opt others
 
 same_options : (rows others : List Row) → AgreeOn rows others (codes "switches") → AgreeOn rows others (codes "input") → AgreeOn rows others (codes "points")
-    → AgreeOn rows others (codes "heap") → AgreeOn rows others (codes "stack") → AgreeOn rows others (codes "threads") → options_in rows ≡ options_in others
-same_options rows others switches input points heap stack threads = rw (switches, input, points, heap, stack, threads) refl
+    → AgreeOn rows others (codes "heap") → AgreeOn rows others (codes "stack") → AgreeOn rows others (codes "threads") → AgreeOn rows others (codes "young") → options_in rows ≡ options_in others
+same_options rows others switches input points heap stack threads young = rw (switches, input, points, heap, stack, threads, young) refl
+
+same_at : (rows others : List Row) → AgreeOn rows others (codes "switches") → AgreeOn rows others (codes "input") → AgreeOn rows others (codes "at")
+    → AgreeOn rows others (codes "heap") → AgreeOn rows others (codes "stack") → AgreeOn rows others (codes "threads") → AgreeOn rows others (codes "young") → options_at rows ≡ options_at others
+same_at rows others switches input at heap stack threads young = rw (switches, input, at, heap, stack, threads, young) refl
 
 exec_says : (files : Option (List Text)) (options : Option Options) (order : Order) → option_and_then (λ names. option_map (exec names) options) files ≡ Some order → options_asked order ≡ options
 exec_says None options order e = cc
 exec_says (Some names) None order e = cc
 exec_says (Some names) (Some o) order e = sym (ap (option_and_then options_asked) e)
 
-run_says : (image : Option Text) (options : Option Options) (order : Order) → option_and_then (λ name. option_map (run name) options) image ≡ Some order → options_asked order ≡ options
-run_says None options order e = cc
-run_says (Some name) None order e = cc
-run_says (Some name) (Some o) order e = sym (ap (option_and_then options_asked) e)
+image_says : (make : Text → Options → Order) → ((name : Text) (o : Options) → options_asked (make name o) ≡ Some o) → (image : Option Text) (options : Option Options) (order : Order)
+    → option_and_then (λ name. option_map (make name) options) image ≡ Some order → options_asked order ≡ options
+image_says make has None options order e = cc
+image_says make has (Some name) None order e = cc
+image_says make has (Some name) (Some o) order e = sym (ap (option_and_then options_asked) e) ∙ has name o
 
 exec_before : (front words : List Text) → options_in (rows_by exec_command (front ++ codes "--" ∷ words)) ≡ options_in (rows_by exec_command front)
-exec_before front words = same_options (rows_by exec_command (front ++ codes "--" ∷ words)) (rows_by exec_command front) (row (codes "switches") refl) (row (codes "input") refl) (row (codes "points") refl) (row (codes "heap") refl) (row (codes "stack") refl) (row (codes "threads") refl)
+exec_before front words = same_options (rows_by exec_command (front ++ codes "--" ∷ words)) (rows_by exec_command front) (row (codes "switches") refl) (row (codes "input") refl) (row (codes "points") refl) (row (codes "heap") refl) (row (codes "stack") refl) (row (codes "threads") refl) (row (codes "young") refl)
   where
     row : (opt : Text) → bytes_eq (codes "FILE") opt ≡ false → AgreeOn (rows_by exec_command (front ++ codes "--" ∷ words)) (rows_by exec_command front) opt
-    row opt differs = row_before (leaf exec_command).rules opt (file_kept opt differs) (refl, (refl, (refl, (refl, (refl, (refl, (refl, tt))))))) front words
+    row opt differs = row_before (leaf exec_command).rules opt (file_kept opt differs) (refl, (refl, (refl, (refl, (refl, (refl, (refl, (refl, tt)))))))) front words
+
+-- a command over one image: its row of an option is that of the words before `--`
+image_row : (name points : Text) (front words : List Text) (opt : Text) → bytes_eq (codes "IMAGE") opt ≡ false
+    → AgreeOn (rows_by (image_command name points) (front ++ codes "--" ∷ words)) (rows_by (image_command name points) front) opt
+image_row name points front words opt differs =
+    row_before (leaf (image_command name points)).rules opt (image_kept name points opt differs) (refl, (refl, (refl, (refl, (refl, (refl, (refl, (refl, tt)))))))) front words
 
 run_before : (front words : List Text) → options_in (rows_by run_command (front ++ codes "--" ∷ words)) ≡ options_in (rows_by run_command front)
-run_before front words = same_options (rows_by run_command (front ++ codes "--" ∷ words)) (rows_by run_command front) (row (codes "switches") refl) (row (codes "input") refl) (row (codes "points") refl) (row (codes "heap") refl) (row (codes "stack") refl) (row (codes "threads") refl)
+run_before front words = same_options (rows_by run_command (front ++ codes "--" ∷ words)) (rows_by run_command front) (row (codes "switches") refl) (row (codes "input") refl) (row (codes "points") refl) (row (codes "heap") refl) (row (codes "stack") refl) (row (codes "threads") refl) (row (codes "young") refl)
   where
     row : (opt : Text) → bytes_eq (codes "IMAGE") opt ≡ false → AgreeOn (rows_by run_command (front ++ codes "--" ∷ words)) (rows_by run_command front) opt
-    row opt differs = row_before (leaf run_command).rules opt (image_kept opt differs) (refl, (refl, (refl, (refl, (refl, (refl, (refl, tt))))))) front words
+    row = image_row (codes "run") (codes "points") front words
+
+inspect_before : (front words : List Text) → options_at (rows_by inspect_command (front ++ codes "--" ∷ words)) ≡ options_at (rows_by inspect_command front)
+inspect_before front words = same_at (rows_by inspect_command (front ++ codes "--" ∷ words)) (rows_by inspect_command front) (row (codes "switches") refl) (row (codes "input") refl) (row (codes "at") refl) (row (codes "heap") refl) (row (codes "stack") refl) (row (codes "threads") refl) (row (codes "young") refl)
+  where
+    row : (opt : Text) → bytes_eq (codes "IMAGE") opt ≡ false → AgreeOn (rows_by inspect_command (front ++ codes "--" ∷ words)) (rows_by inspect_command front) opt
+    row = image_row (codes "inspect") (codes "at") front words
 
 exec_with : (front words : List Text) (order : Order) → asked (with_behind (codes "exec") front words) ≡ Some order → options_asked order ≡ options_in (rows_by exec_command front)
 exec_with front words order e =
@@ -230,10 +255,18 @@ exec_with front words order e =
 run_with : (front words : List Text) (order : Order) → asked (with_behind (codes "run") front words) ≡ Some order → options_asked order ≡ options_in (rows_by run_command front)
 run_with front words order e =
     let rows = rows_by run_command (front ++ codes "--" ∷ words) in
-    run_says (word_in (codes "IMAGE") rows) (options_in rows) order (run_order (front ++ codes "--" ∷ words) order e) ∙ run_before front words
+    image_says run (λ name o. refl) (word_in (codes "IMAGE") rows) (options_in rows) order (run_order (front ++ codes "--" ∷ words) order e) ∙ run_before front words
+
+inspect_with : (front words : List Text) (order : Order) → asked (with_behind (codes "inspect") front words) ≡ Some order → options_asked order ≡ options_at (rows_by inspect_command front)
+inspect_with front words order e =
+    let rows = rows_by inspect_command (front ++ codes "--" ∷ words) in
+    image_says inspect (λ name o. refl) (word_in (codes "IMAGE") rows) (options_at rows) order (inspect_order (front ++ codes "--" ∷ words) order e) ∙ inspect_before front words
 
 pub exec_options : HasOptionsBefore (codes "exec")
 exec_options front one other first second e f = exec_with front one first e ∙ sym (exec_with front other second f)
 
 pub run_options_stay : HasOptionsBefore (codes "run")
 run_options_stay front one other first second e f = run_with front one first e ∙ sym (run_with front other second f)
+
+pub inspect_options_stay : HasOptionsBefore (codes "inspect")
+inspect_options_stay front one other first second e f = inspect_with front one first e ∙ sym (inspect_with front other second f)

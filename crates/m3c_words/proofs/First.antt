@@ -9,11 +9,11 @@ use Rattle.clap.specs.Kinds.{or_else}
 use Rattle.clap.specs.Faults.{bundle_fault, bundle_step_fault, fault_of, flag_word_fault, flags_fault, other_fault, step_fault, turn_fault, walk_fault}
 use Rattle.clap.specs.Walk.{Held, Names, Row, Text, Waiting, Walk, after_flag, bundle_met, bundle_step, first_of, idle, is_empty, long_or_other, nothing_held, plain, short_or_plain, subcommand_met, subcommand_or_other, trailing, walk_from, walked}
 use Rattle.clap.specs.Simple.{Shape, built, entered, names_of, rows_at, subcommand_of}
-use Rattle.m3c_words.specs.Orders.{Order, build, run, exec, dump, bench}
-use Rattle.m3c_words.specs.Grammar.{bench_command, build_command, dump_command, exec_command, grammar, run_command}
-use Rattle.m3c_words.specs.Asked.{asked, files_in, number_of, options_in, order_in, parsed, word_in}
+use Rattle.m3c_words.specs.Orders.{Order, build, run, exec, dump, bench, inspect}
+use Rattle.m3c_words.specs.Grammar.{bench_command, build_command, dump_command, exec_command, grammar, inspect_command, run_command}
+use Rattle.m3c_words.specs.Asked.{asked, files_in, number_of, options_at, options_in, order_in, parsed, word_in}
 use Rattle.m3c_words.specs.Sentences.{BeginsWithCommand, command_asked}
-use Rattle.m3c_words.proofs.Behind.{behind, exec_entered, run_entered, leaf, parsed_order, rows_by, stops_with}
+use Rattle.m3c_words.proofs.Behind.{behind, exec_entered, inspect_entered, run_entered, leaf, parsed_order, rows_by, stops_with}
 use Rattle.m3c_words.proofs.Named.{asked_none, first_none}
 use Rattle.m3c_words.proofs.InRange.{then_any}
 
@@ -138,6 +138,10 @@ bench_is : (rows : List Row) → IfSome (order_in (codes "bench") rows) (IsOf (c
 unfolding order_in
 bench_is rows = named bench (option_and_then number_of (first_of (codes "N") rows)) (λ number. refl)
 
+inspect_is : (rows : List Row) → IfSome (order_in (codes "inspect") rows) (IsOf (codes "inspect"))
+unfolding order_in
+inspect_is rows = then_any (word_in (codes "IMAGE") rows) _ (IsOf (codes "inspect")) (λ image. named (inspect image) (options_at rows) (λ options. refl))
+
 some_is : (o : Option Order) (name : Text) (order : Order) → IfSome o (IsOf name) → o ≡ Some order → name ≡ command_asked order
 some_is o name order p e = sym (subst (λ (x : Option Order). IfSome x (IsOf name)) e p)
 
@@ -152,9 +156,9 @@ begins : (name word : Text) (words : List Text) (order : Order) → name ≡ wor
 begins name word words order is k e = (words, ap (λ (first : Text). first ∷ words) (sym is ∙ k (subst (λ (first : Text). asked (first ∷ words) ≡ Some order) (sym is) e)))
 
 none_met : (word : Text) → bytes_eq (codes "build") word ≡ false → bytes_eq (codes "run") word ≡ false → bytes_eq (codes "exec") word ≡ false → bytes_eq (codes "dump") word ≡ false
-    → bytes_eq (codes "bench") word ≡ false → subcommand_met commands idle word ≡ None
+    → bytes_eq (codes "bench") word ≡ false → bytes_eq (codes "inspect") word ≡ false → subcommand_met commands idle word ≡ None
 unfolding grammar
-none_met word a b c d e = rw (a, b, c, d, e) refl
+none_met word a b c d e f = rw (a, b, c, d, e, f) refl
 
 first_asked : (word : Text) (words : List Text) (order : Order) → asked (word ∷ words) ≡ Some order → BeginsWithCommand (word ∷ words) order
 first_asked word words order asks =
@@ -168,7 +172,10 @@ first_asked word words order asks =
             | inl is ↦ begins _ word words order is (λ e. some_is _ _ order (dump_is (rows_by dump_command words)) (order_of_rows (codes "dump") words _ order (dump_entered words) e)) asks
             | inr d ↦ elim (test_of (codes "bench") word) [
               | inl is ↦ begins _ word words order is (λ e. some_is _ _ order (bench_is (rows_by bench_command words)) (order_of_rows (codes "bench") words _ order (bench_entered words) e)) asks
-              | inr e ↦ absurd (no_command word words order (none_met word a b c d e) asks)
+              | inr e ↦ elim (test_of (codes "inspect") word) [
+                | inl is ↦ begins _ word words order is (λ e. some_is _ _ order (inspect_is (rows_by inspect_command words)) (order_of_rows (codes "inspect") words _ order (inspect_entered words) e)) asks
+                | inr f ↦ absurd (no_command word words order (none_met word a b c d e f) asks)
+              ]
             ]
           ]
         ]

@@ -8,8 +8,8 @@ use Rattle.std.specs.Str.Parse.{digits_value}
 use Rattle.clap.specs.ValueTests.{is_numeral}
 use Rattle.clap.specs.Walk.{Row, Text, all_of, first_of, nonempty}
 use Rattle.clap.proofs.WalkLemmas.{both}
-use Rattle.m3c_words.specs.Orders.{Order, build, run, exec, dump, bench}
-use Rattle.m3c_words.specs.Asked.{as_files, asked, bench_in, bounds_in, build_in, dump_in, exec_in, files_in, given_name, heap_in, is_named, limit_of, most_files, number_of, options_in, order_in, parsed, points_in, run_in, stack_in, threads_in, within, word_in}
+use Rattle.m3c_words.specs.Orders.{Order, build, run, exec, dump, bench, inspect}
+use Rattle.m3c_words.specs.Asked.{as_files, asked, at_in, bench_in, bounds_by, build_in, dump_in, exec_in, files_in, given_name, heap_in, inspect_in, is_named, limit_of, most_files, number_of, options_at, options_by, options_in, order_in, parsed, points_in, run_in, stack_in, threads_in, within, word_in}
 use Rattle.m3c_words.specs.Sentences.{AreFiles, AreInRange, AreOptions, IsInRange, IsName}
 
 module _ {X Y : Type 0} where
@@ -24,6 +24,11 @@ module _ {X Y : Type 0} where
   pub map_with : (o : Option X) (f : X → Y) (Q : X → Type 0) (P : Y → Type 0) → IfSome o Q → ((x : X) → Q x → P (f x)) → IfSome (option_map f o) P
   map_with None f Q P q k = tt
   map_with (Some x) f Q P q k = k x q
+
+module _ {X : Type 0} where
+  weaker : (o : Option X) (P Q : X → Type 0) → IfSome o P → ((x : X) → P x → Q x) → IfSome o Q
+  weaker None P Q p k = tt
+  weaker (Some x) P Q p k = k x p
 
 either_order : (b : Bool) (one other : Option Order) → IfSome one IsInRange → IfSome other IsInRange → IfSome (cond b one other) IsInRange
 either_order true one other p q = p
@@ -52,14 +57,22 @@ number_in_range digits = go (is_numeral digits && nat_lt (digits_value 10 digits
     go true e = ltb-true _ _ (both _ _ e).1
     go false e = tt
 
-bounds_in_range : (rows : List Row) → IfSome (bounds_in rows) AreInRange
-unfolding IsBetween
-bounds_in_range rows =
-    then_with (points_in rows) _ (IsBetween 0 9223372036854775807) AreInRange (limit_in_range 0 9223372036854775807 1000000000 (first_of (codes "points") rows) (omega arith) (omega arith)) (λ points p.
+IsBudget : ℕ → Type 0
+IsBudget points = points ≤ 9223372036854775807
+
+budget_given : (rows : List Row) → IfSome (points_in rows) IsBudget
+unfolding IsBetween IsBudget
+budget_given rows =
+    weaker (points_in rows) (IsBetween 0 9223372036854775807) IsBudget
+    (limit_in_range 0 9223372036854775807 1000000000 (first_of (codes "points") rows) (omega arith) (omega arith)) (λ n p. p.1)
+
+bounds_in_range : (points : ℕ) (rows : List Row) → IsBudget points → IfSome (bounds_by points rows) AreInRange
+unfolding IsBetween IsBudget
+bounds_in_range points rows p =
     then_with (heap_in rows) _ (IsBetween 64 67108864) AreInRange (limit_in_range 64 67108864 1048576 (first_of (codes "heap") rows) (omega arith) (omega arith)) (λ heap h.
     then_with (stack_in rows) _ (IsBetween 1024 1048576) AreInRange (limit_in_range 1024 1048576 65536 (first_of (codes "stack") rows) (omega arith) (omega arith)) (λ stack s.
     map_with (threads_in rows) _ (IsBetween 1 64) AreInRange (limit_in_range 1 64 8 (first_of (codes "threads") rows) (omega arith) (omega arith)) (λ threads t.
-    record { points = p.1; heap = h; stack = s; threads = t }))))
+    record { points = p; heap = h; stack = s; threads = t })))
 
 nonempty_named : (text : Text) → IfSome (nonempty text) IsName
 nonempty_named [] = tt
@@ -72,11 +85,24 @@ given_named : (given : Option Text) → IfSome (given_name given) (λ name. IfSo
 given_named None = tt
 given_named (Some name) = map_with (nonempty name) (λ n. Some n) IsName (λ name. IfSome name IsName) (nonempty_named name) (λ n p. p)
 
-options_in_range : (rows : List Row) → IfSome (options_in rows) AreOptions
-options_in_range rows =
+options_by_range : (points : ℕ) (rows : List Row) → IsBudget points → IfSome (options_by points rows) AreOptions
+options_by_range points rows p =
     then_with (given_name (first_of (codes "switches") rows)) _ (λ name. IfSome name IsName) AreOptions (given_named (first_of (codes "switches") rows)) (λ switches s.
     then_with (given_name (first_of (codes "input") rows)) _ (λ name. IfSome name IsName) AreOptions (given_named (first_of (codes "input") rows)) (λ input i.
-    map_with (bounds_in rows) _ AreInRange AreOptions (bounds_in_range rows) (λ bounds b. (s, i, b))))
+    map_with (bounds_by points rows) _ AreInRange AreOptions (bounds_in_range points rows p) (λ bounds b. (s, i, b))))
+
+options_in_range : (rows : List Row) → IfSome (options_in rows) AreOptions
+options_in_range rows = then_with (points_in rows) _ IsBudget AreOptions (budget_given rows) (λ points p. options_by_range points rows p)
+
+at_in_range : (rows : List Row) → IfSome (at_in rows) IsBudget
+unfolding IsBetween IsBudget
+at_in_range rows =
+    then_any (first_of (codes "at") rows) _ IsBudget (λ digits.
+    then_any (number_of digits) (within 0 9223372036854775807) IsBudget (λ n.
+    weaker (within 0 9223372036854775807 n) (IsBetween 0 9223372036854775807) IsBudget (within_range 0 9223372036854775807 n) (λ k p. p.1)))
+
+options_at_range : (rows : List Row) → IfSome (options_at rows) AreOptions
+options_at_range rows = then_with (at_in rows) _ IsBudget AreOptions (at_in_range rows) (λ points p. options_by_range points rows p)
 
 are_named : (names : List Text) → list_all is_named names ≡ true → AllByRecursion IsName names
 are_named [] e = tt
@@ -116,6 +142,11 @@ bench_in_range rows =
     map_with (option_and_then number_of (first_of (codes "N") rows)) bench (λ n. n < 2 ^ 64) IsInRange
     (then_any (first_of (codes "N") rows) number_of (λ n. n < 2 ^ 64) number_in_range) (λ n p. p)
 
+inspect_in_range : (rows : List Row) → IfSome (inspect_in rows) IsInRange
+inspect_in_range rows =
+    then_with (word_in (codes "IMAGE") rows) _ IsName IsInRange (word_named (codes "IMAGE") rows) (λ image i.
+    map_with (options_at rows) (inspect image) AreOptions IsInRange (options_at_range rows) (λ options o. (i, o)))
+
 order_in_range : (name : Text) (rows : List Row) → IfSome (order_in name rows) IsInRange
 unfolding order_in
 order_in_range name rows =
@@ -123,7 +154,8 @@ order_in_range name rows =
     (either_order (bytes_eq name (codes "run")) (run_in rows) _ (run_in_range rows)
     (either_order (bytes_eq name (codes "exec")) (exec_in rows) _ (exec_in_range rows)
     (either_order (bytes_eq name (codes "dump")) (dump_in rows) _ (dump_in_range rows)
-    (either_order (bytes_eq name (codes "bench")) (bench_in rows) None (bench_in_range rows) tt))))
+    (either_order (bytes_eq name (codes "bench")) (bench_in rows) _ (bench_in_range rows)
+    (either_order (bytes_eq name (codes "inspect")) (inspect_in rows) None (inspect_in_range rows) tt)))))
 
 pub asked_in_range : (words : List Text) → IfSome (asked words) IsInRange
 asked_in_range words = then_any (parsed words) (λ found. order_in found.0 found.1) IsInRange (λ found. order_in_range found.0 found.1)

@@ -205,7 +205,7 @@ exec_files front words none =
     let same : w ≡ state w.held w.waiting w.position w.is_trailing None
     = ap (λ (stopped : Option (Text × List Text)). state w.held w.waiting w.position w.is_trailing stopped) (never_stops rules front nothing_held idle 1 false) in
     let behind_none : walk_fault exec_leaf [] w (codes "--" ∷ words) ≡ [] = none_before exec_leaf [] (walk_from nothing_held) front (codes "--" ∷ words) none in
-    ap files (no_defaults rules (refl, (refl, (refl, (refl, (refl, (refl, (refl, tt))))))) (settled rules (walk rules [] nothing_held (front ++ codes "--" ∷ words)).held).rows)
+    ap files (no_defaults rules (refl, (refl, (refl, (refl, (refl, (refl, (refl, (refl, tt)))))))) (settled rules (walk rules [] nothing_held (front ++ codes "--" ∷ words)).held).rows)
     ∙ ap (λ (v : Walk). names_held v.held) (fold_append (walked rules []) (walk_from nothing_held) front (codes "--" ∷ words))
     ∙ ap (λ (v : Walk). names_held (fold (walked rules []) v (codes "--" ∷ words)).held) same
     ∙ dashes_add words w.held w.waiting w.position w.is_trailing (subst (λ (v : Walk). walk_fault exec_leaf [] v (codes "--" ∷ words) ≡ []) same behind_none)

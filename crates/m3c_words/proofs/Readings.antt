@@ -30,7 +30,7 @@ use Rattle.clap.specs.declared.parser.matches.SubCommand.{SubCommand}
 use Rattle.clap.proofs.WalkLemmas.{both}
 use Rattle.m3c_words.specs.Grammar.{grammar}
 use Rattle.m3c_words.specs.Built.{ReadsBy}
-use Rattle.m3c_words.specs.Asked.{as_files, bench_in, build_in, dump_in, exec_in, files_in, is_named, most_files, number_of, order_in, parsed, run_in}
+use Rattle.m3c_words.specs.Asked.{as_files, bench_in, build_in, dump_in, exec_in, files_in, inspect_in, is_named, most_files, number_of, order_in, parsed, run_in}
 use Rattle.m3c_words.proofs.Grammars.{is_simple_grammar}
 
 -- ---- numbers
@@ -116,11 +116,15 @@ pub order_of_bench : (rows : List Row) → order_in (codes "bench") rows ≡ ben
 unfolding order_in
 order_of_bench rows = refl
 
-pub order_of_none : (name : List ℕ) (rows : List Row) → (name ≡ codes "build" → ⊥) → (name ≡ codes "run" → ⊥) → (name ≡ codes "exec" → ⊥) → (name ≡ codes "dump" → ⊥) → (name ≡ codes "bench" → ⊥)
-    → order_in name rows ≡ None
+pub order_of_inspect : (rows : List Row) → order_in (codes "inspect") rows ≡ inspect_in rows
 unfolding order_in
-order_of_none name rows build run exec dump bench =
-    rw (other name (codes "build") build, other name (codes "run") run, other name (codes "exec") exec, other name (codes "dump") dump, other name (codes "bench") bench) refl
+order_of_inspect rows = refl
+
+pub order_of_none : (name : List ℕ) (rows : List Row) → (name ≡ codes "build" → ⊥) → (name ≡ codes "run" → ⊥) → (name ≡ codes "exec" → ⊥) → (name ≡ codes "dump" → ⊥) → (name ≡ codes "bench" → ⊥)
+    → (name ≡ codes "inspect" → ⊥) → order_in name rows ≡ None
+unfolding order_in
+order_of_none name rows build run exec dump bench inspect =
+    rw (other name (codes "build") build, other name (codes "run") run, other name (codes "exec") exec, other name (codes "dump") dump, other name (codes "bench") bench, other name (codes "inspect") inspect) refl
 
 -- ---- what clap makes of words
 

@@ -1,5 +1,5 @@
 -- What the words of a command line ask for, if they are one.
-use Rattle.std.specs.Prelude.{ℕ, ◌^◌, ◌&&◌, Bool, not, nat_lt, nat_le, if◌then◌else◌, Option, None, Some, List, length, codes, option_and_then}
+use Rattle.std.specs.Prelude.{ℕ, ◌^◌, ◌&&◌, Bool, false, not, is_some, nat_lt, nat_le, if◌then◌else◌, Option, None, Some, List, length, codes, option_and_then}
 use Rattle.std.specs.Option.{option_map}
 use Rattle.std.specs.List.{list_all}
 use Rattle.std.specs.Str.{bytes_eq}
@@ -10,7 +10,7 @@ use Rattle.clap.specs.declared.parser.matches.ArgMatches.{ArgMatches}
 use Rattle.clap.specs.Simple.{subcommand_of}
 use Rattle.clap.specs.Faults.{fault_of}
 use Rattle.clap.specs.ValueTests.{is_numeral}
-use Rattle.m3c_words.specs.Orders.{Bounds, Options, Order, build, run, exec, dump, bench}
+use Rattle.m3c_words.specs.Orders.{Bounds, Options, Order, build, run, exec, dump, bench, inspect}
 use Rattle.m3c_words.specs.Grammar.{grammar}
 
 -- what a parse found for each option and plain word
@@ -60,6 +60,10 @@ limit_of least most usual (Some digits) = option_and_then (within least most) (n
 abbrev pub points_in : List Row → Option ℕ
 points_in rows = limit_of 0 9223372036854775807 1000000000 (first_of (codes "points") rows)
 
+-- the points after which `inspect` looks, which must be given
+abbrev pub at_in : List Row → Option ℕ
+at_in rows = option_and_then (λ digits. option_and_then (within 0 9223372036854775807) (number_of digits)) (first_of (codes "at") rows)
+
 abbrev pub heap_in : List Row → Option ℕ
 heap_in rows = limit_of 64 67108864 1048576 (first_of (codes "heap") rows)
 
@@ -71,24 +75,37 @@ threads_in rows = limit_of 1 64 8 (first_of (codes "threads") rows)
 
 -- ---- the options of a run
 
-abbrev pub bounds_in : List Row → Option Bounds
-bounds_in rows =
-    option_and_then (λ points. option_and_then (λ heap. option_and_then (λ stack. option_map (λ threads.
-    record { points = points; heap = heap; stack = stack; threads = threads })
-    (threads_in rows)) (stack_in rows)) (heap_in rows)) (points_in rows)
+-- whether the flag is given
+abbrev pub young_in : List Row → Bool
+young_in rows = is_some (first_of (codes "young") rows)
 
-abbrev pub options_in : List Row → Option Options
-options_in rows =
+-- with so many points
+abbrev pub bounds_by : ℕ → List Row → Option Bounds
+bounds_by points rows =
+    option_and_then (λ heap. option_and_then (λ stack. option_map (λ threads.
+    record { points = points; heap = heap; stack = stack; threads = threads; young = young_in rows })
+    (threads_in rows)) (stack_in rows)) (heap_in rows)
+
+abbrev pub options_by : ℕ → List Row → Option Options
+options_by points rows =
     option_and_then (λ switches. option_and_then (λ input. option_map (λ bounds.
     record { switches = switches; input = input; bounds = bounds })
-    (bounds_in rows)) (given_name (first_of (codes "input") rows))) (given_name (first_of (codes "switches") rows))
+    (bounds_by points rows)) (given_name (first_of (codes "input") rows))) (given_name (first_of (codes "switches") rows))
+
+-- those of `run` and `exec`
+abbrev pub options_in : List Row → Option Options
+options_in rows = option_and_then (λ points. options_by points rows) (points_in rows)
+
+-- those of `inspect`
+abbrev pub options_at : List Row → Option Options
+options_at rows = option_and_then (λ points. options_by points rows) (at_in rows)
 
 -- where no option is given
 abbrev pub usual_options : Options
 usual_options = record {
   switches = None;
   input = None;
-  bounds = record { points = 1000000000; heap = 1048576; stack = 65536; threads = 8 };
+  bounds = record { points = 1000000000; heap = 1048576; stack = 65536; threads = 8; young = false };
 }
 
 -- ---- the commands
@@ -108,6 +125,9 @@ dump_in rows = option_map dump (word_in (codes "IMAGE") rows)
 abbrev pub bench_in : List Row → Option Order
 bench_in rows = option_map bench (option_and_then number_of (first_of (codes "N") rows))
 
+abbrev pub inspect_in : List Row → Option Order
+inspect_in rows = option_and_then (λ image. option_map (inspect image) (options_at rows)) (word_in (codes "IMAGE") rows)
+
 -- the command of this name with what was found of its words and options
 unfoldable pub order_in : Text → List Row → Option Order
 order_in name rows =
@@ -116,7 +136,8 @@ order_in name rows =
     else (if bytes_eq name (codes "exec") then exec_in rows
     else (if bytes_eq name (codes "dump") then dump_in rows
     else (if bytes_eq name (codes "bench") then bench_in rows
-    else None))))
+    else (if bytes_eq name (codes "inspect") then inspect_in rows
+    else None)))))
 
 -- the command that the words name with what is found of its words and options, where they keep to the grammar
 unfoldable pub parsed : List Text → Option (Text × List Row)

@@ -11,6 +11,15 @@ use Rattle.clap.specs.declared.builder.action.ArgAction.TheVariants.{Set, Append
 abbrev pub option : Text → Rule
 option name = record (new_rule name) { long = Some name; action = Some Set }
 
+-- a flag, which is written without a value, and then has this one
+abbrev pub flag : Text → Rule
+flag name = record (new_rule name) {
+  long = Some name;
+  action = Some Set;
+  range = Some (record { start_inclusive = 0; end_inclusive = 0 });
+  missing = codes "true" ∷ [];
+}
+
 -- one plain word, which must be there
 abbrev pub word : Text → Rule
 word id = record (new_rule id) { action = Some Set; required = true }
@@ -33,25 +42,33 @@ image_word = word (codes "IMAGE")
 abbrev pub file_words : Rule
 file_words = words (codes "FILE")
 
-abbrev pub run_options : List Rule
-run_options =
-    option (codes "switches") ∷ option (codes "points") ∷ option (codes "heap") ∷ option (codes "stack")
-    ∷ option (codes "threads") ∷ option (codes "input") ∷ []
+-- the options of a run, of which one of this name says its points
+abbrev pub options_with : Text → List Rule
+options_with points =
+    option (codes "switches") ∷ option points ∷ option (codes "heap") ∷ option (codes "stack")
+    ∷ option (codes "threads") ∷ option (codes "input") ∷ flag (codes "young") ∷ []
 
 abbrev pub build_command : Shape
 build_command = command (codes "build") (image_word ∷ file_words ∷ [])
 
+-- a command over one image with the options of a run
+abbrev pub image_command : (name points : Text) → Shape
+image_command name points = command name (image_word ∷ options_with points)
+
 abbrev pub run_command : Shape
-run_command = command (codes "run") (image_word ∷ run_options)
+run_command = image_command (codes "run") (codes "points")
 
 abbrev pub exec_command : Shape
-exec_command = command (codes "exec") (file_words ∷ run_options)
+exec_command = command (codes "exec") (file_words ∷ options_with (codes "points"))
 
 abbrev pub dump_command : Shape
 dump_command = command (codes "dump") (image_word ∷ [])
 
 abbrev pub bench_command : Shape
 bench_command = command (codes "bench") (word (codes "N") ∷ [])
+
+abbrev pub inspect_command : Shape
+inspect_command = image_command (codes "inspect") (codes "at")
 
 -- the commands, one of which must be named
 unfoldable pub grammar : App
@@ -62,5 +79,5 @@ grammar = record {
     disable_help_subcommand = true;
     subcommand_required = true;
   };
-  subs = build_command ∷ run_command ∷ exec_command ∷ dump_command ∷ bench_command ∷ [];
+  subs = build_command ∷ run_command ∷ exec_command ∷ dump_command ∷ bench_command ∷ inspect_command ∷ [];
 }

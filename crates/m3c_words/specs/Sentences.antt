@@ -2,7 +2,7 @@
 use Rattle.std.specs.Prelude.{◌≡◌, ◌≢◌, ◌≤◌, ◌<◌, ◌^◌, IfSome, length, Option, None, Some, List, [], ◌∷◌, ◌++◌, codes}
 use Rattle.std.specs.List.{AllByRecursion}
 use Rattle.clap.specs.Walk.{Text}
-use Rattle.m3c_words.specs.Orders.{Bounds, Options, Order, build, run, exec, dump, bench}
+use Rattle.m3c_words.specs.Orders.{Bounds, Options, Order, build, run, exec, dump, bench, inspect}
 use Rattle.m3c_words.specs.Asked.{asked}
 
 -- ---- the first word is the command
@@ -13,6 +13,7 @@ command_asked (run image options) = codes "run"
 command_asked (exec files options) = codes "exec"
 command_asked (dump image) = codes "dump"
 command_asked (bench number) = codes "bench"
+command_asked (inspect image options) = codes "inspect"
 
 abbrev pub BeginsWithCommand : List Text → Order → Type 0
 BeginsWithCommand words order = (rest : List Text) × (words ≡ command_asked order ∷ rest)
@@ -27,6 +28,7 @@ with_behind command front back = command ∷ (front ++ codes "--" ∷ back)
 abbrev pub options_asked : Order → Option Options
 options_asked (run image options) = Some options
 options_asked (exec files options) = Some options
+options_asked (inspect image options) = Some options
 options_asked other = None
 
 -- whatever stands behind `--`, the options are the same: no word there is one
@@ -42,6 +44,7 @@ names_asked (run image options) = image ∷ []
 names_asked (exec files options) = files
 names_asked (dump image) = image ∷ []
 names_asked (bench number) = []
+names_asked (inspect image options) = image ∷ []
 
 -- the words before `--` give some names, and each word behind it, whatever it is, is one more
 abbrev pub HasNamesBehind : Text → Type 0
@@ -73,3 +76,4 @@ IsInRange (run image options) = IsName image × AreOptions options
 IsInRange (exec files options) = AreFiles files × AreOptions options
 IsInRange (dump image) = IsName image
 IsInRange (bench number) = number < 2 ^ 64
+IsInRange (inspect image options) = IsName image × AreOptions options

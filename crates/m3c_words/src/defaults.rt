@@ -13,6 +13,7 @@ impl Limits {
             heap: 1_048_576,
             stack: 65_536,
             threads: 8,
+            young: false,
         }
     }
 
@@ -25,6 +26,7 @@ impl Limits {
             heap: 32_768,
             stack: 16_384,
             threads: 8,
+            young: false,
         }
     }
 }

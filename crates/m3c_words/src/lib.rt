@@ -23,12 +23,13 @@ pub fn first_word_is_the_command()
         → BeginsWithCommand words order }
 {}
 
-/// A word behind `--` is never an option: whatever stands there, the options of `run` and `exec` are
-/// those of the words before it. For `exec` each word behind it, also one as `--heap=64` or another
+/// A word behind `--` is never an option: whatever stands there, the options of `run`, `exec` and
+/// `inspect` are those of the words before it. For `exec` each word behind it, also one as `--heap=64` or another
 /// `--`, is a FILE, in its place behind those before it.
 pub fn words_behind_dashes_are_names()
     ensures run { HasOptionsBefore (codes "run") }
     ensures exec { HasOptionsBefore (codes "exec") }
+    ensures inspect { HasOptionsBefore (codes "inspect") }
     ensures files { HasNamesBehind (codes "exec") }
 {}
 

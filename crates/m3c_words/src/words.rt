@@ -1,5 +1,5 @@
 //! The commands and their words.
-ghost use Rattle.std.specs.Prelude.{◌≡◌, ◌↔◌, ◌&&◌, IfOk, IsTrue, length, map, nat_le};
+ghost use Rattle.std.specs.Prelude.{◌≡◌, ◌≤◌, ◌↔◌, ◌&&◌, IfOk, IsTrue, length, map, nat_le};
 ghost use Rattle.std.specs.List.{list_all};
 ghost use Rattle.std.specs.Option.{option_map};
 ghost use Rattle.clap.specs.Walk.{first_of};
@@ -7,11 +7,12 @@ ghost use Rattle.clap.specs.Values.{kind_of};
 ghost use Rattle.m3c_words.specs.Orders.{name_of, options_of, order_of};
 ghost use Rattle.m3c_words.specs.Asked.{asked, bench_in, build_in, dump_in, exec_in, run_in};
 ghost use Rattle.m3c_words.specs.Asked.{files_in, given_name, is_named, most_files, word_in};
-ghost use Rattle.m3c_words.specs.Asked.{options_in, order_in, rows_in};
+ghost use Rattle.m3c_words.specs.Asked.{inspect_in, options_at, options_by, options_in};
+ghost use Rattle.m3c_words.specs.Asked.{order_in, rows_in};
 
 use crate::grammar::whole_command;
 use crate::limits::Limits;
-use crate::ranges::{limits_of, number_in};
+use crate::ranges::{at_of, limits_of, number_in, points_of};
 use clap::error::ErrorKind;
 use clap::{ArgMatches, Error};
 use m3_base::NoMemory;
@@ -40,6 +41,11 @@ pub enum Request<'a> {
     },
     Bench {
         number: u64,
+    },
+    /// The points of the options are those after which the image is looked at.
+    Inspect {
+        image: &'a str,
+        options: RunOptions<'a>,
     },
 }
 
@@ -100,15 +106,32 @@ fn files_of<'a>(alloc: Global, matches: &ArgMatches<'a>) -> Result<Option<Vec<&'
     Ok(Some(Vec::from_slice(alloc, words)?))
 }
 
-/// The options of a run. None exactly where one isn't in its range, or a name is empty.
-fn run_options<'a>(matches: &ArgMatches<'a>) -> Option<RunOptions<'a>>
-    ensures { option_map options_of result ≡ options_in (rows_in matches.now) }
+/// The options of a run of so many points. None exactly where one isn't in its range, or a name is
+/// empty.
+fn options_by<'a>(matches: &ArgMatches<'a>, points: u64) -> Option<RunOptions<'a>>
+    requires { points ≤ 9223372036854775807 }
+    ensures { option_map options_of result ≡ options_by points (rows_in matches.now) }
 {
     Some(RunOptions {
         switches: given_name(matches, "switches")?,
         input: given_name(matches, "input")?,
-        limits: limits_of(matches)?,
+        limits: limits_of(matches, points)?,
     })
+}
+
+/// The options of `run` and `exec`. None exactly where one isn't in its range, or a name is empty.
+fn run_options<'a>(matches: &ArgMatches<'a>) -> Option<RunOptions<'a>>
+    ensures { option_map options_of result ≡ options_in (rows_in matches.now) }
+{
+    options_by(matches, points_of(matches)?)
+}
+
+/// The options of `inspect`. None exactly where `--at` isn't given, one isn't in its range, or a
+/// name is empty.
+fn inspect_options<'a>(matches: &ArgMatches<'a>) -> Option<RunOptions<'a>>
+    ensures { option_map options_of result ≡ options_at (rows_in matches.now) }
+{
+    options_by(matches, at_of(matches)?)
 }
 
 fn build_request<'a>(
@@ -163,6 +186,15 @@ fn bench_request<'a>(matches: &ArgMatches<'a>) -> Option<Request<'a>>
     })
 }
 
+fn inspect_request<'a>(matches: &ArgMatches<'a>) -> Option<Request<'a>>
+    ensures { option_map order_of result ≡ inspect_in (rows_in matches.now) }
+{
+    Some(Request::Inspect {
+        image: word_of(matches, "IMAGE")?,
+        options: inspect_options(matches)?,
+    })
+}
+
 /// What a command asks for with what was found of its words and options.
 fn request_of<'a>(
     alloc: Global,
@@ -178,6 +210,7 @@ fn request_of<'a>(
         "exec" => exec_request(alloc, matches),
         "dump" => Ok(dump_request(matches)),
         "bench" => Ok(bench_request(matches)),
+        "inspect" => Ok(inspect_request(matches)),
         _ => Ok(None),
     }
 }

@@ -7,17 +7,17 @@ use Rattle.clap.specs.Faults.{check_fault, entered_fault, level_fault, turn_faul
 use Rattle.clap.specs.Simple.{built, entered, rows_at}
 use Rattle.clap.specs.Takes.{is_given}
 use Rattle.clap.specs.Walk.{Row, Text, all_of, first_of, idle, nonempty, nothing_held, rows_after, walk_from, walked}
-use Rattle.m3c_words.specs.Orders.{Options, Order, build, run, exec, dump, bench}
-use Rattle.m3c_words.specs.Grammar.{bench_command, build_command, dump_command, exec_command, grammar, run_command}
-use Rattle.m3c_words.specs.Asked.{as_files, asked, bench_in, build_in, dump_in, exec_in, files_in, number_of, options_in, order_in, run_in, word_in}
+use Rattle.m3c_words.specs.Orders.{Options, Order, build, run, exec, dump, bench, inspect}
+use Rattle.m3c_words.specs.Grammar.{bench_command, build_command, dump_command, exec_command, grammar, inspect_command, run_command}
+use Rattle.m3c_words.specs.Asked.{as_files, asked, bench_in, build_in, dump_in, exec_in, files_in, inspect_in, number_of, options_at, options_in, order_in, run_in, word_in}
 use Rattle.m3c_words.specs.Sentences.{IsName, command_asked}
 use Rattle.m3c_words.proofs.Behind.{HasNoDefault, leaf}
 use Rattle.m3c_words.proofs.First.{begins_with_command}
-use Rattle.m3c_words_laws.specs.Reads.{AreOptionsOf, AreSomeFiles, AreTexts, Given, IsNumber, Reads, Spell, options_of_runs, reads_bench, reads_build, reads_dump, reads_exec, reads_run}
+use Rattle.m3c_words_laws.specs.Reads.{AreOptionsAt, AreOptionsOf, AreSomeFiles, AreTexts, Given, IsNumber, Reads, Spell, options_of_inspect, options_of_runs, reads_bench, reads_build, reads_dump, reads_exec, reads_inspect, reads_run}
 use Rattle.m3c_words_laws.proofs.Finding.{given_of}
-use Rattle.m3c_words_laws.proofs.Leaves.{keeps_files, keeps_image, keeps_none, knows_bench, knows_build, knows_dump, knows_exec, knows_run, names_bench, names_build, names_dump, names_exec, names_run, no_given, rules_of, starts}
+use Rattle.m3c_words_laws.proofs.Leaves.{keeps_files, keeps_image, keeps_none, knows_bench, knows_build, knows_dump, knows_exec, knows_inspect, knows_run, names_bench, names_build, names_dump, names_exec, names_inspect, names_run, no_given, rules_of, starts}
 use Rattle.m3c_words_laws.proofs.Levels.{asked_passes, commands, end_rows, leaf_passed, leaf_passes, leaf_rows, passes_asked, stopped, top}
-use Rattle.m3c_words_laws.proofs.Meanings.{are_files, are_options, files_are, first_from, is_number, is_word, map_some, number_is, options_are, then_some, word_is}
+use Rattle.m3c_words_laws.proofs.Meanings.{are_at, are_files, are_options, at_are, files_are, first_from, is_number, is_word, map_some, number_is, options_are, then_some, word_is}
 use Rattle.m3c_words_laws.proofs.Names.{HasFiles, HasImage, HasName, IsFirst, IsPlaceOf, file_id, image_id, listed, others_of_names}
 use Rattle.m3c_words_laws.proofs.Steps.{leaf_of}
 use Rattle.m3c_words_laws.proofs.Walking.{Rows, passes_all, spelled}
@@ -88,7 +88,7 @@ exec_finds words = refl
 -- ---- exec
 
 exec_plain : AllByRecursion HasNoDefault (rules_of exec_command)
-exec_plain = (refl, (refl, (refl, (refl, (refl, (refl, (refl, tt)))))))
+exec_plain = (refl, (refl, (refl, (refl, (refl, (refl, (refl, (refl, tt))))))))
 
 exec_order_in : (rows : List Row) → order_in (codes "exec") rows ≡ exec_in rows
 unfolding order_in
@@ -146,7 +146,7 @@ unfolding order_in
 run_order_in rows = refl
 
 run_plain : AllByRecursion HasNoDefault (rules_of run_command)
-run_plain = (refl, (refl, (refl, (refl, (refl, (refl, (refl, tt)))))))
+run_plain = (refl, (refl, (refl, (refl, (refl, (refl, (refl, (refl, tt))))))))
 
 run_check : (rows : List Row) → is_given image_id rows ≡ true → check_fault (leaf_of (codes "run") (rules_of run_command)) rows false ≡ []
 run_check rows e = rw e refl
@@ -155,7 +155,7 @@ run_reads : (words : List Text) (order : Order) → AreTexts words → asked (co
 run_reads words order texts e =
     let a = asked_passes (codes "run") (leaf run_command) run_starts run_turns run_enters run_finds words order e in
     let p = leaf_passed (codes "run") (rules_of run_command) run_plain words a.0 in
-    let s = spelled (codes "run") (rules_of run_command) options_of_runs 1 (HasName image_id) IsPlaceOf knows_run keeps_image names_run words nothing_held idle 1 [] [] tt texts (starts (rules_of run_command) options_of_runs 1 (HasName image_id) IsPlaceOf refl (refl, omega arith)) p.0 in
+    let s = spelled (codes "run") (rules_of run_command) options_of_runs 1 (HasName image_id) IsPlaceOf knows_run (keeps_image (codes "points") refl) names_run words nothing_held idle 1 [] [] tt texts (starts (rules_of run_command) options_of_runs 1 (HasName image_id) IsPlaceOf refl (refl, omega arith)) p.0 in
     let rows : List Row = end_rows (codes "run") (rules_of run_command) run_plain words in
     let o : run_in rows ≡ Some order = ap run_in (sym (leaf_rows (codes "run") (rules_of run_command) run_plain words)) ∙ sym (run_order_in (rows_after (rules_of run_command) [] words)) ∙ a.1 in
     let f = then_some (λ image. option_map (run image) (options_in rows)) (word_in image_id rows) order o in
@@ -167,7 +167,7 @@ run_reads words order texts e =
 run_asks : (words : List Text) (given : Given) (image : Text) (options : Options) → Spell options_of_runs words given (image ∷ []) → IsName image → AreOptionsOf given options → asked (codes "run" ∷ words) ≡ Some (run image options)
 run_asks words given image options spell some opts =
     let rows : List Row = end_rows (codes "run") (rules_of run_command) run_plain words in
-    let p = passes_all (codes "run") (rules_of run_command) options_of_runs 1 (HasName image_id) IsPlaceOf knows_run keeps_image names_run words given (image ∷ []) spell nothing_held idle 1 [] [] tt (starts (rules_of run_command) options_of_runs 1 (HasName image_id) IsPlaceOf refl (refl, omega arith)) opts.apart (omega arith) in
+    let p = passes_all (codes "run") (rules_of run_command) options_of_runs 1 (HasName image_id) IsPlaceOf knows_run (keeps_image (codes "points") refl) names_run words given (image ∷ []) spell nothing_held idle 1 [] [] tt (starts (rules_of run_command) options_of_runs 1 (HasName image_id) IsPlaceOf refl (refl, omega arith)) opts.apart (omega arith) in
     let r : Rows options_of_runs (HasName image_id) rows given (image ∷ []) = p.1 in
     let there : is_given image_id rows ≡ true = given_of image_id rows r.explicit ∙ ap is_some r.named.0 in
     passes_asked (codes "run") (leaf run_command) run_starts run_turns run_enters run_finds words (leaf_passes (codes "run") (rules_of run_command) run_plain words p.0 (run_check rows there))
@@ -176,6 +176,60 @@ run_asks words given image options spell some opts =
   where
     run_is : (f : Option Text) (o : Option Options) → f ≡ Some image → o ≡ Some options → option_and_then (λ name. option_map (run name) o) f ≡ Some (run image options)
     run_is f o e k = rw (e, k) refl
+
+-- ---- inspect
+
+inspect_starts : walked top.rules commands (walk_from nothing_held) (codes "inspect") ≡ stopped (codes "inspect") []
+unfolding grammar walked
+inspect_starts = refl
+
+inspect_turns : turn_fault top commands (walk_from nothing_held) (codes "inspect") ≡ []
+unfolding grammar
+inspect_turns = refl
+
+inspect_enters : (words : List Text) → entered_fault (built grammar) (Some (codes "inspect", words)) ≡ level_fault (leaf inspect_command) [] nothing_held words false []
+unfolding grammar
+inspect_enters words = refl
+
+inspect_finds : (words : List Text) → entered (built grammar) (Some (codes "inspect", words)) ≡ Some (rows_at (leaf inspect_command) words)
+unfolding grammar
+inspect_finds words = refl
+
+inspect_order_in : (rows : List Row) → order_in (codes "inspect") rows ≡ inspect_in rows
+unfolding order_in
+inspect_order_in rows = refl
+
+inspect_plain : AllByRecursion HasNoDefault (rules_of inspect_command)
+inspect_plain = (refl, (refl, (refl, (refl, (refl, (refl, (refl, (refl, tt))))))))
+
+inspect_check : (rows : List Row) → is_given image_id rows ≡ true → check_fault (leaf_of (codes "inspect") (rules_of inspect_command)) rows false ≡ []
+inspect_check rows e = rw e refl
+
+inspect_reads : (words : List Text) (order : Order) → AreTexts words → asked (codes "inspect" ∷ words) ≡ Some order → Reads (codes "inspect" ∷ words) order
+inspect_reads words order texts e =
+    let a = asked_passes (codes "inspect") (leaf inspect_command) inspect_starts inspect_turns inspect_enters inspect_finds words order e in
+    let p = leaf_passed (codes "inspect") (rules_of inspect_command) inspect_plain words a.0 in
+    let s = spelled (codes "inspect") (rules_of inspect_command) options_of_inspect 1 (HasName image_id) IsPlaceOf knows_inspect (keeps_image (codes "at") refl) names_inspect words nothing_held idle 1 [] [] tt texts (starts (rules_of inspect_command) options_of_inspect 1 (HasName image_id) IsPlaceOf refl (refl, omega arith)) p.0 in
+    let rows : List Row = end_rows (codes "inspect") (rules_of inspect_command) inspect_plain words in
+    let o : inspect_in rows ≡ Some order = ap inspect_in (sym (leaf_rows (codes "inspect") (rules_of inspect_command) inspect_plain words)) ∙ sym (inspect_order_in (rows_after (rules_of inspect_command) [] words)) ∙ a.1 in
+    let f = then_some (λ image. option_map (inspect image) (options_at rows)) (word_in image_id rows) order o in
+    let g = map_some (inspect f.0) (options_at rows) order f.2 in
+    let w = word_is (first_of image_id rows) f.0 f.1 in
+    subst (λ (x : Order). Reads (codes "inspect" ∷ words) x) g.2
+    (reads_inspect words s.more f.0 g.0 (subst (λ (ns : List Text). Spell options_of_inspect words s.more ns) (one_read image_id rows s.others f.0 s.holds.named w.0) s.spell) w.1 (at_are rows s.more s.holds.known g.0 s.holds.apart g.1))
+
+inspect_asks : (words : List Text) (given : Given) (image : Text) (options : Options) → Spell options_of_inspect words given (image ∷ []) → IsName image → AreOptionsAt given options → asked (codes "inspect" ∷ words) ≡ Some (inspect image options)
+inspect_asks words given image options spell some opts =
+    let rows : List Row = end_rows (codes "inspect") (rules_of inspect_command) inspect_plain words in
+    let p = passes_all (codes "inspect") (rules_of inspect_command) options_of_inspect 1 (HasName image_id) IsPlaceOf knows_inspect (keeps_image (codes "at") refl) names_inspect words given (image ∷ []) spell nothing_held idle 1 [] [] tt (starts (rules_of inspect_command) options_of_inspect 1 (HasName image_id) IsPlaceOf refl (refl, omega arith)) opts.apart (omega arith) in
+    let r : Rows options_of_inspect (HasName image_id) rows given (image ∷ []) = p.1 in
+    let there : is_given image_id rows ≡ true = given_of image_id rows r.explicit ∙ ap is_some r.named.0 in
+    passes_asked (codes "inspect") (leaf inspect_command) inspect_starts inspect_turns inspect_enters inspect_finds words (leaf_passes (codes "inspect") (rules_of inspect_command) inspect_plain words p.0 (inspect_check rows there))
+    ∙ inspect_order_in (rows_after (rules_of inspect_command) [] words) ∙ ap inspect_in (leaf_rows (codes "inspect") (rules_of inspect_command) inspect_plain words)
+    ∙ inspect_is (word_in image_id rows) (options_at rows) (ap (option_and_then nonempty) (read_one image_id rows image r.named.0) ∙ is_word image some) (are_at rows given r.known options opts)
+  where
+    inspect_is : (f : Option Text) (o : Option Options) → f ≡ Some image → o ≡ Some options → option_and_then (λ name. option_map (inspect name) o) f ≡ Some (inspect image options)
+    inspect_is f o e k = rw (e, k) refl
 
 -- ---- dump
 
@@ -354,6 +408,7 @@ by_command (run image options) rest texts e = run_reads rest (run image options)
 by_command (exec files options) rest texts e = exec_reads rest (exec files options) texts e
 by_command (dump image) rest texts e = dump_reads rest (dump image) texts e
 by_command (bench number) rest texts e = bench_reads rest (bench number) texts e
+by_command (inspect image options) rest texts e = inspect_reads rest (inspect image options) texts e
 
 pub asked_reads : (words : List Text) (order : Order) → AreTexts words → asked words ≡ Some order → Reads words order
 asked_reads words order texts e =
@@ -367,3 +422,4 @@ reads_asked ws order (reads_run words given image options spell named opts) = ru
 reads_asked ws order (reads_exec words given files options spell some opts) = exec_asks words given files options spell some opts
 reads_asked ws order (reads_dump words image spell named) = dump_asks words image spell named
 reads_asked ws order (reads_bench words digits number spell is low) = bench_asks words digits number spell is low
+reads_asked ws order (reads_inspect words given image options spell named opts) = inspect_asks words given image options spell named opts

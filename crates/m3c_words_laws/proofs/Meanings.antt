@@ -1,6 +1,6 @@
 -- What options, numbers and FILEs ask for, both ways.
 use Rattle.std.proofs.Common.{◌≡◌, ◌∙◌, ◌&&◌, ◌≤◌, ◌<◌, ◌^◌, ℕ, Bool, cond, length, List, [], ◌∷◌, None, Some, Option, true, false, refl, sym, ap, subst, inl, inr, codes, arith, nat_le, nat_lt, leb-true, ltb-true}
-use Rattle.std.specs.Prelude.{find, option_and_then, slice_get}
+use Rattle.std.specs.Prelude.{find, is_some, option_and_then, slice_get}
 use Rattle.std.specs.List.{AllByRecursion, list_all}
 use Rattle.std.specs.Option.{option_map}
 use Rattle.std.specs.Char.{digit_value}
@@ -11,10 +11,10 @@ use Rattle.clap.specs.ValueTests.{is_numeral}
 use Rattle.clap.specs.Walk.{Row, Text, all_of, first_of, is_empty, nonempty}
 use Rattle.clap.proofs.WalkLemmas.{both}
 use Rattle.m3c_words.specs.Orders.{Bounds, Options}
-use Rattle.m3c_words.specs.Asked.{as_files, bounds_in, given_name, is_named, limit_of, most_files, number_of, options_in, within}
+use Rattle.m3c_words.specs.Asked.{as_files, bounds_by, given_name, is_named, limit_of, most_files, number_of, options_at, options_by, options_in, within}
 use Rattle.m3c_words.specs.Sentences.{AreFiles, IsName}
 use Rattle.m3c_words.proofs.Readings.{said_number}
-use Rattle.m3c_words_laws.specs.Reads.{AreApart, AreOptionsOf, Given, IsGivenName, IsLimit, IsNumber, IsOneOf, options_of_runs, value_of}
+use Rattle.m3c_words_laws.specs.Reads.{AreApart, AreOptionsAt, AreOptionsBy, AreOptionsOf, Given, IsGivenName, IsLimit, IsNumber, IsOneOf, IsSaid, options_with, value_of}
 use Rattle.m3c_words_laws.proofs.Walking.{as_values}
 
 module _ {X Y : Type 0} where
@@ -87,11 +87,20 @@ limit_is least most usual (Some digits) n e =
     let d = number_is digits k.0 k.1 in
     (subst (λ (m : ℕ). IsNumber digits m) w.0 d.0, w.1, w.2)
 
+-- an option that must be given
+said_is : (least most : ℕ) (given : Option Text) (n : ℕ) → option_and_then (λ digits. option_and_then (within least most) (number_of digits)) given ≡ Some n → IsSaid least most given n
+said_is least most None n e = absurd (none_some n e)
+said_is least most (Some digits) n e = limit_is least most 0 (Some digits) n e
+
 pub is_limit : (least most usual : ℕ) (given : Option Text) (n : ℕ) → most < 2 ^ 64 → IsLimit least most usual given n → limit_of least most usual given ≡ Some n
 is_limit least most usual None n low h = ap (λ (k : ℕ). Some k) (sym h)
 is_limit least most usual (Some digits) n low h =
     let small = h.2 in
     ap (option_and_then (within least most)) (is_number digits n h.0 (omega (arith, low, small))) ∙ is_within least most n h.1 h.2
+
+is_said : (least most : ℕ) (given : Option Text) (n : ℕ) → most < 2 ^ 64 → IsSaid least most given n → option_and_then (λ digits. option_and_then (within least most) (number_of digits)) given ≡ Some n
+is_said least most None n low h = absurd h
+is_said least most (Some digits) n low h = is_limit least most 0 (Some digits) n low h
 
 -- ---- names
 
@@ -159,16 +168,16 @@ first_value (Some v) = refl
 pub first_is : (id : Text) (rows : List Row) (given : Option Text) → all_of id rows ≡ as_values given → first_of id rows ≡ given
 first_is id rows given e = first_from id rows ∙ ap (option_and_then (λ (vs : List Text). slice_get vs 0)) e ∙ first_value given
 
--- what an option says, of rows and of what was given
-abbrev pub Says : List Row → Given → Type 0
-Says rows given = (o : Text) → IsOneOf o options_of_runs → all_of o rows ≡ as_values (value_of o given)
+-- what an option says, of rows and of what was given, where one of this name says the points
+abbrev pub Says : Text → List Row → Given → Type 0
+Says points rows given = (o : Text) → IsOneOf o (options_with points) → all_of o rows ≡ as_values (value_of o given)
 
-module _ (rows : List Row) (given : Given) (says : Says rows given) where
+module _ (points : Text) (rows : List Row) (given : Given) (says : Says points rows given) where
   switches_are : first_of (codes "switches") rows ≡ value_of (codes "switches") given
   switches_are = first_is _ rows _ (says (codes "switches") (inl refl))
 
-  points_are : first_of (codes "points") rows ≡ value_of (codes "points") given
-  points_are = first_is _ rows _ (says (codes "points") (inr (inl refl)))
+  points_are : first_of points rows ≡ value_of points given
+  points_are = first_is _ rows _ (says points (inr (inl refl)))
 
   heap_is : first_of (codes "heap") rows ≡ value_of (codes "heap") given
   heap_is = first_is _ rows _ (says (codes "heap") (inr (inr (inl refl))))
@@ -182,31 +191,66 @@ module _ (rows : List Row) (given : Given) (says : Says rows given) where
   input_is : first_of (codes "input") rows ≡ value_of (codes "input") given
   input_is = first_is _ rows _ (says (codes "input") (inr (inr (inr (inr (inr (inl refl)))))))
 
-  pub options_are : (options : Options) → AreApart given → options_in rows ≡ Some options → AreOptionsOf given options
-  options_are options once e =
+  young_is : is_some (first_of (codes "young") rows) ≡ is_some (value_of (codes "young") given)
+  young_is = ap (λ (o : Option Text). is_some o) (first_is _ rows _ (says (codes "young") (inr (inr (inr (inr (inr (inr (inl refl)))))))))
+
+  -- with so many points
+  by_are : (IsPoints : ℕ → Type 0) (n : ℕ) (options : Options) → AreApart given → IsPoints n → options_by n rows ≡ Some options → AreOptionsBy IsPoints given options
+  by_are IsPoints n options once is e =
       let a = then_some _ (given_name (first_of (codes "switches") rows)) options e in
       let b = then_some _ (given_name (first_of (codes "input") rows)) options a.2 in
-      let d = map_some _ (bounds_in rows) options b.2 in
-      let p = then_some _ (limit_of 0 9223372036854775807 1000000000 (first_of (codes "points") rows)) d.0 d.1 in
-      let h = then_some _ (limit_of 64 67108864 1048576 (first_of (codes "heap") rows)) d.0 p.2 in
+      let d = map_some _ (bounds_by n rows) options b.2 in
+      let h = then_some _ (limit_of 64 67108864 1048576 (first_of (codes "heap") rows)) d.0 d.1 in
       let s = then_some _ (limit_of 1024 1048576 65536 (first_of (codes "stack") rows)) d.0 h.2 in
       let t = map_some _ (limit_of 1 64 8 (first_of (codes "threads") rows)) d.0 s.2 in
-      subst (λ (o : Options). AreOptionsOf given o) d.2 (record {
+      subst (λ (o : Options). AreOptionsBy IsPoints given o) d.2 (record {
         apart = once;
         switches = subst (λ (v : Option Text). IsGivenName v a.0) switches_are (name_is _ a.0 a.1);
         input = subst (λ (v : Option Text). IsGivenName v b.0) input_is (name_is _ b.0 b.1);
-        points = subst (λ (m : Bounds). IsLimit 0 9223372036854775807 1000000000 (value_of (codes "points") given) m.points) t.2 (subst (λ (v : Option Text). IsLimit 0 9223372036854775807 1000000000 v p.0) points_are (limit_is _ _ _ _ p.0 p.1));
+        points = subst (λ (m : Bounds). IsPoints m.points) t.2 is;
         heap = subst (λ (m : Bounds). IsLimit 64 67108864 1048576 (value_of (codes "heap") given) m.heap) t.2 (subst (λ (v : Option Text). IsLimit 64 67108864 1048576 v h.0) heap_is (limit_is _ _ _ _ h.0 h.1));
         stack = subst (λ (m : Bounds). IsLimit 1024 1048576 65536 (value_of (codes "stack") given) m.stack) t.2 (subst (λ (v : Option Text). IsLimit 1024 1048576 65536 v s.0) stack_is (limit_is _ _ _ _ s.0 s.1));
         threads = subst (λ (m : Bounds). IsLimit 1 64 8 (value_of (codes "threads") given) m.threads) t.2 (subst (λ (v : Option Text). IsLimit 1 64 8 v t.0) threads_are (limit_is _ _ _ _ t.0 t.1));
+        young = subst (λ (m : Bounds). m.young ≡ is_some (value_of (codes "young") given)) t.2 young_is;
       })
 
-  pub are_options : (options : Options) → AreOptionsOf given options → options_in rows ≡ Some options
-  are_options options h =
+  are_by : (IsPoints : ℕ → Type 0) (options : Options) → AreOptionsBy IsPoints given options → options_by options.bounds.points rows ≡ Some options
+  are_by IsPoints options h =
       let a : given_name (first_of (codes "switches") rows) ≡ Some options.switches = ap given_name switches_are ∙ is_name _ _ h.switches in
       let b : given_name (first_of (codes "input") rows) ≡ Some options.input = ap given_name input_is ∙ is_name _ _ h.input in
-      let p : limit_of 0 9223372036854775807 1000000000 (first_of (codes "points") rows) ≡ Some options.bounds.points = ap (limit_of 0 9223372036854775807 1000000000) points_are ∙ is_limit _ _ _ _ _ (omega arith) h.points in
       let k : limit_of 64 67108864 1048576 (first_of (codes "heap") rows) ≡ Some options.bounds.heap = ap (limit_of 64 67108864 1048576) heap_is ∙ is_limit _ _ _ _ _ (omega arith) h.heap in
       let s : limit_of 1024 1048576 65536 (first_of (codes "stack") rows) ≡ Some options.bounds.stack = ap (limit_of 1024 1048576 65536) stack_is ∙ is_limit _ _ _ _ _ (omega arith) h.stack in
       let t : limit_of 1 64 8 (first_of (codes "threads") rows) ≡ Some options.bounds.threads = ap (limit_of 1 64 8) threads_are ∙ is_limit _ _ _ _ _ (omega arith) h.threads in
-      rw (a, b, p, k, s, t) refl
+      let y : is_some (first_of (codes "young") rows) ≡ options.bounds.young = young_is ∙ sym h.young in
+      rw (a, b, k, s, t, y) refl
+
+-- those of `run` and `exec`
+module _ (rows : List Row) (given : Given) (says : Says (codes "points") rows given) where
+  pub options_are : (options : Options) → AreApart given → options_in rows ≡ Some options → AreOptionsOf given options
+  options_are options once e =
+      let p = then_some _ (limit_of 0 9223372036854775807 1000000000 (first_of (codes "points") rows)) options e in
+      by_are (codes "points") rows given says _ p.0 options once
+      (subst (λ (v : Option Text). IsLimit 0 9223372036854775807 1000000000 v p.0) (points_are (codes "points") rows given says) (limit_is _ _ _ _ p.0 p.1)) p.2
+
+  pub are_options : (options : Options) → AreOptionsOf given options → options_in rows ≡ Some options
+  are_options options h =
+      let p : limit_of 0 9223372036854775807 1000000000 (first_of (codes "points") rows) ≡ Some options.bounds.points
+      = ap (limit_of 0 9223372036854775807 1000000000) (points_are (codes "points") rows given says) ∙ is_limit _ _ _ _ _ (omega arith) h.points in
+      ap (option_and_then (λ points. options_by points rows)) p ∙ are_by (codes "points") rows given says _ options h
+
+-- those of `inspect`
+module _ (rows : List Row) (given : Given) (says : Says (codes "at") rows given) where
+  abbrev said : Option Text → Option ℕ
+  said = option_and_then (λ digits. option_and_then (within 0 9223372036854775807) (number_of digits))
+
+  pub at_are : (options : Options) → AreApart given → options_at rows ≡ Some options → AreOptionsAt given options
+  at_are options once e =
+      let p = then_some (λ points. options_by points rows) (said (first_of (codes "at") rows)) options e in
+      by_are (codes "at") rows given says _ p.0 options once
+      (subst (λ (v : Option Text). IsSaid 0 9223372036854775807 v p.0) (points_are (codes "at") rows given says) (said_is 0 9223372036854775807 (first_of (codes "at") rows) p.0 p.1)) p.2
+
+  pub are_at : (options : Options) → AreOptionsAt given options → options_at rows ≡ Some options
+  are_at options h =
+      let p : said (first_of (codes "at") rows) ≡ Some options.bounds.points
+      = ap said (points_are (codes "at") rows given says) ∙ is_said _ _ _ _ (omega arith) h.points in
+      ap (option_and_then (λ points. options_by points rows)) p ∙ are_by (codes "at") rows given says _ options h

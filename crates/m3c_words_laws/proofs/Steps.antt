@@ -12,13 +12,16 @@ use Rattle.clap.specs.Simple.{Shape, filled, with_index}
 use Rattle.clap.specs.Walk.{Held, Rule, Text, Waiting, Walk, arg_by_id, arg_by_index, arg_by_long, arg_by_short, idle, option, positional, reacted, settled, to_positional, walked}
 use Rattle.clap.specs.declared.error.kind.ErrorKind.{ErrorKind}
 use Rattle.clap.specs.declared.error.kind.ErrorKind.TheVariants as kind
-use Rattle.m3c_words.specs.Grammar.{command, option as option_rule}
-use Rattle.m3c_words_laws.specs.Reads.{IsOneOf}
+use Rattle.m3c_words.specs.Grammar.{command, flag as flag_rule, option as option_rule}
+use Rattle.m3c_words_laws.specs.Reads.{IsOneOf, flag_value, takes_value}
 use Rattle.m3c_words_laws.proofs.Words.{IsFree, same_text}
 
 -- an option as clap builds it
 abbrev pub optioned : Text → Rule
 optioned o = with_index 1 (filled (option_rule o))
+
+abbrev pub flagged : Text → Rule
+flagged o = with_index 1 (filled (flag_rule o))
 
 -- a command with these rules as clap builds it
 abbrev pub leaf_of : Text → List Rule → Shape
@@ -87,8 +90,9 @@ is_flags b bytes n = record { long = rw n refl; short = rw n refl; ends = rw n r
 
 -- a command's options
 pub record Knows (c : List Rule) (options : List Text) : Type 0 where
-  pub by_id : (o : Text) → IsOneOf o options → arg_by_id c o ≡ Some (optioned o)
-  pub by_long : (o : Text) → IsOneOf o options → arg_by_long c o ≡ Some (optioned o)
+  pub by_id : (o : Text) → IsOneOf o options → takes_value o ≡ true → arg_by_id c o ≡ Some (optioned o)
+  pub by_long : (o : Text) → IsOneOf o options → takes_value o ≡ true → arg_by_long c o ≡ Some (optioned o)
+  pub flags : (o : Text) → IsOneOf o options → takes_value o ≡ false → arg_by_long c o ≡ Some (flagged o)
   pub none : (o : Text) → (IsOneOf o options → ⊥) → arg_by_long c o ≡ None
   pub no_short : (x : ℕ) → arg_by_short c x ≡ None
   pub lacks : (o : Text) → IsOneOf o options → Lacks 61 o
@@ -156,6 +160,24 @@ module _ (name : Text) (c : List Rule) where
   joined_taken idle p h word o v w is = rw (w.ends, w.long, is) refl
   joined_taken (option id) p h word o v w is = rw (w.ends, w.long, is) refl
   joined_taken positional p h word o v w is = rw (w.ends, w.long, is) refl
+
+  -- a flag is an option that was written with its value
+  pub flag_faults : (waiting : Waiting) (p : ℕ) (h : Held) (word o : Text) → IsLong word o None → arg_by_long c o ≡ Some (flagged o)
+      → turn_fault (leaf_of name c) [] (state h waiting p false) word ≡ or_else (settle_fault c false h) (use_fault false (optioned o) (flag_value ∷ []) (settled c h).rows)
+  flag_faults idle p h word o w is = rw (w.ends, w.long, is) (nil_behind (or_else (settle_fault c false h) (use_fault false (optioned o) (flag_value ∷ []) (settled c h).rows)))
+  flag_faults (option id) p h word o w is = rw (w.ends, w.long, is) (nil_behind (or_else (settle_fault c false h) (use_fault false (optioned o) (flag_value ∷ []) (settled c h).rows)))
+  flag_faults positional p h word o w is = rw (w.ends, w.long, is) (nil_behind (or_else (settle_fault c false h) (use_fault false (optioned o) (flag_value ∷ []) (settled c h).rows)))
+
+  pub flag_taken : (waiting : Waiting) (p : ℕ) (h : Held) (word o : Text) → IsLong word o None → arg_by_long c o ≡ Some (flagged o) → walked c [] (state h waiting p false) word ≡ state (reacted c (optioned o) (flag_value ∷ []) h) idle p false
+  unfolding walked
+  flag_taken idle p h word o w is = rw (w.ends, w.long, is) refl
+  flag_taken (option id) p h word o w is = rw (w.ends, w.long, is) refl
+  flag_taken positional p h word o w is = rw (w.ends, w.long, is) refl
+
+  pub valued_flag : (waiting : Waiting) (p : ℕ) (h : Held) (word o v : Text) → IsLong word o (Some v) → arg_by_long c o ≡ Some (flagged o) → turn_fault (leaf_of name c) [] (state h waiting p false) word ≡ [] → ⊥
+  valued_flag idle p h word o v w is e = let bad = rw (w.ends, w.long, is) at e in some_nil _ _ bad
+  valued_flag (option id) p h word o v w is e = let bad = rw (w.ends, w.long, is) at e in some_nil _ _ bad
+  valued_flag positional p h word o v w is e = let bad = rw (w.ends, w.long, is) at e in some_nil _ _ bad
 
   -- the value of an option that waits for one
   abbrev pub waiting_held : Held → Text → Held

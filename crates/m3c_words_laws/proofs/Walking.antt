@@ -11,10 +11,10 @@ use Rattle.clap.specs.Faults.{repeat_fault, settle_fault, turn_fault, use_fault,
 use Rattle.clap.specs.Walk.{Held, Row, Rule, Text, Waiting, Walk, all_of, arg_by_id, arg_by_index, has_row, idle, is_multiple, next_position, option, positional, positional_held, reacted, reading_by, settled, used, walked, with_values}
 use Rattle.clap.specs.declared.error.kind.ErrorKind.TheVariants as kind
 use Rattle.clap.specs.declared.parser.matches.ValueSource.TheVariants.{CommandLine}
-use Rattle.m3c_words_laws.specs.Reads.{AreApart, AreTexts, Given, IsOneOf, Spell, ended, behind, name, apart, joined, is_free, value_of, with_value}
+use Rattle.m3c_words_laws.specs.Reads.{AreApart, AreTexts, Given, IsOneOf, Spell, ended, behind, name, apart, joined, flag, flag_value, is_free, takes_value, value_of, with_value}
 use Rattle.m3c_words_laws.proofs.Words.{Cut, IsFree, View, at_equals, cut, dashes, flags, free, free_word, long, one_of, view, whole}
 use Rattle.m3c_words_laws.proofs.Finding.{AreExplicit, apart_before, apart_then, has_row_of, none_again, none_without, other_values, still_explicit, value_last, value_other, values_added, values_there}
-use Rattle.m3c_words_laws.proofs.Steps.{IsLong, IsRest, Knows, both_nil, dashes_pass, dashes_taken, first_nil, flags_pass, joined_faults, joined_taken, leaf_of, name_fault, name_faults, name_taken, option_faults, option_taken, optioned, second_nil, state, unknown_option, value_passes, value_taken, waiting_held}
+use Rattle.m3c_words_laws.proofs.Steps.{IsLong, IsRest, Knows, both_nil, dashes_pass, dashes_taken, first_nil, flag_faults, flag_taken, flags_pass, joined_faults, joined_taken, leaf_of, name_fault, name_faults, name_taken, option_faults, option_taken, optioned, second_nil, state, unknown_option, value_passes, value_taken, valued_flag, waiting_held}
 
 -- ---- what rows hold
 
@@ -126,6 +126,13 @@ no_empty : (o v : Text) → (o ≡ [] → ⊥) → o ++ 61 ∷ v ≡ [] → ⊥
 no_empty [] v some e = some refl
 no_empty (x ∷ o) v some e = absurd (no_cons x (o ++ 61 ∷ v) e)
 
+value_or_flag : (o : Text) → (takes_value o ≡ true) ⊎ (takes_value o ≡ false)
+value_or_flag o = go (takes_value o) refl
+  where
+    go : (b : Bool) → takes_value o ≡ b → (takes_value o ≡ true) ⊎ (takes_value o ≡ false)
+    go true e = inl e
+    go false e = inr e
+
 rest_next : (b : Bool) → IsRest (cond b positional idle)
 rest_next true = tt
 rest_next false = tt
@@ -216,17 +223,17 @@ module _ (title : Text) (c : List Rule) (options : List Text) (most : ℕ) (AreN
 
   -- ---- an option
 
-  option_stands : (h : Held) (p : ℕ) (given : Given) (names : List Text) (o v : Text) → Standing h p given names → IsOneOf o options → settle_fault c false h ≡ []
+  option_stands : (h : Held) (p : ℕ) (given : Given) (names : List Text) (o v : Text) → Standing h p given names → IsOneOf o options → takes_value o ≡ true → settle_fault c false h ≡ []
       → Standing (record (settled c h) { pending = Some (o, v ∷ []) }) p (given ++ (o, v) ∷ []) names
-  option_stands h p given names o v s among none =
+  option_stands h p given names o v s among takes none =
       let r = s.settles none in
       record {
         skip = s.skip;
         place = s.place;
         full = λ e. cc;
-        settles = λ e. subst (λ (rows : List Row). Held' rows (given ++ (o, v) ∷ []) names) (sym (pending_used c o (v ∷ []) (settled c h).rows h.skip (knows.by_id o among)))
-            (use_holds options AreNames keeps o v among (settled c h).rows given names r (sym (pending_faults c o (v ∷ []) (settled c h).rows h.skip (knows.by_id o among)) ∙ e));
-        fits = λ once few. pending_faults c o (v ∷ []) (settled c h).rows h.skip (knows.by_id o among) ∙ use_passes options AreNames keeps o v among (settled c h).rows given names r once;
+        settles = λ e. subst (λ (rows : List Row). Held' rows (given ++ (o, v) ∷ []) names) (sym (pending_used c o (v ∷ []) (settled c h).rows h.skip (knows.by_id o among takes)))
+            (use_holds options AreNames keeps o v among (settled c h).rows given names r (sym (pending_faults c o (v ∷ []) (settled c h).rows h.skip (knows.by_id o among takes)) ∙ e));
+        fits = λ once few. pending_faults c o (v ∷ []) (settled c h).rows h.skip (knows.by_id o among takes) ∙ use_passes options AreNames keeps o v among (settled c h).rows given names r once;
       }
 
   joined_stands : (h : Held) (p : ℕ) (given : Given) (names : List Text) (o v : Text) → Standing h p given names → IsOneOf o options → settle_fault c false h ≡ [] → use_fault false (optioned o) (v ∷ []) (settled c h).rows ≡ []
@@ -286,19 +293,34 @@ module _ (title : Text) (c : List Rule) (options : List Text) (most : ℕ) (AreN
             (subst (λ (g : Given). Held' (end_rows (state h waiting p true) words) g (names ++ words)) (sym (append-nil given)) holds);
       }
 
-  joined_among : (o v : Text) (words : List Text) → SpelledFrom words → IsLong (with_value o v) o (Some v) → IsOneOf o options → SpelledFrom (with_value o v ∷ words)
-  joined_among o v words further w among h waiting p given names rest texts s e =
+  joined_among : (o v : Text) (words : List Text) → SpelledFrom words → IsLong (with_value o v) o (Some v) → IsOneOf o options → takes_value o ≡ true → SpelledFrom (with_value o v ∷ words)
+  joined_among o v words further w among takes h waiting p given names rest texts s e =
       let parts = first_word (state h waiting p false) (with_value o v) words e in
-      let faults = sym (joined_faults title c waiting p h (with_value o v) o v w (knows.by_long o among)) ∙ parts.0 in
-      let walks = joined_taken title c waiting p h (with_value o v) o v w (knows.by_long o among) in
+      let faults = sym (joined_faults title c waiting p h (with_value o v) o v w (knows.by_long o among takes)) ∙ parts.0 in
+      let walks = joined_taken title c waiting p h (with_value o v) o v w (knows.by_long o among takes) in
       let after = further (reacted c (optioned o) (v ∷ []) h) idle p (given ++ (o, v) ∷ []) names tt texts.1
       (joined_stands h p given names o v s among (first_nil _ _ faults) (second_nil (settle_fault c false h) _ faults)) (subst (λ (x : Walk). whole_fault x words ≡ []) walks parts.1) in
       record {
         more = (o, v) ∷ after.more;
         others = after.others;
-        spell = joined o v words after.more after.others among after.spell;
+        spell = joined o v words after.more after.others among takes after.spell;
         holds = subst (λ (x : Walk). Held' (end_rows x words) (given ++ (o, v) ∷ after.more) (names ++ after.others)) (sym walks)
             (subst (λ (g : Given). Held' (end_rows (state (reacted c (optioned o) (v ∷ []) h) idle p false) words) g (names ++ after.others)) (then_given given (o, v) after.more) after.holds);
+      }
+
+  flag_spelled : (o : Text) (words : List Text) → SpelledFrom words → IsLong (codes "--" ++ o) o None → IsOneOf o options → takes_value o ≡ false → SpelledFrom ((codes "--" ++ o) ∷ words)
+  flag_spelled o words further w among none h waiting p given names rest texts s e =
+      let parts = first_word (state h waiting p false) (codes "--" ++ o) words e in
+      let faults = sym (flag_faults title c waiting p h (codes "--" ++ o) o w (knows.flags o among none)) ∙ parts.0 in
+      let walks = flag_taken title c waiting p h (codes "--" ++ o) o w (knows.flags o among none) in
+      let after = further (reacted c (optioned o) (flag_value ∷ []) h) idle p (given ++ (o, flag_value) ∷ []) names tt texts.1
+      (joined_stands h p given names o flag_value s among (first_nil _ _ faults) (second_nil (settle_fault c false h) _ faults)) (subst (λ (x : Walk). whole_fault x words ≡ []) walks parts.1) in
+      record {
+        more = (o, flag_value) ∷ after.more;
+        others = after.others;
+        spell = flag o words after.more after.others among none after.spell;
+        holds = subst (λ (x : Walk). Held' (end_rows x words) (given ++ (o, flag_value) ∷ after.more) (names ++ after.others)) (sym walks)
+            (subst (λ (g : Given). Held' (end_rows (state (reacted c (optioned o) (flag_value ∷ []) h) idle p false) words) g (names ++ after.others)) (then_given given (o, flag_value) after.more) after.holds);
       }
 
   joined_spelled : (o v : Text) (words : List Text) → SpelledFrom words → IsLong (with_value o v) o (Some v) → SpelledFrom (with_value o v ∷ words)
@@ -306,7 +328,11 @@ module _ (title : Text) (c : List Rule) (options : List Text) (most : ℕ) (AreN
     where
       go : IsOneOf o options ⊎ (IsOneOf o options → ⊥) → Spelled (with_value o v ∷ words) (state h waiting p false) given names
       go (inr none) = absurd (unknown_option title c waiting p h (with_value o v) o (Some v) w (knows.none o none) (first_word (state h waiting p false) (with_value o v) words e).0)
-      go (inl among) = joined_among o v words further w among h waiting p given names rest texts s e
+      go (inl among) =
+          elim (value_or_flag o) [
+            | inl takes ↦ joined_among o v words further w among takes h waiting p given names rest texts s e
+            | inr none ↦ absurd (valued_flag title c waiting p h (with_value o v) o v w (knows.flags o among none) (first_word (state h waiting p false) (with_value o v) words e).0)
+          ]
 
   -- an option behind which nothing, `--` or an option stands
   long_settles : (t : Text) → (t ≡ [] → ⊥) → (waiting : Waiting) (p : ℕ) (h : Held) → turn_fault (leaf_of title c) [] (state h waiting p false) (45 ∷ 45 ∷ t) ≡ [] → settle_fault c false h ≡ []
@@ -316,65 +342,71 @@ module _ (title : Text) (c : List Rule) (options : List Text) (most : ℕ) (AreN
       go t (whole o lacks) some e =
           let w = is_long o o None some (name_and_value-without o lacks) in
           elim (one_of o options) [
-            | inl among ↦ sym (option_faults title c waiting p h (45 ∷ 45 ∷ o) o w (knows.by_long o among)) ∙ e
+            | inl among ↦ elim (value_or_flag o) [
+              | inl takes ↦ sym (option_faults title c waiting p h (45 ∷ 45 ∷ o) o w (knows.by_long o among takes)) ∙ e
+              | inr none ↦ first_nil _ _ (sym (flag_faults title c waiting p h (45 ∷ 45 ∷ o) o w (knows.flags o among none)) ∙ e)
+            ]
             | inr none ↦ absurd (unknown_option title c waiting p h (45 ∷ 45 ∷ o) o None w (knows.none o none) e)
           ]
       go t (at_equals o v lacks) some e =
           let w = is_long (o ++ 61 ∷ v) o (Some v) some (name_and_value-at o v lacks) in
           elim (one_of o options) [
-            | inl among ↦ first_nil _ _ (sym (joined_faults title c waiting p h (45 ∷ 45 ∷ (o ++ 61 ∷ v)) o v w (knows.by_long o among)) ∙ e)
+            | inl among ↦ elim (value_or_flag o) [
+              | inl takes ↦ first_nil _ _ (sym (joined_faults title c waiting p h (45 ∷ 45 ∷ (o ++ 61 ∷ v)) o v w (knows.by_long o among takes)) ∙ e)
+              | inr none ↦ absurd (valued_flag title c waiting p h (45 ∷ 45 ∷ (o ++ 61 ∷ v)) o v w (knows.flags o among none) e)
+            ]
             | inr none ↦ absurd (unknown_option title c waiting p h (45 ∷ 45 ∷ (o ++ 61 ∷ v)) o (Some v) w (knows.none o none) e)
           ]
 
-  unvalued : (o : Text) (h : Held) → IsOneOf o options → settle_fault c false (waiting_held title c (settled c h) o) ≡ [] → ⊥
-  unvalued o h among e = no_value_waits o (settled c h).rows (sym (pending_faults c o [] (settled c h).rows h.skip (knows.by_id o among)) ∙ e)
+  unvalued : (o : Text) (h : Held) → IsOneOf o options → takes_value o ≡ true → settle_fault c false (waiting_held title c (settled c h) o) ≡ [] → ⊥
+  unvalued o h among takes e = no_value_waits o (settled c h).rows (sym (pending_faults c o [] (settled c h).rows h.skip (knows.by_id o among takes)) ∙ e)
 
-  unvalued_trail : (o : Text) (words : List Text) (h : Held) (waiting : Waiting) (p : ℕ) → IsOneOf o options → whole_fault (state (waiting_held title c (settled c h) o) waiting p true) words ≡ [] → ⊥
-  unvalued_trail o [] h waiting p among e = unvalued o h among (sym (ended_fault (state (waiting_held title c (settled c h) o) waiting p true)) ∙ e)
-  unvalued_trail o (word ∷ words) h waiting p among e =
+  unvalued_trail : (o : Text) (words : List Text) (h : Held) (waiting : Waiting) (p : ℕ) → IsOneOf o options → takes_value o ≡ true → whole_fault (state (waiting_held title c (settled c h) o) waiting p true) words ≡ [] → ⊥
+  unvalued_trail o [] h waiting p among takes e = unvalued o h among takes (sym (ended_fault (state (waiting_held title c (settled c h) o) waiting p true)) ∙ e)
+  unvalued_trail o (word ∷ words) h waiting p among takes e =
       let parts = first_word (state (waiting_held title c (settled c h) o) waiting p true) word words e in
-      unvalued o h among (names_of.waits (waiting_held title c (settled c h) o) p o [] among refl (sym (trailing_fault waiting p (waiting_held title c (settled c h) o) word) ∙ parts.0))
+      unvalued o h among takes (names_of.waits (waiting_held title c (settled c h) o) p o [] among refl (sym (trailing_fault waiting p (waiting_held title c (settled c h) o) word) ∙ parts.0))
 
-  value_spelled : (o v : Text) (rest : List Text) → SpelledFrom rest → IsLong (codes "--" ++ o) o None → IsOneOf o options → is_free v ≡ true → SpelledFrom ((codes "--" ++ o) ∷ v ∷ rest)
-  value_spelled o v rest further w among is h waiting p given names rests texts s e =
+  value_spelled : (o v : Text) (rest : List Text) → SpelledFrom rest → IsLong (codes "--" ++ o) o None → IsOneOf o options → takes_value o ≡ true → is_free v ≡ true → SpelledFrom ((codes "--" ++ o) ∷ v ∷ rest)
+  value_spelled o v rest further w among takes is h waiting p given names rests texts s e =
       let word : Text = codes "--" ++ o in
       let first = first_word (state h waiting p false) word (v ∷ rest) e in
-      let none : settle_fault c false h ≡ [] = sym (option_faults title c waiting p h word o w (knows.by_long o among)) ∙ first.0 in
-      let waits = option_taken title c waiting p h word o w (knows.by_long o among) in
+      let none : settle_fault c false h ≡ [] = sym (option_faults title c waiting p h word o w (knows.by_long o among takes)) ∙ first.0 in
+      let waits = option_taken title c waiting p h word o w (knows.by_long o among takes) in
       let then_value = first_word (state (waiting_held title c (settled c h) o) (option o) p false) v rest (subst (λ (x : Walk). whole_fault x (v ∷ rest) ≡ []) waits first.1) in
-      let walks = value_taken title c p (settled c h) o v (free_word v is) (knows.by_id o among) in
+      let walks = value_taken title c p (settled c h) o v (free_word v is) (knows.by_id o among takes) in
       let g : Held = record (settled c h) { pending = Some (o, v ∷ []) } in
-      let after = further g idle p (given ++ (o, v) ∷ []) names tt texts.1.1 (option_stands h p given names o v s among none) (subst (λ (x : Walk). whole_fault x rest ≡ []) walks then_value.1) in
+      let after = further g idle p (given ++ (o, v) ∷ []) names tt texts.1.1 (option_stands h p given names o v s among takes none) (subst (λ (x : Walk). whole_fault x rest ≡ []) walks then_value.1) in
       record {
         more = (o, v) ∷ after.more;
         others = after.others;
-        spell = apart o v rest after.more after.others among is after.spell;
+        spell = apart o v rest after.more after.others among takes is after.spell;
         holds = subst (λ (x : Walk). Held' (end_rows x (v ∷ rest)) (given ++ (o, v) ∷ after.more) (names ++ after.others)) (sym waits)
             (subst (λ (x : Walk). Held' (end_rows x rest) (given ++ (o, v) ∷ after.more) (names ++ after.others)) (sym walks)
             (subst (λ (k : Given). Held' (end_rows (state g idle p false) rest) k (names ++ after.others)) (then_given given (o, v) after.more) after.holds));
       }
 
-  apart_spelled : (o : Text) (words : List Text) → AfterNext words → IsLong (codes "--" ++ o) o None → IsOneOf o options → SpelledFrom ((codes "--" ++ o) ∷ words)
-  apart_spelled o [] further w among h waiting p given names rest texts s e =
+  apart_spelled : (o : Text) (words : List Text) → AfterNext words → IsLong (codes "--" ++ o) o None → IsOneOf o options → takes_value o ≡ true → SpelledFrom ((codes "--" ++ o) ∷ words)
+  apart_spelled o [] further w among takes h waiting p given names rest texts s e =
       let first = first_word (state h waiting p false) (codes "--" ++ o) [] e in
-      let waits = option_taken title c waiting p h (codes "--" ++ o) o w (knows.by_long o among) in
-      absurd (unvalued o h among (sym (ended_fault (state (waiting_held title c (settled c h) o) (option o) p false)) ∙ subst (λ (x : Walk). whole_fault x [] ≡ []) waits first.1))
-  apart_spelled o (v ∷ words) further w among h waiting p given names rest texts s e = go v (view v) texts.1.0 refl
+      let waits = option_taken title c waiting p h (codes "--" ++ o) o w (knows.by_long o among takes) in
+      absurd (unvalued o h among takes (sym (ended_fault (state (waiting_held title c (settled c h) o) (option o) p false)) ∙ subst (λ (x : Walk). whole_fault x [] ≡ []) waits first.1))
+  apart_spelled o (v ∷ words) further w among takes h waiting p given names rest texts s e = go v (view v) texts.1.0 refl
     where
       second : (turn_fault (leaf_of title c) [] (state (waiting_held title c (settled c h) o) (option o) p false) v ≡ []) × (whole_fault (walked c [] (state (waiting_held title c (settled c h) o) (option o) p false) v) words ≡ [])
       second =
           let first = first_word (state h waiting p false) (codes "--" ++ o) (v ∷ words) e in
-          let waits = option_taken title c waiting p h (codes "--" ++ o) o w (knows.by_long o among) in
+          let waits = option_taken title c waiting p h (codes "--" ++ o) o w (knows.by_long o among takes) in
           first_word (state (waiting_held title c (settled c h) o) (option o) p false) v words (subst (λ (x : Walk). whole_fault x (v ∷ words) ≡ []) waits first.1)
 
       at : (u : Text) → u ≡ v → (turn_fault (leaf_of title c) [] (state (waiting_held title c (settled c h) o) (option o) p false) u ≡ []) × (whole_fault (walked c [] (state (waiting_held title c (settled c h) o) (option o) p false) u) words ≡ [])
       at u is = subst (λ (x : Text). (turn_fault (leaf_of title c) [] (state (waiting_held title c (settled c h) o) (option o) p false) x ≡ []) × (whole_fault (walked c [] (state (waiting_held title c (settled c h) o) (option o) p false) x) words ≡ [])) (sym is) second
 
       go : (u : Text) → View u → IsUtf8 u → u ≡ v → Spelled ((codes "--" ++ o) ∷ v ∷ words) (state h waiting p false) given names
-      go u (free x is l t d) utf8 same = value_spelled o v words further w among (subst (λ (y : Text). is_free y ≡ true) same is) h waiting p given names rest texts s e
+      go u (free x is l t d) utf8 same = value_spelled o v words further w among takes (subst (λ (y : Text). is_free y ≡ true) same is) h waiting p given names rest texts s e
       go u dashes utf8 same =
-          absurd (unvalued_trail o words h (option o) p among (subst (λ (x : Walk). whole_fault x words ≡ []) (dashes_taken title c (option o) p (waiting_held title c (settled c h) o)) (at (codes "--") same).1))
-      go u (long x text) utf8 same = absurd (unvalued o h among (long_settles (x ∷ text) (λ e. cc) (option o) p (waiting_held title c (settled c h) o) (at (45 ∷ 45 ∷ x ∷ text) same).0))
+          absurd (unvalued_trail o words h (option o) p among takes (subst (λ (x : Walk). whole_fault x words ≡ []) (dashes_taken title c (option o) p (waiting_held title c (settled c h) o)) (at (codes "--") same).1))
+      go u (long x text) utf8 same = absurd (unvalued o h among takes (long_settles (x ∷ text) (λ e. cc) (option o) p (waiting_held title c (settled c h) o) (at (45 ∷ 45 ∷ x ∷ text) same).0))
       go u (flags b bytes n) utf8 same = absurd (flags_pass title c knows.no_short (option o) p (waiting_held title c (settled c h) o) b bytes n utf8 s.skip (at (45 ∷ b ∷ bytes) same).0)
 
   -- ---- any word
@@ -386,7 +418,10 @@ module _ (title : Text) (c : List Rule) (options : List Text) (most : ℕ) (AreN
       go t (whole o lacks) some texts e =
           let w = is_long o o None some (name_and_value-without o lacks) in
           elim (one_of o options) [
-            | inl among ↦ apart_spelled o words after w among h waiting p given names rest texts s e
+            | inl among ↦ elim (value_or_flag o) [
+              | inl takes ↦ apart_spelled o words after w among takes h waiting p given names rest texts s e
+              | inr none ↦ flag_spelled o words further w among none h waiting p given names rest texts s e
+            ]
             | inr none ↦ absurd (unknown_option title c waiting p h (45 ∷ 45 ∷ o) o None w (knows.none o none) (first_word (state h waiting p false) (45 ∷ 45 ∷ o) words e).0)
           ]
       go t (at_equals o v lacks) some texts e =
@@ -461,16 +496,16 @@ module _ (title : Text) (c : List Rule) (options : List Text) (most : ℕ) (AreN
   once_more : (given : Given) (g : Text × Text) (more : Given) → AreApart (given ++ g ∷ more) → AreApart ((given ++ g ∷ []) ++ more)
   once_more given g more once = subst AreApart (sym (then_given given g more)) once
 
-  apart_passes : (o v : Text) (words : List Text) (more : Given) (others : List Text) → IsOneOf o options → is_free v ≡ true → PassesFrom words more others → PassesFrom ((codes "--" ++ o) ∷ v ∷ words) ((o, v) ∷ more) others
-  apart_passes o v words more others among is further h waiting p given names rest s once few =
+  apart_passes : (o v : Text) (words : List Text) (more : Given) (others : List Text) → IsOneOf o options → takes_value o ≡ true → is_free v ≡ true → PassesFrom words more others → PassesFrom ((codes "--" ++ o) ∷ v ∷ words) ((o, v) ∷ more) others
+  apart_passes o v words more others among takes is further h waiting p given names rest s once few =
       let word : Text = codes "--" ++ o in
       let w : IsLong word o None = is_long o o None (knows.some o among) (name_and_value-without o (knows.lacks o among)) in
       let none : settle_fault c false h ≡ [] = s.fits (apart_before given ((o, v) ∷ more) once) (before_few names others few) in
-      let waits = option_taken title c waiting p h word o w (knows.by_long o among) in
-      let walks = value_taken title c p (settled c h) o v (free_word v is) (knows.by_id o among) in
+      let waits = option_taken title c waiting p h word o w (knows.by_long o among takes) in
+      let walks = value_taken title c p (settled c h) o v (free_word v is) (knows.by_id o among takes) in
       let g : Held = record (settled c h) { pending = Some (o, v ∷ []) } in
-      let after = further g idle p (given ++ (o, v) ∷ []) names tt (option_stands h p given names o v s among none) (once_more given (o, v) more once) few in (
-        word_passes (state h waiting p false) word (v ∷ words) (option_faults title c waiting p h word o w (knows.by_long o among) ∙ none)
+      let after = further g idle p (given ++ (o, v) ∷ []) names tt (option_stands h p given names o v s among takes none) (once_more given (o, v) more once) few in (
+        word_passes (state h waiting p false) word (v ∷ words) (option_faults title c waiting p h word o w (knows.by_long o among takes) ∙ none)
             (subst (λ (x : Walk). whole_fault x (v ∷ words) ≡ []) (sym waits)
             (word_passes (state (waiting_held title c (settled c h) o) (option o) p false) v words (value_passes title c p (waiting_held title c (settled c h) o) o v (free_word v is))
             (subst (λ (x : Walk). whole_fault x words ≡ []) (sym walks) after.0))),
@@ -479,22 +514,36 @@ module _ (title : Text) (c : List Rule) (options : List Text) (most : ℕ) (AreN
             (subst (λ (k : Given). Held' (end_rows (state g idle p false) words) k (names ++ others)) (then_given given (o, v) more) after.1)),
       )
 
-  joined_passes : (o v : Text) (words : List Text) (more : Given) (others : List Text) → IsOneOf o options → PassesFrom words more others → PassesFrom (with_value o v ∷ words) ((o, v) ∷ more) others
-  joined_passes o v words more others among further h waiting p given names rest s once few =
+  joined_passes : (o v : Text) (words : List Text) (more : Given) (others : List Text) → IsOneOf o options → takes_value o ≡ true → PassesFrom words more others → PassesFrom (with_value o v ∷ words) ((o, v) ∷ more) others
+  joined_passes o v words more others among takes further h waiting p given names rest s once few =
       let w : IsLong (with_value o v) o (Some v) = is_long (o ++ 61 ∷ v) o (Some v) (no_empty o v (knows.some o among)) (name_and_value-at o v (knows.lacks o among)) in
       let none : settle_fault c false h ≡ [] = s.fits (apart_before given ((o, v) ∷ more) once) (before_few names others few) in
       let passes = use_passes options AreNames keeps o v among (settled c h).rows given names (s.settles none) (apart_before (given ++ (o, v) ∷ []) more (once_more given (o, v) more once)) in
-      let walks = joined_taken title c waiting p h (with_value o v) o v w (knows.by_long o among) in
+      let walks = joined_taken title c waiting p h (with_value o v) o v w (knows.by_long o among takes) in
       let after = further (reacted c (optioned o) (v ∷ []) h) idle p (given ++ (o, v) ∷ []) names tt (joined_stands h p given names o v s among none passes) (once_more given (o, v) more once) few in (
-        word_passes (state h waiting p false) (with_value o v) words (joined_faults title c waiting p h (with_value o v) o v w (knows.by_long o among) ∙ both_nil (settle_fault c false h) (use_fault false (optioned o) (v ∷ []) (settled c h).rows) none passes)
+        word_passes (state h waiting p false) (with_value o v) words (joined_faults title c waiting p h (with_value o v) o v w (knows.by_long o among takes) ∙ both_nil (settle_fault c false h) (use_fault false (optioned o) (v ∷ []) (settled c h).rows) none passes)
             (subst (λ (x : Walk). whole_fault x words ≡ []) (sym walks) after.0),
         subst (λ (x : Walk). Held' (end_rows x words) (given ++ (o, v) ∷ more) (names ++ others)) (sym walks)
             (subst (λ (g : Given). Held' (end_rows (state (reacted c (optioned o) (v ∷ []) h) idle p false) words) g (names ++ others)) (then_given given (o, v) more) after.1),
+      )
+
+  flag_passes : (o : Text) (words : List Text) (more : Given) (others : List Text) → IsOneOf o options → takes_value o ≡ false → PassesFrom words more others → PassesFrom ((codes "--" ++ o) ∷ words) ((o, flag_value) ∷ more) others
+  flag_passes o words more others among is further h waiting p given names rest s once few =
+      let w : IsLong (codes "--" ++ o) o None = is_long o o None (knows.some o among) (name_and_value-without o (knows.lacks o among)) in
+      let none : settle_fault c false h ≡ [] = s.fits (apart_before given ((o, flag_value) ∷ more) once) (before_few names others few) in
+      let passes = use_passes options AreNames keeps o flag_value among (settled c h).rows given names (s.settles none) (apart_before (given ++ (o, flag_value) ∷ []) more (once_more given (o, flag_value) more once)) in
+      let walks = flag_taken title c waiting p h (codes "--" ++ o) o w (knows.flags o among is) in
+      let after = further (reacted c (optioned o) (flag_value ∷ []) h) idle p (given ++ (o, flag_value) ∷ []) names tt (joined_stands h p given names o flag_value s among none passes) (once_more given (o, flag_value) more once) few in (
+        word_passes (state h waiting p false) (codes "--" ++ o) words (flag_faults title c waiting p h (codes "--" ++ o) o w (knows.flags o among is) ∙ both_nil (settle_fault c false h) (use_fault false (optioned o) (flag_value ∷ []) (settled c h).rows) none passes)
+            (subst (λ (x : Walk). whole_fault x words ≡ []) (sym walks) after.0),
+        subst (λ (x : Walk). Held' (end_rows x words) (given ++ (o, flag_value) ∷ more) (names ++ others)) (sym walks)
+            (subst (λ (g : Given). Held' (end_rows (state (reacted c (optioned o) (flag_value ∷ []) h) idle p false) words) g (names ++ others)) (then_given given (o, flag_value) more) after.1),
       )
 
   pub passes_all : (words : List Text) (more : Given) (others : List Text) → Spell options words more others → PassesFrom words more others
   passes_all ws ms os ended = none_passes
   passes_all ws ms os (behind others) = dashes_pass_all others
   passes_all ws ms os (name word words more others is spell) = name_passes word words more others is (passes_all words more others spell)
-  passes_all ws ms os (apart o v words more others among is spell) = apart_passes o v words more others among is (passes_all words more others spell)
-  passes_all ws ms os (joined o v words more others among spell) = joined_passes o v words more others among (passes_all words more others spell)
+  passes_all ws ms os (apart o v words more others among takes is spell) = apart_passes o v words more others among takes is (passes_all words more others spell)
+  passes_all ws ms os (joined o v words more others among takes spell) = joined_passes o v words more others among takes (passes_all words more others spell)
+  passes_all ws ms os (flag o words more others among none spell) = flag_passes o words more others among none (passes_all words more others spell)

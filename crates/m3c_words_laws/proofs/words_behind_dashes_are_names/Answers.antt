@@ -8,4 +8,5 @@ returns c = record {
   run = behind_are_names (codes "run") refl;
   exec = behind_are_names (codes "exec") refl;
   dump = behind_are_names (codes "dump") refl;
+  inspect = behind_are_names (codes "inspect") refl;
 }

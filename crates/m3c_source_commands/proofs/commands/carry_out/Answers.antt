@@ -23,3 +23,6 @@ returns-in-Dump g c = carried g.C.Checks.judges _ _ _ _ _ _ (ap order_of c.in-Du
 
 pub returns-in-Bench : goal.returns-in-Bench
 returns-in-Bench g c = carried g.C.Checks.judges _ _ _ _ _ _ (ap order_of c.in-Bench.is) (c.bench.ensures, refl)
+
+pub returns-in-Inspect : goal.returns-in-Inspect
+returns-in-Inspect g c = carried g.C.Checks.judges _ _ _ _ _ _ (ap order_of c.in-Inspect.is) c.inspect_image.ensures

@@ -2,4 +2,4 @@ use Rattle.m3c_words.proofs.Grammars.{arg_added}
 use Rattle.m3c_words.proofs.grammar.run_command.Goals as goal
 
 pub returns : goal.returns
-returns c = c.with_run_options.ensures _ (arg_added _ _ _ _ _ c.in_ok-arg.ensures c.command.ensures c.word.ensures)
+returns c = c.with_options.ensures _ (arg_added _ _ _ _ _ c.in_ok-command.ensures c.command.ensures c.word.ensures)

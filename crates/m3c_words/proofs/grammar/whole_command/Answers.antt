@@ -9,5 +9,6 @@ returns c =
     let build = command_added _ _ _ _ _ c.in_ok-subcommand.ensures top c.in_ok-build.ensures in
     let run = command_added _ _ _ _ _ c.in_ok-whole.ensures build c.in_ok-run.ensures in
     let exec = command_added _ _ _ _ _ c.in_ok-subcommand-2.ensures run c.in_ok-exec.ensures in
-    let dump = command_added _ _ _ _ _ c.in_ok-subcommand-3.ensures exec c.in_ok-dump.ensures in
-    command_added _ _ _ _ _ c.in_ok-subcommand-4.ensures dump c.in_ok-bench.ensures
+    let dump = command_added _ _ _ _ _ c.in_ok-whole-2.ensures exec c.in_ok-dump.ensures in
+    let bench = command_added _ _ _ _ _ c.in_ok-subcommand-3.ensures dump c.in_ok-bench.ensures in
+    command_added _ _ _ _ _ c.in_ok-subcommand-4.ensures bench c.in_ok-inspect.ensures

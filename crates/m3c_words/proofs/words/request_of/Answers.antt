@@ -1,5 +1,5 @@
 use Rattle.std.proofs.Common.{refl}
-use Rattle.m3c_words.proofs.Readings.{order_of_build, order_of_run, order_of_exec, order_of_dump, order_of_bench, order_of_none}
+use Rattle.m3c_words.proofs.Readings.{order_of_build, order_of_run, order_of_exec, order_of_dump, order_of_bench, order_of_inspect, order_of_none}
 use Rattle.m3c_words.proofs.words.request_of.Goals as goal
 
 pub returns-in-build : goal.returns-in-build
@@ -17,5 +17,8 @@ returns-in-dump c = rw (c.in-dump.is, order_of_dump) c.dump_request.ensures
 pub returns-in-bench : goal.returns-in-bench
 returns-in-bench c = rw (c.in-bench.is, order_of_bench) c.bench_request.ensures
 
+pub returns-in-inspect : goal.returns-in-inspect
+returns-in-inspect c = rw (c.in-inspect.is, order_of_inspect) c.inspect_request.ensures
+
 pub returns-in_default : goal.returns-in_default
-returns-in_default c = rw (order_of_none _ _ c.in_default.not-build c.in_default.not-run c.in_default.not-exec c.in_default.not-dump c.in_default.not-bench) refl
+returns-in_default c = rw (order_of_none _ _ c.in_default.not-build c.in_default.not-run c.in_default.not-exec c.in_default.not-dump c.in_default.not-bench c.in_default.not-inspect) refl
