@@ -61,7 +61,7 @@ fn answer_of<'a>(
         Question::Run { input, expected } => {
             let answer = run_lowered(alloc, arena, program, input, expected)?;
             let improved = improved_answer(alloc, arena, program, input, expected)?;
-            if improved == answer {
+            if improved.as_str() == answer.as_str() {
                 Ok(answer)
             } else {
                 Ok(format!(in alloc; "{answer}; behind the passes: {improved}")?)
