@@ -2,7 +2,7 @@
 use crate::rewriting::Draft;
 use m3_available::{Facts, Flow, MANY_ANSWERS, MANY_FACTS, fact_number};
 use m3_base::{NoMemory, place_number};
-use m3_flow::Groups;
+use m3_flow::{Groups, end_of, exits_of};
 use m3_mid::Proc;
 use m3_same_forms::{Known, Pair, Setting, copied};
 use std::alloc::Global;
@@ -112,7 +112,8 @@ impl Needed {
         })
     }
 
-    /// At the number of each block that is reached its pair, and at the others that of a short one.
+    /// At the number of each block its pair. A block that no way reaches has one of its own where
+    /// nothing follows it, and else that of a short block that is reached.
     pub(crate) fn pairs(
         &self,
         alloc: Global,
@@ -125,9 +126,10 @@ impl Needed {
         let mut pairs = Vec::new(alloc);
         for number in 0..p.blocks.len() {
             let number = place_number(number)?;
-            let block = match flow.entry(number) {
-                Some(_) => number,
-                None => spare,
+            let block = if flow.entry(number).is_some() || is_last(p, number) {
+                number
+            } else {
+                spare
             };
             let facts = flow.entry(block).unwrap_or(&none);
             pairs.push(self.pair(alloc, block, facts, common)?)?;
@@ -141,6 +143,11 @@ fn is_common(common: Option<&[bool]>, temp: u32) -> bool {
         Some(common) => common.get(temp as usize).copied() == Some(true),
         None => true,
     }
+}
+
+/// Whether no block follows one.
+fn is_last(p: &Proc<'_>, block: u32) -> bool {
+    exits_of(end_of(p, block)).iter().all(|exit| exit.is_none())
 }
 
 /// A block with as few operations as any that is reached.
