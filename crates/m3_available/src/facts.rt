@@ -1,5 +1,6 @@
 //! What is known at a place in a block.
 use m3_base::NoMemory;
+use m3_flow::Pair as Link;
 use m3_same_forms::{Form, Query, Symbol, copied, same_symbol, same_tag};
 use std::alloc::Global;
 
@@ -34,11 +35,24 @@ pub struct Held {
     pub is_near: bool,
 }
 
-/// What is known where a block begins.
+/// What is known where a block begins. A fact keeps its place, which is empty where it isn't known
+/// any more.
 #[derive(Drop)]
 pub struct Facts {
-    pub answers: Vec<Answer>,
-    pub held: Vec<Held>,
+    pub answers: Vec<Option<Answer>>,
+    pub held: Vec<Option<Held>>,
+}
+
+/// A way from the end of a block to the block that follows.
+#[derive(Clone, Copy)]
+pub struct Way {
+    pub from: u32,
+    pub to: u32,
+}
+
+/// The number of a fact at the entry of a block among all.
+pub fn fact_number(block: u32, fact: u32) -> u32 {
+    block.saturating_mul(MANY_FACTS).saturating_add(fact)
 }
 
 fn times_in(form: &Form, symbol: Symbol) -> u64 {
@@ -97,6 +111,37 @@ impl Answer {
     }
 }
 
+impl Held {
+    /// The same, as a fact where a block begins.
+    pub(crate) fn as_fact(&self, alloc: Global, number: u32) -> Result<Held, NoMemory> {
+        Ok(Held {
+            temp: self.temp,
+            value: self.value.copy(alloc)?,
+            from: Some(number),
+            is_near: self.is_near,
+        })
+    }
+}
+
+/// From which facts at the entries of blocks those of the next ones come.
+#[derive(Drop)]
+pub(crate) struct Sources {
+    pub(crate) links: Vec<Link>,
+}
+
+impl Sources {
+    /// A fact at the entry of a block comes from one at that of the block before.
+    fn add(&mut self, way: Way, number: u32, from: Option<u32>) -> Result<(), NoMemory> {
+        if let Some(from) = from {
+            self.links.push(Link {
+                group: fact_number(way.to, number),
+                item: fact_number(way.from, from),
+            })?;
+        }
+        Ok(())
+    }
+}
+
 impl Facts {
     /// Nothing is known.
     pub fn none(alloc: Global) -> Facts {
@@ -106,23 +151,35 @@ impl Facts {
         }
     }
 
+    /// Whether nothing is known.
+    pub(crate) fn is_none(&self) -> bool {
+        self.answers.iter().all(|answer| answer.is_none())
+            && self.held.iter().all(|held| held.is_none())
+    }
+
     /// The answer to the same question, where it is the same.
-    pub fn same_answer(&self, answer: &Answer) -> Option<&Answer> {
+    fn same_answer(&self, answer: &Answer) -> Option<&Answer> {
         for other in &self.answers {
-            if same_question(&other.query, &answer.query) {
-                if same_terms(&other.value, &answer.value) {
-                    return Some(other);
-                }
-                return None;
+            if let Some(other) = other
+                && same_question(&other.query, &answer.query)
+            {
+                return if same_terms(&other.value, &answer.value) {
+                    Some(other)
+                } else {
+                    None
+                };
             }
         }
         None
     }
 
     /// What the same temporary holds, where it is the same.
-    pub fn same_held(&self, held: &Held) -> Option<&Held> {
+    fn same_held(&self, held: &Held) -> Option<&Held> {
         for other in &self.held {
-            if other.temp == held.temp && same_terms(&other.value, &held.value) {
+            if let Some(other) = other
+                && other.temp == held.temp
+                && same_terms(&other.value, &held.value)
+            {
                 return Some(other);
             }
         }
@@ -131,36 +188,67 @@ impl Facts {
 
     /// Whether a temporary holds a form.
     pub(crate) fn holds(&self, value: &Form) -> bool {
-        self.held.iter().any(|held| same_terms(&held.value, value))
+        self.held.iter().any(|held| matches!(held, Some(held) if same_terms(&held.value, value)))
     }
 
-    /// Keeps what others say too. Gives whether anything went.
-    pub(crate) fn meet(self, alloc: Global, others: &Facts) -> Result<(Facts, bool), NoMemory> {
-        let Facts { answers, held } = self;
-        let mut left = Facts::none(alloc);
+    /// Notes where facts come from that a first way to their block brings.
+    pub(crate) fn note_sources(&self, way: Way, sources: &mut Sources) -> Result<(), NoMemory> {
+        let mut number = 0u32;
+        for answer in &self.answers {
+            if let Some(answer) = answer {
+                sources.add(way, number, answer.from)?;
+            }
+            number = number.saturating_add(1);
+        }
+        let mut number = MANY_ANSWERS;
+        for held in &self.held {
+            if let Some(held) = held {
+                sources.add(way, number, held.from)?;
+            }
+            number = number.saturating_add(1);
+        }
+        Ok(())
+    }
+
+    /// Keeps what another way to the same block says too, and notes where it comes from. Gives
+    /// whether anything went.
+    pub(crate) fn meet(
+        &mut self,
+        others: &Facts,
+        way: Way,
+        sources: &mut Sources,
+    ) -> Result<bool, NoMemory> {
         let mut changed = false;
-        for mut answer in answers {
-            match others.same_answer(&answer) {
-                Some(other) => {
-                    let is_near = answer.is_near && other.is_near;
-                    changed = changed || is_near != answer.is_near;
-                    answer.is_near = is_near;
-                    left.answers.push(answer)?;
+        let mut number = 0u32;
+        for place in self.answers.iter_mut() {
+            if let Some(mut answer) = place.take() {
+                match others.same_answer(&answer) {
+                    Some(other) => {
+                        sources.add(way, number, other.from)?;
+                        changed = changed || (answer.is_near && !other.is_near);
+                        answer.is_near = answer.is_near && other.is_near;
+                        *place = Some(answer);
+                    }
+                    None => changed = true,
                 }
-                None => changed = true,
             }
+            number = number.saturating_add(1);
         }
-        for mut one in held {
-            match others.same_held(&one) {
-                Some(other) => {
-                    let is_near = one.is_near && other.is_near;
-                    changed = changed || is_near != one.is_near;
-                    one.is_near = is_near;
-                    left.held.push(one)?;
+        let mut number = MANY_ANSWERS;
+        for place in self.held.iter_mut() {
+            if let Some(mut held) = place.take() {
+                match others.same_held(&held) {
+                    Some(other) => {
+                        sources.add(way, number, other.from)?;
+                        changed = changed || (held.is_near && !other.is_near);
+                        held.is_near = held.is_near && other.is_near;
+                        *place = Some(held);
+                    }
+                    None => changed = true,
                 }
-                None => changed = true,
             }
+            number = number.saturating_add(1);
         }
-        Ok((left, changed))
+        Ok(changed)
     }
 }

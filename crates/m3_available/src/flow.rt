@@ -1,74 +1,73 @@
 //! What is known where each block begins: what is known on every way to it.
-use crate::facts::Facts;
+use crate::facts::{Facts, Sources, Way};
 use crate::naming::Edge;
 use crate::walk::Walk;
 use m3_base::NoMemory;
-use m3_flow::{LiveSets, Order, end_of, exits_of, ops_of};
+use m3_flow::{LiveSets, Pair as Link, exits_of};
 use m3_mid::{End, Proc};
 use std::alloc::Global;
 
-/// After so many rounds nothing is taken from block to block.
-const ROUNDS: u32 = 40;
-
-/// What is known where each block begins, by its number; nothing yet where no way led to it.
+/// What is known where each block begins, by its number; nothing yet where no way led to it. A block
+/// is open where that changed since the block was walked.
 #[derive(Drop)]
 pub struct Flow {
     alloc: Global,
     entries: Vec<Option<Facts>>,
     is_open: Vec<bool>,
+    sources: Sources,
 }
 
-/// The facts at both exits of a block, where it has them.
-pub fn exit_facts(
+/// What is known at one exit of a block.
+fn exit_facts(
     walk: &mut Walk<'_>,
     live: &LiveSets,
+    to: u32,
     end: End,
-) -> Result<[Option<Facts>; 2], NoMemory> {
-    let [first, second] = exits_of(end);
-    Ok([
-        facts_at(walk, live, end, first, true)?,
-        facts_at(walk, live, end, second, false)?,
-    ])
-}
-
-fn facts_at(
-    walk: &mut Walk<'_>,
-    live: &LiveSets,
-    end: End,
-    exit: Option<u32>,
     holds: bool,
-) -> Result<Option<Facts>, NoMemory> {
-    let Some(to) = exit else {
-        return Ok(None);
-    };
-    let before = walk.answers.len();
-    if let End::If {
+) -> Result<Facts, NoMemory> {
+    let End::If {
         relation,
         left,
         right,
         ..
     } = end
-    {
-        walk.learn_test(relation, left, right, holds)?;
-    }
-    let edge = Edge::of(walk, live, to)?;
-    let facts = edge.facts(walk)?;
-    walk.answers.truncate(before);
-    Ok(Some(facts))
+    else {
+        return Edge::of(walk, live, to)?.facts(walk);
+    };
+    walk.learn_test(relation, left, right, holds)?;
+    let facts = Edge::of(walk, live, to)?.facts(walk)?;
+    walk.answers.pop();
+    Ok(facts)
 }
 
 impl Flow {
-    fn open(&mut self, block: u32, facts: Option<Facts>) {
-        if let Some(entry) = self.entries.get_mut(block as usize) {
-            *entry = facts;
+    /// Nothing is known where a procedure begins, and no other block is reached yet.
+    pub fn new(alloc: Global, p: &Proc<'_>) -> Result<Flow, NoMemory> {
+        let mut entries = Vec::new(alloc);
+        for _block in p.blocks {
+            entries.push(None)?;
         }
+        let mut flow = Flow {
+            alloc,
+            entries,
+            is_open: vec![in alloc; false; p.blocks.len()]?,
+            sources: Sources {
+                links: Vec::new(alloc),
+            },
+        };
+        flow.put(p.start, Facts::none(alloc));
+        flow.open(p.start);
+        Ok(flow)
+    }
+
+    fn open(&mut self, block: u32) {
         if let Some(is_open) = self.is_open.get_mut(block as usize) {
             *is_open = true;
         }
     }
 
     /// Whether a block was open; it isn't any more.
-    fn close(&mut self, block: u32) -> bool {
+    pub fn close(&mut self, block: u32) -> bool {
         match self.is_open.get_mut(block as usize) {
             Some(is_open) => {
                 let was_open = *is_open;
@@ -93,65 +92,55 @@ impl Flow {
     }
 
     /// A way leads to a block on which this is known.
-    fn reach(&mut self, block: u32, facts: Facts) -> Result<(), NoMemory> {
-        match self.take(block) {
-            None => self.open(block, Some(facts)),
-            Some(entry) => {
-                let (left, changed) = entry.meet(self.alloc, &facts)?;
-                if changed {
-                    self.open(block, Some(left));
-                } else {
-                    self.put(block, left);
+    fn reach(&mut self, way: Way, facts: Facts) -> Result<(), NoMemory> {
+        match self.take(way.to) {
+            None => {
+                facts.note_sources(way, &mut self.sources)?;
+                self.put(way.to, facts);
+                self.open(way.to);
+            }
+            Some(mut entry) => {
+                if entry.meet(&facts, way, &mut self.sources)? {
+                    self.open(way.to);
                 }
+                self.put(way.to, entry);
             }
         }
         Ok(())
     }
 
-    /// Goes through a block.
-    fn pass(
+    fn leave_by(
         &mut self,
-        p: &Proc<'_>,
+        walk: &mut Walk<'_>,
+        live: &LiveSets,
+        way: Way,
+        end: End,
+        holds: bool,
+    ) -> Result<(), NoMemory> {
+        // Where nothing is known, no further way changes that.
+        if matches!(self.entry(way.to), Some(facts) if facts.is_none()) {
+            return Ok(());
+        }
+        let facts = exit_facts(walk, live, way.to, end, holds)?;
+        self.reach(way, facts)
+    }
+
+    /// The walk through a block is at its end.
+    pub fn leave(
+        &mut self,
         walk: &mut Walk<'_>,
         live: &LiveSets,
         block: u32,
+        end: End,
     ) -> Result<(), NoMemory> {
-        let Some(Some(entry)) = self.entries.get(block as usize) else {
-            return Ok(());
-        };
-        walk.enter(entry)?;
-        for op in ops_of(p, block) {
-            let step = walk.step(*op)?;
-            walk.follow(step)?;
+        let [first, second] = exits_of(end);
+        if let Some(to) = first {
+            self.leave_by(walk, live, Way { from: block, to }, end, true)?;
         }
-        let end = end_of(p, block);
-        let [first, second] = exit_facts(walk, live, end)?;
-        let [to, other] = exits_of(end);
-        if let (Some(to), Some(facts)) = (to, first) {
-            self.reach(to, facts)?;
-        }
-        if let (Some(other), Some(facts)) = (other, second) {
-            self.reach(other, facts)?;
+        if let Some(to) = second {
+            self.leave_by(walk, live, Way { from: block, to }, end, false)?;
         }
         Ok(())
-    }
-
-    /// Goes once through the blocks that are open. Gives whether any was.
-    fn go_round(
-        &mut self,
-        p: &Proc<'_>,
-        walk: &mut Walk<'_>,
-        live: &LiveSets,
-        order: &Order,
-    ) -> Result<bool, NoMemory> {
-        let mut any = false;
-        for block in &order.blocks {
-            if self.close(*block) {
-                any = true;
-                self.pass(p, walk, live, *block)?;
-            }
-        }
-        Ok(any)
     }
 
     /// What is known where a block begins, where some way leads to it.
@@ -162,39 +151,18 @@ impl Flow {
         }
     }
 
-    /// Forgets what is known where blocks begin.
-    fn give_up(&mut self) {
-        for entry in self.entries.iter_mut() {
-            if entry.is_some() {
-                *entry = Some(Facts::none(self.alloc));
-            }
-        }
+    /// From which facts at the entries of blocks those of the next ones come.
+    pub fn links(&self) -> &[Link] {
+        &self.sources.links
     }
 
-    /// What is known where the blocks of a procedure begin.
-    pub fn of(
-        alloc: Global,
-        p: &Proc<'_>,
-        live: &LiveSets,
-        order: &Order,
-    ) -> Result<Flow, NoMemory> {
-        let mut entries = Vec::new(alloc);
-        for _block in p.blocks {
-            entries.push(None)?;
-        }
-        let mut flow = Flow {
-            alloc,
-            entries,
-            is_open: vec![in alloc; false; p.blocks.len()]?,
-        };
-        flow.open(p.start, Some(Facts::none(alloc)));
-        let mut walk = Walk::new(alloc, p.slots, p.temps.len())?;
-        for _round in 0..ROUNDS {
-            if !flow.go_round(p, &mut walk, live, order)? {
-                return Ok(flow);
+    /// Forgets what is known where blocks begin, and opens all that some way leads to.
+    pub fn give_up(&mut self) {
+        for (entry, is_open) in self.entries.iter_mut().zip(self.is_open.iter_mut()) {
+            if entry.is_some() {
+                *entry = Some(Facts::none(self.alloc));
+                *is_open = true;
             }
         }
-        flow.give_up();
-        Ok(flow)
     }
 }

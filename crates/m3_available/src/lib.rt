@@ -8,7 +8,7 @@ mod naming;
 mod places;
 mod walk;
 
-pub use facts::{Answer, Facts, Held, MANY_ANSWERS, MANY_FACTS};
-pub use flow::{Flow, exit_facts};
-pub use places::Places;
+pub use facts::{Answer, Facts, Held, MANY_ANSWERS, MANY_FACTS, fact_number};
+pub use flow::Flow;
+pub use places::{Holder, Places};
 pub use walk::{Step, Walk};

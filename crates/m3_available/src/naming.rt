@@ -34,9 +34,9 @@ enum Naming {
 
 fn names_of(walk: &Walk<'_>) -> Result<Vec<Name>, NoMemory> {
     let mut names = Vec::new(walk.alloc);
-    for (place, held) in walk.left.held.iter().enumerate() {
+    for (place, held) in walk.places.held.iter().enumerate() {
         if let Some(symbol) = only_symbol(&held.value)
-            && walk.left.is_newest(place, held.temp)
+            && walk.places.is_newest(place, held.temp)
         {
             names.push(Name {
                 symbol,
@@ -82,7 +82,9 @@ impl<'l> Edge<'l> {
         match symbol {
             Symbol::One | Symbol::Frame | Symbol::Globals | Symbol::Text(_) | Symbol::Constant(_) =>
                 Some(symbol),
-            Symbol::Left(temp) if !walk.left.is_set(temp) && self.may(temp, naming) => Some(symbol),
+            Symbol::Left(temp) if !walk.places.is_set(temp) && self.may(temp, naming) => Some(
+                symbol,
+            ),
             Symbol::Left(_) | Symbol::New(_) => Some(Symbol::Left(self.name(symbol, naming)?)),
             Symbol::Right(_) => None,
         }
@@ -136,13 +138,13 @@ impl<'l> Edge<'l> {
         }
     }
 
-    fn held(&self, walk: &Walk<'_>, held: &Held) -> Result<Option<Held>, NoMemory> {
+    fn held(&self, walk: &Walk<'_>, place: usize, held: &Held) -> Result<Option<Held>, NoMemory> {
         match self.form(walk, &held.value, Naming::Live)? {
             Some(value) => Ok(Some(Held {
                 temp: held.temp,
                 value,
                 from: held.from,
-                is_near: held.is_near,
+                is_near: walk.places.is_near(place, held),
             })),
             None => Ok(None),
         }
@@ -159,23 +161,23 @@ impl<'l> Edge<'l> {
                 && !is_hidden(walk, place, &answer.query)
                 && let Some(answer) = self.answer(walk, answer)?
             {
-                facts.answers.push(answer)?;
+                facts.answers.push(Some(answer))?;
             }
         }
         Ok(())
     }
 
     fn add_held(&self, walk: &Walk<'_>, facts: &mut Facts) -> Result<(), NoMemory> {
-        let first = walk.right.held.len().saturating_sub(WINDOW);
-        for place in first..walk.right.held.len() {
-            if let Some(held) = walk.right.held.get(place)
+        let first = walk.places.held.len().saturating_sub(WINDOW);
+        for place in first..walk.places.held.len() {
+            if let Some(held) = walk.places.held.get(place)
                 && facts.held.len() < MANY_HELD as usize
                 && is_sum(&held.value)
-                && walk.right.is_newest(place, held.temp)
-                && let Some(held) = self.held(walk, held)?
+                && walk.places.is_held(place, held.temp)
+                && let Some(held) = self.held(walk, place, held)?
                 && !facts.holds(&held.value)
             {
-                facts.held.push(held)?;
+                facts.held.push(Some(held))?;
             }
         }
         Ok(())

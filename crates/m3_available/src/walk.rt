@@ -17,8 +17,7 @@ const WINDOW: usize = 100;
 pub struct Walk<'a> {
     pub(crate) alloc: Global,
     slots: &'a [Slot],
-    pub(crate) left: Places,
-    pub right: Places,
+    pub places: Places,
     pub(crate) answers: Vec<Answer>,
     fresh: u32,
     /// The facts at the block's entry that were used.
@@ -26,14 +25,14 @@ pub struct Walk<'a> {
 }
 
 /// What an operation did to the left procedure's temporaries.
-#[derive(Drop)]
+#[derive(Clone, Copy)]
 pub enum Step {
     /// It set one to a sum.
-    Sum { to: u32, value: Form },
+    Sum { to: u32 },
     /// It set one to an answer that is new.
-    New { to: u32, value: Form },
+    New { to: u32 },
     /// It set one to an answer that was known.
-    Known { to: u32, value: Form, is_near: bool },
+    Known { to: u32, is_near: bool },
     /// It tested what holds.
     Holds,
     /// It did something else.
@@ -46,8 +45,7 @@ impl<'a> Walk<'a> {
         Ok(Walk {
             alloc,
             slots,
-            left: Places::new(alloc, temps)?,
-            right: Places::new(alloc, temps)?,
+            places: Places::new(alloc, temps)?,
             answers: Vec::new(alloc),
             fresh: 0,
             used: Vec::new(alloc),
@@ -56,28 +54,23 @@ impl<'a> Walk<'a> {
 
     /// Begins a block at which this is known.
     pub fn enter(&mut self, facts: &Facts) -> Result<(), NoMemory> {
-        self.left.clear();
-        self.right.clear();
+        self.places.clear();
         self.answers.clear();
         self.used.clear();
         self.fresh = 0;
         let mut number = 0u32;
         for answer in &facts.answers {
-            self.answers.push(answer.as_fact(self.alloc, number)?)?;
+            if let Some(answer) = answer {
+                self.answers.push(answer.as_fact(self.alloc, number)?)?;
+            }
             number = number.saturating_add(1);
         }
         let mut number = MANY_ANSWERS;
         for held in &facts.held {
-            let Held {
-                temp,
-                ref value,
-                is_near,
-                ..
-            } = *held;
-            let left = value.copy(self.alloc)?;
-            let right = value.copy(self.alloc)?;
-            self.left.set(temp, left, Some(number), is_near)?;
-            self.right.set(temp, right, Some(number), is_near)?;
+            if let Some(held) = held {
+                self.places.set(held.as_fact(self.alloc, number)?)?;
+                self.places.follow(held.temp);
+            }
             number = number.saturating_add(1);
         }
         Ok(())
@@ -96,11 +89,11 @@ impl<'a> Walk<'a> {
         let mut settings = Vec::new(self.alloc);
         for operand in operands_of(op) {
             if let Some(temp) = temp_of(operand) {
-                let from = self.left.from(temp);
+                let from = self.places.from(temp);
                 self.note(from)?;
                 settings.push(Setting {
                     temp,
-                    value: self.left.form(self.alloc, temp)?,
+                    value: self.places.form(self.alloc, temp)?,
                 })?;
             }
         }
@@ -112,6 +105,15 @@ impl<'a> Walk<'a> {
         Ok(side.see(self.slots, &op)?)
     }
 
+    fn set(&mut self, temp: u32, value: Form) -> Result<(), NoMemory> {
+        self.places.set(Held {
+            temp,
+            value,
+            from: None,
+            is_near: true,
+        })
+    }
+
     fn new_form(&mut self) -> Result<Form, NoMemory> {
         let form = Form::of_symbol(self.alloc, Symbol::New(self.fresh))?;
         self.fresh = self.fresh.saturating_add(1);
@@ -119,6 +121,10 @@ impl<'a> Walk<'a> {
     }
 
     fn add(&mut self, query: Query, value: Form, is_told: bool) -> Result<(), NoMemory> {
+        // Nothing looks back further than the window.
+        if self.answers.len() >= 2 * WINDOW {
+            self.answers.drain(..WINDOW);
+        }
         self.answers.push(Answer {
             query,
             value,
@@ -153,14 +159,14 @@ impl<'a> Walk<'a> {
         match known {
             Some((value, from, is_near)) => {
                 self.note(from)?;
-                self.left.set(to, value.copy(self.alloc)?, None, true)?;
-                Ok(Step::Known { to, value, is_near })
+                self.set(to, value)?;
+                Ok(Step::Known { to, is_near })
             }
             None => {
                 let value = self.new_form()?;
                 self.learn(query, value.copy(self.alloc)?)?;
-                self.left.set(to, value.copy(self.alloc)?, None, true)?;
-                Ok(Step::New { to, value })
+                self.set(to, value)?;
+                Ok(Step::New { to })
             }
         }
     }
@@ -210,9 +216,9 @@ impl<'a> Walk<'a> {
     fn operand(&mut self, operand: Operand) -> Result<Form, NoMemory> {
         match operand {
             Operand::Temp(temp) => {
-                let from = self.left.from(temp);
+                let from = self.places.from(temp);
                 self.note(from)?;
-                self.left.form(self.alloc, temp)
+                self.places.form(self.alloc, temp)
             }
             Operand::Number(number) => Ok(Form::of_number(self.alloc, number.cast_unsigned())?),
         }
@@ -233,7 +239,7 @@ impl<'a> Walk<'a> {
     fn pass(&mut self, op: MidOp<'_>) -> Result<(), NoMemory> {
         self.forget();
         if is_call(op) {
-            self.right.pass_call();
+            self.places.pass_call();
             for answer in self.answers.iter_mut() {
                 answer.is_near = false;
             }
@@ -241,8 +247,8 @@ impl<'a> Walk<'a> {
         for setting in settings_of(op) {
             if let Some(to) = setting {
                 let value = self.new_form()?;
-                self.left.set(to, value.copy(self.alloc)?, None, true)?;
-                self.right.set(to, value, None, true)?;
+                self.set(to, value)?;
+                self.places.follow(to);
             }
         }
         Ok(())
@@ -252,8 +258,8 @@ impl<'a> Walk<'a> {
     pub fn step(&mut self, op: MidOp<'_>) -> Result<Step, NoMemory> {
         match self.see(op)? {
             Seen::Sets { to, value } => {
-                self.left.set(to, value.copy(self.alloc)?, None, true)?;
-                Ok(Step::Sum { to, value })
+                self.set(to, value)?;
+                Ok(Step::Sum { to })
             }
             Seen::Computes { to, query } => self.compute(to, query),
             Seen::Tries {
@@ -294,18 +300,10 @@ impl<'a> Walk<'a> {
     }
 
     /// The right procedure carries out the same operation.
-    pub fn follow(&mut self, step: Step) -> Result<(), NoMemory> {
+    pub fn follow(&mut self, step: Step) {
         match step {
-            Step::Sum { to, value } | Step::New { to, value } => {
-                self.right.set(to, value, None, true)
-            }
-            Step::Known {
-                to,
-                value,
-                is_near: _,
-            } => self.right.set(to, value, None, true),
-            Step::Holds => Ok(()),
-            Step::Other => Ok(()),
+            Step::Sum { to } | Step::New { to } | Step::Known { to, .. } => self.places.follow(to),
+            Step::Holds | Step::Other => {}
         }
     }
 }

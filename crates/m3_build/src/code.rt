@@ -9,6 +9,7 @@ use m3_image_sections::ProcPart;
 use m3_isa::{Instr, Op};
 use m3_lower_stmt::lower_proc;
 use m3_lower_storage::Storage;
+use m3_passes::improve;
 use m3_tables::Location;
 use m3_tables_writer::RowPlain;
 use std::alloc::Global;
@@ -140,8 +141,9 @@ fn compile<'s>(
     number: u32,
 ) -> Result<Compiled, NoMemory> {
     let arena = Bump::new(alloc);
-    let proc = lower_proc(alloc, &arena, core, storage, number)?;
-    let derived = derive(alloc, &arena, &proc)?;
+    let lowered = lower_proc(alloc, &arena, core, storage, number)?;
+    let improved = improve(alloc, &arena, &lowered)?;
+    let derived = derive(alloc, &arena, &improved.proc)?;
     let placed = allocate(alloc, &derived)?;
     let links = Links {
         constants: constants.values.as_slice(),

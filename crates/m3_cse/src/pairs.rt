@@ -1,8 +1,8 @@
 //! The proof that the procedure that was written has the same run.
-use crate::rewriting::{Rewriting, fact_number};
-use m3_available::{Facts, Flow, MANY_ANSWERS, MANY_FACTS};
+use crate::rewriting::Draft;
+use m3_available::{Facts, Flow, MANY_ANSWERS, MANY_FACTS, fact_number};
 use m3_base::{NoMemory, place_number};
-use m3_flow::Groups;
+use m3_flow::{Groups, end_of, exits_of};
 use m3_mid::Proc;
 use m3_same_forms::{Known, Pair, Setting, copied};
 use std::alloc::Global;
@@ -30,19 +30,18 @@ impl Needed {
     }
 
     /// The facts that are used, and those from which they come.
-    pub(crate) fn of(
-        alloc: Global,
-        blocks: usize,
-        rewriting: &Rewriting<'_>,
-    ) -> Result<Needed, NoMemory> {
-        let count = blocks.saturating_mul(MANY_FACTS as usize);
-        let from = Groups::of(alloc, count, &rewriting.links)?;
+    pub(crate) fn of(alloc: Global, drafts: &[Draft<'_>], flow: &Flow) -> Result<Needed, NoMemory> {
+        let count = drafts.len().saturating_mul(MANY_FACTS as usize);
+        let from = Groups::of(alloc, count, flow.links())?;
         let mut needed = Needed {
             is_needed: vec![in alloc; false; count]?,
             open: Vec::new(alloc),
         };
-        for fact in &rewriting.used {
-            needed.need(*fact)?;
+        for (block, draft) in drafts.iter().enumerate() {
+            let block = place_number(block)?;
+            for fact in &draft.used {
+                needed.need(fact_number(block, *fact))?;
+            }
         }
         // Each fact is open once.
         for _step in 0..count {
@@ -66,7 +65,10 @@ impl Needed {
         let mut settings = Vec::new(alloc);
         let mut number = MANY_ANSWERS;
         for held in &facts.held {
-            if self.is(fact_number(block, number)) && is_common(common, held.temp) {
+            if let Some(held) = held
+                && self.is(fact_number(block, number))
+                && is_common(common, held.temp)
+            {
                 settings.push(Setting {
                     temp: held.temp,
                     value: held.value.copy(alloc)?,
@@ -81,7 +83,9 @@ impl Needed {
         let mut knowns = Vec::new(alloc);
         let mut number = 0u32;
         for answer in &facts.answers {
-            if self.is(fact_number(block, number)) {
+            if let Some(answer) = answer
+                && self.is(fact_number(block, number))
+            {
                 knowns.push(Known {
                     query: copied(alloc, &answer.query)?,
                     value: answer.value.copy(alloc)?,
@@ -108,7 +112,8 @@ impl Needed {
         })
     }
 
-    /// At the number of each block that is reached its pair, and at the others that of a short one.
+    /// At the number of each block its pair. A block that no way reaches has one of its own where
+    /// nothing follows it, and else that of a short block that is reached.
     pub(crate) fn pairs(
         &self,
         alloc: Global,
@@ -121,9 +126,10 @@ impl Needed {
         let mut pairs = Vec::new(alloc);
         for number in 0..p.blocks.len() {
             let number = place_number(number)?;
-            let block = match flow.entry(number) {
-                Some(_) => number,
-                None => spare,
+            let block = if flow.entry(number).is_some() || is_last(p, number) {
+                number
+            } else {
+                spare
             };
             let facts = flow.entry(block).unwrap_or(&none);
             pairs.push(self.pair(alloc, block, facts, common)?)?;
@@ -137,6 +143,11 @@ fn is_common(common: Option<&[bool]>, temp: u32) -> bool {
         Some(common) => common.get(temp as usize).copied() == Some(true),
         None => true,
     }
+}
+
+/// Whether no block follows one.
+fn is_last(p: &Proc<'_>, block: u32) -> bool {
+    exits_of(end_of(p, block)).iter().all(|exit| exit.is_none())
 }
 
 /// A block with as few operations as any that is reached.

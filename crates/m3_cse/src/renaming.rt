@@ -29,6 +29,13 @@ impl<'a> Names<'a> {
         }
     }
 
+    /// Nothing stands in the place of a temporary any more.
+    pub(crate) fn restore(&mut self, temp: u32) {
+        if let Some(name) = self.names.get_mut(temp as usize) {
+            *name = temp;
+        }
+    }
+
     pub(crate) fn temp(&self, temp: u32) -> u32 {
         self.names.get(temp as usize).copied().unwrap_or(temp)
     }

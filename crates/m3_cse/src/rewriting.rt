@@ -2,26 +2,24 @@
 use crate::renaming::Names;
 use crate::temps::Temps;
 use bumpalo::Bump;
-use m3_available::{Facts, Flow, MANY_ANSWERS, MANY_FACTS, Step, Walk, exit_facts};
+use m3_available::{Flow, Holder, Step, Walk};
 use m3_base::{NoMemory, place_number};
-use m3_flow::{LiveSets, Pair as Link, end_of, exits_of, ops_of};
+use m3_flow::{LiveSets, Order, end_of, ops_of};
 use m3_mid::{Block, End, Kind, MidOp, Proc};
-use m3_same_forms::Form;
 use std::alloc::Global;
+use std::mem;
 
-/// A block in the making.
+/// After so many rounds nothing is taken from block to block.
+const ROUNDS: u32 = 40;
+
+/// A block in the making, the facts at its entry that are used in it, and whether an operation was
+/// left out or replaced.
 #[derive(Drop)]
 pub(crate) struct Draft<'a> {
     pub ops: Vec<MidOp<'a>>,
     pub end: End,
-}
-
-/// What holds a form in the right procedure.
-#[derive(Clone, Copy)]
-struct Holder {
-    temp: u32,
-    from: Option<u32>,
-    is_near: bool,
+    pub used: Vec<u32>,
+    pub is_changed: bool,
 }
 
 /// The right procedure in the making.
@@ -31,16 +29,10 @@ pub(crate) struct Rewriting<'a> {
     temps: Temps,
     kinds: &'a [Kind],
     pub names: Names<'a>,
-    pub drafts: Vec<Draft<'a>>,
-    /// The facts at the entries of blocks that are used.
-    pub used: Vec<u32>,
-    /// From which fact at the entry of a block a fact at that of the next one comes.
-    pub links: Vec<Link>,
-}
-
-/// The number of a fact at the entry of a block among all.
-pub(crate) fn fact_number(block: u32, fact: u32) -> u32 {
-    block.saturating_mul(MANY_FACTS).saturating_add(fact)
+    /// By block what it becomes; none where no way led to it yet.
+    drafts: Vec<Option<Draft<'a>>>,
+    /// Whether an operation of the block at hand was left out or replaced.
+    is_changed: bool,
 }
 
 impl<'a> Rewriting<'a> {
@@ -49,14 +41,17 @@ impl<'a> Rewriting<'a> {
         arena: &'a Bump,
         p: &Proc<'a>,
     ) -> Result<Rewriting<'a>, NoMemory> {
+        let mut drafts = Vec::new(alloc);
+        for _block in p.blocks {
+            drafts.push(None)?;
+        }
         Ok(Rewriting {
             alloc,
             temps: Temps::of(alloc, p)?,
             kinds: p.temps,
             names: Names::new(alloc, arena, p.temps.len())?,
-            drafts: Vec::new(alloc),
-            used: Vec::new(alloc),
-            links: Vec::new(alloc),
+            drafts,
+            is_changed: false,
         })
     }
 
@@ -64,23 +59,16 @@ impl<'a> Rewriting<'a> {
         self.kinds.get(temp as usize).copied()
     }
 
-    /// What holds a form, is of the kind of a temporary, and stays what it is in the rest of the
+    /// What holds what a temporary is set to, is of its kind, and stays what it is in the rest of the
     /// block.
-    fn holder(&self, walk: &Walk<'_>, to: u32, value: &Form, place: u32) -> Option<Holder> {
-        let holder = match walk.right.holder(value) {
-            Some(held) => Holder {
-                temp: held.temp,
-                from: held.from,
-                is_near: held.is_near,
+    fn holder(&self, walk: &Walk<'_>, to: u32, place: u32) -> Option<Holder> {
+        let holder = match walk.places.holder(to) {
+            Some(holder) => holder,
+            None => Holder {
+                temp: walk.places.unset(to)?,
+                from: None,
+                is_near: true,
             },
-            None => {
-                let temp = walk.right.unset(value)?;
-                Holder {
-                    temp,
-                    from: None,
-                    is_near: true,
-                }
-            }
         };
         let is_fit = holder.temp != to
             && self.kind(holder.temp) == self.kind(to)
@@ -110,11 +98,10 @@ impl<'a> Rewriting<'a> {
         walk: &mut Walk<'_>,
         op: MidOp<'a>,
         to: u32,
-        value: &Form,
         place: u32,
     ) -> Result<Option<MidOp<'a>>, NoMemory> {
         let is_index = matches!(op, MidOp::Index { .. });
-        if let Some(holder) = self.holder(walk, to, value, place)
+        if let Some(holder) = self.holder(walk, to, place)
             && (is_index || holder.is_near)
         {
             if self.leave_out(walk, to, holder)? {
@@ -122,6 +109,7 @@ impl<'a> Rewriting<'a> {
             }
             if is_index {
                 walk.note(holder.from)?;
+                self.is_changed = true;
                 return Ok(Some(MidOp::Move {
                     to,
                     from: holder.temp,
@@ -137,15 +125,15 @@ impl<'a> Rewriting<'a> {
         walk: &mut Walk<'_>,
         op: MidOp<'a>,
         to: u32,
-        value: &Form,
         place: u32,
     ) -> Result<Option<MidOp<'a>>, NoMemory> {
-        if let Some(holder) = self.holder(walk, to, value, place) {
+        if let Some(holder) = self.holder(walk, to, place) {
             if self.leave_out(walk, to, holder)? {
                 return Ok(None);
             }
             if matches!(op, MidOp::Checked { .. }) {
                 walk.note(holder.from)?;
+                self.is_changed = true;
                 return Ok(Some(MidOp::Move {
                     to,
                     from: holder.temp,
@@ -161,16 +149,12 @@ impl<'a> Rewriting<'a> {
         &mut self,
         walk: &mut Walk<'_>,
         op: MidOp<'a>,
-        step: &Step,
+        step: Step,
         place: u32,
     ) -> Result<Option<MidOp<'a>>, NoMemory> {
         match step {
-            Step::Sum { to, value } => self.sum(walk, op, *to, value, place),
-            Step::Known {
-                to,
-                value,
-                is_near: true,
-            } => self.known(walk, op, *to, value, place),
+            Step::Sum { to } => self.sum(walk, op, to, place),
+            Step::Known { to, is_near: true } => self.known(walk, op, to, place),
             Step::Holds => Ok(None),
             Step::Known { .. } | Step::New { .. } | Step::Other => Ok(Some(self.names.op(op)?)),
         }
@@ -185,95 +169,39 @@ impl<'a> Rewriting<'a> {
     ) -> Result<(), NoMemory> {
         let place = place_number(place)?;
         let step = walk.step(op)?;
-        if let Some(op) = self.write(walk, op, &step, place)? {
-            ops.push(op)?;
-            walk.follow(step)?;
-        }
-        Ok(())
-    }
-
-    /// Notes from which fact at the entry of a block those of the next one come.
-    fn link(&mut self, block: u32, to: u32, entry: &Facts, facts: &Facts) -> Result<(), NoMemory> {
-        let mut number = 0u32;
-        for wanted in &entry.answers {
-            if let Some(found) = facts.same_answer(wanted) {
-                self.add_link(block, found.from, to, number)?;
+        match self.write(walk, op, step, place)? {
+            Some(op) => {
+                ops.push(op)?;
+                walk.follow(step);
             }
-            number = number.saturating_add(1);
-        }
-        let mut number = MANY_ANSWERS;
-        for wanted in &entry.held {
-            if let Some(found) = facts.same_held(wanted) {
-                self.add_link(block, found.from, to, number)?;
-            }
-            number = number.saturating_add(1);
+            None => self.is_changed = true,
         }
         Ok(())
     }
 
-    fn add_link(
-        &mut self,
-        block: u32,
-        from: Option<u32>,
-        to: u32,
-        fact: u32,
-    ) -> Result<(), NoMemory> {
-        if let Some(from) = from {
-            self.links.push(Link {
-                group: fact_number(to, fact),
-                item: fact_number(block, from),
-            })?;
-        }
-        Ok(())
-    }
-
-    fn add_links(
-        &mut self,
-        walk: &mut Walk<'_>,
-        flow: &Flow,
-        live: &LiveSets,
-        block: u32,
-        end: End,
-    ) -> Result<(), NoMemory> {
-        let facts = exit_facts(walk, live, end)?;
-        let [first, second] = facts;
-        let [to, other] = exits_of(end);
-        if let (Some(to), Some(facts)) = (to, first)
-            && let Some(entry) = flow.entry(to)
-        {
-            self.link(block, to, entry, &facts)?;
-        }
-        if let (Some(other), Some(facts)) = (other, second)
-            && let Some(entry) = flow.entry(other)
-        {
-            self.link(block, other, entry, &facts)?;
-        }
-        Ok(())
-    }
-
-    /// Writes a block that some way reaches.
+    /// Writes a block, by what is known where it begins.
     fn write_block(
         &mut self,
         walk: &mut Walk<'_>,
         p: &Proc<'a>,
-        flow: &Flow,
-        live: &LiveSets,
         block: u32,
     ) -> Result<Draft<'a>, NoMemory> {
         let old = ops_of(p, block);
         let end = end_of(p, block);
         self.temps.enter(Block { ops: old, end })?;
-        let mut ops = Vec::new(self.alloc);
+        for temp in self.temps.set_here() {
+            self.names.restore(*temp);
+        }
+        self.is_changed = false;
+        let mut ops = Vec::with_capacity(self.alloc, old.len())?;
         for (place, op) in old.iter().enumerate() {
             self.add_op(walk, *op, place, &mut ops)?;
-        }
-        self.add_links(walk, flow, live, block, end)?;
-        for fact in &walk.used {
-            self.used.push(fact_number(block, *fact))?;
         }
         Ok(Draft {
             ops,
             end: self.names.end(end),
+            used: Vec::new(self.alloc),
+            is_changed: self.is_changed,
         })
     }
 
@@ -282,29 +210,75 @@ impl<'a> Rewriting<'a> {
         Ok(Draft {
             ops: Vec::from_slice(self.alloc, ops_of(p, block))?,
             end: end_of(p, block),
+            used: Vec::new(self.alloc),
+            is_changed: false,
         })
+    }
+
+    /// Writes once the blocks that are open. Gives whether any was.
+    fn write_open(
+        &mut self,
+        p: &Proc<'a>,
+        walk: &mut Walk<'_>,
+        flow: &mut Flow,
+        live: &LiveSets,
+        order: &Order,
+    ) -> Result<bool, NoMemory> {
+        let mut any = false;
+        for block in &order.blocks {
+            if flow.close(*block)
+                && let Some(entry) = flow.entry(*block)
+            {
+                any = true;
+                walk.enter(entry)?;
+                let mut draft = self.write_block(walk, p, *block)?;
+                flow.leave(walk, live, *block, end_of(p, *block))?;
+                draft.used = mem::replace(&mut walk.used, Vec::new(self.alloc));
+                if let Some(place) = self.drafts.get_mut(*block as usize) {
+                    *place = Some(draft);
+                }
+            }
+        }
+        Ok(any)
+    }
+
+    /// Writes the blocks that some way reaches, until what is known where they begin stays so.
+    fn write_reached(
+        &mut self,
+        p: &Proc<'a>,
+        flow: &mut Flow,
+        live: &LiveSets,
+        order: &Order,
+    ) -> Result<(), NoMemory> {
+        let mut walk = Walk::new(self.alloc, p.slots, p.temps.len())?;
+        for _round in 0..ROUNDS {
+            if !self.write_open(p, &mut walk, flow, live, order)? {
+                return Ok(());
+            }
+        }
+        flow.give_up();
+        self.write_open(p, &mut walk, flow, live, order)?;
+        Ok(())
     }
 
     /// Writes all blocks.
     pub(crate) fn write_all(
         &mut self,
         p: &Proc<'a>,
-        flow: &Flow,
+        flow: &mut Flow,
         live: &LiveSets,
-    ) -> Result<(), NoMemory> {
-        let mut walk = Walk::new(self.alloc, p.slots, p.temps.len())?;
-        for number in 0..p.blocks.len() {
-            let block = place_number(number)?;
-            let draft = match flow.entry(block) {
-                Some(entry) => {
-                    walk.enter(entry)?;
-                    self.write_block(&mut walk, p, flow, live, block)?
-                }
-                None => self.copy_block(p, block)?,
-            };
-            self.drafts.push(draft)?;
+        order: &Order,
+    ) -> Result<Vec<Draft<'a>>, NoMemory> {
+        self.write_reached(p, flow, live, order)?;
+        let written = mem::replace(&mut self.drafts, Vec::new(self.alloc));
+        let mut drafts = Vec::with_capacity(self.alloc, written.len())?;
+        for (block, draft) in written.into_iter().enumerate() {
+            match draft {
+                Some(draft) => drafts.push(draft)?,
+                None => drafts.push(self.copy_block(p, place_number(block)?)?)?,
+            }
         }
-        Ok(())
+        Ok(drafts)
     }
 
     /// Whether one operation alone sets a temporary.

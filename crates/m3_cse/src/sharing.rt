@@ -4,7 +4,7 @@ ghost use Rattle.m3_mid_meaning.specs.Runs.{FollowsRun};
 use crate::alive::Alive;
 use crate::marks::loops_of;
 use crate::pairs::Needed;
-use crate::rewriting::Rewriting;
+use crate::rewriting::{Draft, Rewriting};
 use bumpalo::Bump;
 use bumpalo::collections::into_bump_slice;
 use m3_available::Flow;
@@ -35,10 +35,11 @@ fn blocks_of<'a>(
     alloc: Global,
     arena: &'a Bump,
     rewriting: &Rewriting<'a>,
+    drafts: &[Draft<'a>],
     alive: &mut Alive,
 ) -> Result<&'a [Block<'a>], NoMemory> {
     let mut blocks = Vec::new(arena);
-    for draft in &rewriting.drafts {
+    for draft in drafts {
         let kept = alive.thin(alloc, rewriting, &draft.ops)?;
         let ops = Vec::from_slice(arena, &kept)?;
         blocks.push(Block {
@@ -47,6 +48,11 @@ fn blocks_of<'a>(
         })?;
     }
     Ok(into_bump_slice(blocks))
+}
+
+/// Whether an operation was left out or replaced.
+fn is_changed(drafts: &[Draft<'_>], alive: &Alive) -> bool {
+    drafts.iter().any(|draft| draft.is_changed) || alive.is_gone.contains(&true)
 }
 
 /// Which temporaries are set where they were.
@@ -107,13 +113,16 @@ fn written<'a>(alloc: Global, arena: &'a Bump, p: &Proc<'a>) -> Result<Shared<'a
 {
     let order = block_order(alloc, p)?;
     let live = live_with(alloc, p, &order, &[])?;
-    let flow = Flow::of(alloc, p, &live, &order)?;
+    let mut flow = Flow::new(alloc, p)?;
     let mut rewriting = Rewriting::new(alloc, arena, p)?;
-    rewriting.write_all(p, &flow, &live)?;
-    let mut alive = Alive::of(alloc, p, &rewriting.drafts)?;
-    let blocks = blocks_of(alloc, arena, &rewriting, &mut alive)?;
+    let drafts = rewriting.write_all(p, &mut flow, &live, &order)?;
+    let mut alive = Alive::of(alloc, p, &drafts)?;
+    let blocks = blocks_of(alloc, arena, &rewriting, &drafts, &mut alive)?;
+    if !is_changed(&drafts, &alive) {
+        return Ok(unchanged(p));
+    }
     let common = common_of(alloc, p, &rewriting, &alive)?;
-    let needed = Needed::of(alloc, p.blocks.len(), &rewriting)?;
+    let needed = Needed::of(alloc, &drafts, &flow)?;
     let pairs = needed.pairs(alloc, p, &flow, &common)?;
     let loops = loops_of(alloc, arena, p, &rewriting, blocks)?;
     let shared = Proc {

@@ -122,6 +122,11 @@ impl Temps {
         Ok(())
     }
 
+    /// The temporaries that the block at hand sets.
+    pub(crate) fn set_here(&self) -> &[u32] {
+        &self.set
+    }
+
     /// Whether a temporary stays what it is from the operation at a place of the block on.
     pub(crate) fn stays(&self, temp: u32, place: u32) -> bool {
         match self.last.get(temp as usize) {

@@ -5,7 +5,7 @@ ghost use Rattle.m3_same_forms.specs.Forms.{Query as QueryValue, Pair as PairVal
 ghost use Rattle.m3_same_forms.specs.declared.forms.Term.{Term as TermValue};
 ghost use Rattle.m3_same_forms.specs.Forms.{same_symbol as same_symbols, insert, merge, scaled};
 ghost use Rattle.m3_same_forms.specs.Forms.{same_form, weight, mark, of_symbol, of_number, behind};
-ghost use Rattle.std.specs.Prelude.{List, [], ◌≡◌, ◌==◌, IfOk};
+ghost use Rattle.std.specs.Prelude.{List, [], ◌≡◌, ◌==◌, IfOk, true};
 
 use m3_mid::{CheckedOperator, Relation, WordOperator};
 use std::alloc::{AllocError, Global};
@@ -76,6 +76,26 @@ fn weight_of(symbol: Symbol) -> u64
         Symbol::Right(t) => u64::from(t) * 668_265_263 + 11,
         Symbol::New(n) => u64::from(n) * 374_761_393 + 13,
     }
+}
+
+// Whether two forms are written alike, with no term that is 0 times its symbol. Most that are the
+// same are.
+fn are_alike(left: &[Term], right: &[Term]) -> bool
+    ensures { result ≡ true → same_form left.now right.now ≡ true }
+{
+    if left.len() != right.len() {
+        return false;
+    }
+    let mut i = 0;
+    while i < left.len() {
+        let Term { symbol, times } = left[i];
+        let other = right[i];
+        if times == 0 || times != other.times || !same_symbol(other.symbol, symbol) {
+            return false;
+        }
+        i += 1;
+    }
+    true
 }
 
 impl Form {
@@ -195,17 +215,18 @@ impl Form {
     pub fn copy(&self, alloc: Global) -> Result<Form, AllocError>
         ensures { IfOk result (λ f. f ≡ self.now) }
     {
-        let mut terms = Vec::new(alloc);
-        for term in &self.terms {
-            terms.push(*term)?;
-        }
-        Ok(Form { terms })
+        Ok(Form {
+            terms: Vec::from_slice(alloc, &self.terms)?,
+        })
     }
 
     /// Whether the difference of two forms falls away.
     pub fn is_same(&self, alloc: Global, other: &Form) -> Result<bool, AllocError>
         ensures { IfOk result (λ b. b ≡ same_form self.now other.now) }
     {
+        if are_alike(&self.terms, &other.terms) {
+            return Ok(true);
+        }
         if !self.has_same_mark(other) {
             return Ok(false);
         }

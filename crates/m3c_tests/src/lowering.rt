@@ -3,6 +3,7 @@ mod examples;
 mod framed;
 mod frames;
 mod images;
+mod improved;
 mod lowered;
 mod orders;
 mod programs;
@@ -19,7 +20,9 @@ use std::rt::Files;
 
 /// Tries what is lowered, on a table. Each procedure of each program has to be well formed, its
 /// frame within its share, and the program's image within its bound. What a program does as middle
-/// code, the text of a procedure and the order of its tests have to be what is wanted.
+/// code, the text of a procedure and the order of its tests have to be what is wanted. Behind the
+/// passes its procedures have to be well formed, none of them given back, and it has to do the
+/// same.
 pub fn try_lowering(rt: &(impl Print + Files + AllocGlobal), name: &str) -> io::Result<()> {
     match name {
         "lowering/examples.txt" => try_examples(rt, name),

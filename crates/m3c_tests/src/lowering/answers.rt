@@ -1,5 +1,6 @@
 use crate::lowering::frames::first_large;
 use crate::lowering::images::too_large;
+use crate::lowering::improved::Improved;
 use crate::lowering::lowered::Lowered;
 use crate::lowering::orders::tested;
 use crate::lowering::running::run_lowered;
@@ -57,7 +58,15 @@ fn answer_of<'a>(
         return Ok(wrong);
     }
     match question {
-        Question::Run { input, expected } => run_lowered(alloc, arena, program, input, expected),
+        Question::Run { input, expected } => {
+            let answer = run_lowered(alloc, arena, program, input, expected)?;
+            let improved = improved_answer(alloc, arena, program, input, expected)?;
+            if improved.as_str() == answer.as_str() {
+                Ok(answer)
+            } else {
+                Ok(format!(in alloc; "{answer}; behind the passes: {improved}")?)
+            }
+        }
         Question::Text { name, expected } => match program.procedure(name) {
             Some(code) => text_answer(alloc, code, name, expected),
             None => Ok(String::from_str(alloc, "no such procedure")?),
@@ -82,6 +91,28 @@ fn first_wrong<'a>(
     match first_large(alloc, arena, program)? {
         Some(large) => Ok(Some(large)),
         None => too_large(alloc, arena, program.core),
+    }
+}
+
+/// How the run ends of the program that the passes make, unless something of it isn't as it has to
+/// be.
+fn improved_answer<'a>(
+    alloc: Global,
+    arena: &'a Bump,
+    program: Lowered<'a>,
+    input: &[u8],
+    expected: &[u8],
+) -> Result<String, NoMemory> {
+    let Improved {
+        program,
+        given_back,
+    } = Improved::of(alloc, arena, program)?;
+    if given_back != 0 {
+        return Ok(format!(in alloc; "{given_back} given back")?);
+    }
+    match first_broken(alloc, program)? {
+        Some(broken) => Ok(broken),
+        None => run_lowered(alloc, arena, program, input, expected),
     }
 }
 

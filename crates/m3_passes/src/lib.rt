@@ -1,0 +1,6 @@
+//! The passes that make middle code better, one after the other.
+#![tactic(auto)]
+
+mod improving;
+
+pub use improving::{Improved, PASSES, improve};
