@@ -66,7 +66,7 @@ module _ (p : Program) (own : Scope) where
 
     -- ---- references
 
-    by_value_sound : (t : ℕ) (g : Given) (go : Value → Evaluates Thing) → ((v : Value) (s : Store) → HasType p s v t → Gives p own s (IsGiven p own.holds g) (go v)) → (s : Store) (thing : Thing) → IsGiven p own.holds (ValueOf t) s thing → Gives p own s (IsGiven p own.holds g) (designators.by_value p here go thing)
+    pub by_value_sound : (t : ℕ) (g : Given) (go : Value → Evaluates Thing) → ((v : Value) (s : Store) → HasType p s v t → Gives p own s (IsGiven p own.holds g) (go v)) → (s : Store) (thing : Thing) → IsGiven p own.holds (ValueOf t) s thing → Gives p own s (IsGiven p own.holds g) (designators.by_value p here go thing)
     by_value_sound t g go h s (Is v) q = h v s q
     by_value_sound t g go h s (At to) q = absurd q
 

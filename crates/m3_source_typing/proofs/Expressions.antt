@@ -42,6 +42,14 @@ use Rattle.m3_source_typing.proofs.Rows as rows
 use Rattle.m3_source_typing.proofs.Rows.{TypedRow, row_sound, prefix_form, range_form, narrow_form, test_form}
 use Rattle.m3_source_typing.proofs.Constructing as parts
 use Rattle.m3_source_typing.proofs.Constructing.{TypedElements, TypedFields, field_of, set_form, record_form}
+use Rattle.m3_core.specs.declared.calls.Actual.{Actual}
+use Rattle.m3_types.specs.declared.nodes.Formal.{Formal}
+use Rattle.m3_values.specs.Types.{formals_in}
+use Rattle.m3_source_meaning.specs.Phrases.{By_value, By_place}
+use Rattle.m3_source_typing.specs.ValueTypes.{result_in}
+use Rattle.m3_source_typing.specs.Expressions.{given_by, AreActuals}
+use Rattle.m3_source_typing.proofs.Calling as calling
+use Rattle.m3_source_typing.proofs.Calling.{TypedPassings, call_sound, method_call_sound}
 
 pub types_stay : TypesStay
 types_stay p s t v kind l h = type_stays p s t l v kind h
@@ -206,9 +214,24 @@ module _ (p : Program) (own : Scope) (here : Here) where
     step_typed _ _ _ (typed.object_field owner n kind t u c have fixed) =
         subst (λ x. TypedStep p own here (ValueOf t) x (PlaceOf true u)) (sym (trees.step_is p here (layer.ObjectField owner n kind)))
         (record { goes = λ before s thing g. object_field_sound p own here before.pos owner.0 n t u c have fixed s thing g })
+    step_typed _ _ _ (typed.call actuals kind t ns c agree all each) =
+        subst (λ x. TypedStep p own here (ValueOf t) x (given_by (result_in (node_of p t)))) (sym (trees.step_is p here (layer.Call actuals kind)))
+        (record { goes = λ before s thing g. call_sound p own here agree before (map (trees.actual p here) actuals.now) t c (actuals_typed (formals_in (node_of p t)) actuals.now ns all) s thing g })
+    step_typed _ _ _ (typed.method_call owner m actuals kind t result formals ns c have all each) =
+        subst (λ x. TypedStep p own here (ValueOf t) x (given_by result)) (sym (trees.step_is p here (layer.MethodCall owner m actuals kind)))
+        (record { goes = λ before s thing g. method_call_sound p own here before.pos owner.0 m (map (trees.actual p here) actuals.now) t result c have (actuals_typed formals actuals.now ns all) s thing g })
     step_typed _ _ _ (typed.element_of index kind b t e i is of indexed numbers) =
         subst (λ x. TypedStep p own here (PlaceOf b t) x (PlaceOf b e)) (sym (trees.step_is p here (layer.Element index kind)))
         (record { goes = λ before s thing g. element_sound p own here (expression p here index.now) b t e i is of (expression_sound index.now i indexed) numbers before.kind s thing g })
+
+    actuals_typed : (formals : List Formal) (xs : List Actual) (ns : List ℕ) → AreActuals p here own formals xs ns → TypedPassings p own here (map (trees.actual p here) xs)
+    actuals_typed _ _ _ (typed.no_actuals formals) = calling.no_passings
+    actuals_typed _ _ _ (typed.value_actual formals n f kind e more ns there takes closed is rest) =
+        subst (λ x. TypedPassings p own here (x ∷ map (trees.actual p here) more)) (sym (trees.actual_is p here (layer.Actual::Value n kind e)))
+        (calling.one_passing (By_value n kind.0 (expression p here e.now)) (map (trees.actual p here) more) (calling.by_value n kind.0 (expression p here e.now) f.kind.0 (expression_sound e.now f.kind.0 is) closed) (actuals_typed formals more ns rest))
+    actuals_typed _ _ _ (typed.place_actual formals n f kind c checks b t more ns there takes is same rest) =
+        subst (λ x. TypedPassings p own here (x ∷ map (trees.actual p here) more)) (sym (trees.actual_is p here (layer.Place n kind c checks)))
+        (calling.one_passing (By_place n kind.0 (chain p here c.now) checks) (map (trees.actual p here) more) (calling.by_place n kind.0 (chain p here c.now) checks b t (chain_typed c.now (PlaceOf b t) is)) (actuals_typed formals more ns rest))
 
 pub expressions_are_sound : ExpressionsAreSound
 expressions_are_sound p here own e t is = expression_sound p own here e t is

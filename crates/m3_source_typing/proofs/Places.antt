@@ -21,7 +21,7 @@ use Rattle.m3_source_meaning.specs.Assignment.{type_of_variable}
 use Rattle.m3_source_typing.specs.ValueTypes.{OfRecords, OfArrays, class_of, record_fields, HasFixedSizes, HasType}
 use Rattle.m3_source_typing.specs.Stores.{IsLater, IsContentOf, AreVariables}
 use Rattle.m3_source_typing.specs.Sound.{Owned, Knows, Scope, IsFair, Becomes, IsPlaceOf, IsGood, Gives, IsReadable}
-use Rattle.m3_source_typing.specs.Expressions.{Given, PlaceOf, ValueOf}
+use Rattle.m3_source_typing.specs.Expressions.{Given, PlaceOf, ValueOf, Nothing}
 use Rattle.m3_source_typing.proofs.Staying.{place_stays, now_itself, becomes_itself, type_stays, fields_stay}
 use Rattle.m3_source_typing.proofs.Combining.{given_sound}
 use Rattle.m3_source_typing.proofs.Heads.{first_of, rest_of}
@@ -114,18 +114,24 @@ module _ (p : Program) where
   IsGiven own (PlaceOf b t) s (Is v) = ⊥
   IsGiven own (ValueOf t) s (Is v) = HasType p s v t
   IsGiven own (ValueOf t) s (At to) = ⊥
+  IsGiven own Nothing s (Is v) = Unit {0}
+  IsGiven own Nothing s (At to) = ⊥
 
   pub given_stays : (own : Owned) (g : Given) (s u : Store) (thing : Thing) → IsLater s u → IsGiven own g s thing → IsGiven own g u thing
   given_stays own (PlaceOf b t) s u (At to) l h = place_stays p own b s u to t l h
   given_stays own (PlaceOf b t) s u (Is v) l h = h
   given_stays own (ValueOf t) s u (Is v) l h = type_stays p s u l v t h
   given_stays own (ValueOf t) s u (At to) l h = h
+  given_stays own Nothing s u (Is v) l h = h
+  given_stays own Nothing s u (At to) l h = h
 
   pub readable : (own : Scope) (g : Given) (s : Store) (thing : Thing) → IsGiven own.holds g s thing → IsReadable p own s thing
   readable own (PlaceOf b t) s (At to) h = record { reads = λ m l good. let r = h.reads m l good.fair in (r.0, r.1) }
   readable own (PlaceOf b t) s (Is v) h = absurd h
   readable own (ValueOf t) s (Is v) h = record { reads = λ m l good. (v, refl) }
   readable own (ValueOf t) s (At to) h = absurd h
+  readable own Nothing s (Is v) h = record { reads = λ m l good. (v, refl) }
+  readable own Nothing s (At to) h = absurd h
 
   pub thing_given : (own : Scope) (g : Given) (s : Store) (thing : Thing) → IsGiven own.holds g s thing → Gives p own s (IsGiven own.holds g) (given thing)
   thing_given own g s thing h = given_sound p own s (IsGiven own.holds g) thing (λ u l. given_stays own.holds g s u thing l h)

@@ -5,4 +5,5 @@ pub mod Sound
 pub mod Operators
 pub mod Expressions
 pub mod Statements
+pub mod Procedures
 pub mod Laws

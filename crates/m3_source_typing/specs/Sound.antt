@@ -42,13 +42,14 @@ pub record Leaving : Type 0 where
   pub in_loop : Bool
   pub result : Option ℕ
 
-abbrev pub IsDefined : End → Type 0
-IsDefined (Waits action standing s) = Unit {0}
-IsDefined (Left answer s) = Unit {0}
-IsDefined (Faulted kind at) = Unit {0}
-IsDefined Undefined = ⊥
-
 module _ (p : Program) where
+  -- the end is defined, and leaves the store well typed
+  abbrev pub IsDefined : End → Type 0
+  IsDefined (Waits action standing s) = IsTyped p None s
+  IsDefined (Left answer s) = IsTyped p None s
+  IsDefined (Faulted kind at) = Unit {0}
+  IsDefined Undefined = ⊥
+
   -- Each answer fits the action at which the course stands when it takes it: that is where the
   -- course ends if it is told no more than the answers before that one.
   abbrev pub AllFit : (course : Now → End) → Now → Type 0
