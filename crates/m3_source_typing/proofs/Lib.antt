@@ -9,6 +9,7 @@ pub mod Places
 pub mod Referents
 pub mod Chains
 pub mod Calling
+pub mod Serving
 pub mod Expressions
 pub mod Leaving
 pub mod Repeating

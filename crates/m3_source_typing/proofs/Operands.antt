@@ -90,7 +90,7 @@ integer_node (Some node.Integer) h = refl
 integer_node None h = absurd (let bad : false ≡ true = h in cc)
 integer_node (Some n) h = absurd (let bad : false ≡ true = h in cc)
 
-boolean_node : (o : Option TypeNode) → is_boolean_in o ≡ true → o ≡ Some node.Boolean
+pub boolean_node : (o : Option TypeNode) → is_boolean_in o ≡ true → o ≡ Some node.Boolean
 boolean_node (Some node.Boolean) h = refl
 boolean_node None h = absurd (let bad : false ≡ true = h in cc)
 boolean_node (Some n) h = absurd (let bad : false ≡ true = h in cc)

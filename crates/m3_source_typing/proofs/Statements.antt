@@ -46,6 +46,8 @@ use Rattle.m3_source_typing.proofs.Counted.{for_sound}
 use Rattle.m3_source_typing.proofs.Staying.{argument_stays}
 use Rattle.m3_source_typing.proofs.Places.{IsGiven}
 use Rattle.m3_source_typing.specs.Stores.{IsTyped}
+use Rattle.m3_source_typing.proofs.Serving.{IsServed}
+use Rattle.m3_source_typing.proofs.Expressions.{routine_typed}
 
 module _ (p : Program) (here : Here) where
   mutual
@@ -63,6 +65,9 @@ module _ (p : Program) (here : Here) where
     statement_sound _ _ _ (typed.call own a at c g is) =
         subst (DoesAll p own a) (sym (trees.statement_is p here (statement.Call at c)))
         (λ s. does_bind p own a s (IsGiven p own.holds g) (Nothing p own a) _ _ (gives_does p own a s _ _ ((chain_typed p own here c.now g is).thing s)) (λ thing u l q. does_done p own a u))
+    statement_sound _ _ _ (typed.builtin own a at c k is) =
+        subst (DoesAll p own a) (sym (trees.statement_is p here (statement.Builtin at c)))
+        (λ s. does_bind p own a s (IsServed p own k) (Nothing p own a) _ _ (gives_does p own a s _ _ (routine_typed p own here c.now k is s)) (λ v u l q. does_done p own a u))
     statement_sound _ _ _ (typed.exit own a at is) =
         subst (DoesAll p own a) (sym (trees.statement_is p here (statement.Exit at))) (λ s. does_exit p own a s is)
     statement_sound _ _ _ (typed.block own inner a at variables initial body made first rest) =

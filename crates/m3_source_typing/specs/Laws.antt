@@ -49,8 +49,8 @@ BodiesAreSound =
     IsDefined p (statements p here q.body.now around now (ways_out p q))
 
 -- A WELL TYPED PROCEDURE IS NEVER UNDEFINED, called in a well typed store with actuals that fit its
--- formals, whatever answers that fit it is told; and wherever it stops, the store is well typed. The
--- body that runs first, which makes the variables of all modules, isn't meant.
+-- formals, whatever answers that fit it is told; and wherever it stops, the store is well typed.
+-- The body that runs first, which makes the variables of all modules, isn't meant.
 abbrev pub ProceduresAreSound : Type 0
 ProceduresAreSound =
     (p : Program) (n : ℕ) (q : ProcDef) (around : Option ℕ) (actuals : List Thing) (s : Store)
@@ -60,4 +60,5 @@ ProceduresAreSound =
     (λ now. ends p (start_of p n q around actuals s).here q now.memory now.answers)
     (record { memory = (start_of p n q around actuals s).memory; answers = answers }) →
     IsDefined p
-    (ends p (start_of p n q around actuals s).here q (start_of p n q around actuals s).memory answers)
+    (ends p (start_of p n q around actuals s).here q
+    (start_of p n q around actuals s).memory answers)

@@ -40,8 +40,8 @@ unless_shared false o = o
 module _ (p : Program) where
   -- ---- formals
 
-  -- A VALUE formal holds a value, and every other one stands for a place, as a VALUE formal does that
-  -- is an open array: it stands for the copy.
+  -- A VALUE formal holds a value, and every other one stands for a place, as a VALUE formal does
+  -- that is an open array: it stands for the copy.
   abbrev pub kind_of_formal : VarKind → Option ℕ
   kind_of_formal (kind.ByValue t) = unless_open (is_open p t.0) t.0
   kind_of_formal _ = None

@@ -86,8 +86,8 @@ module _ (p : Program) where
         → thing_in after.own x ≡ Some (At place)
 
   -- From a store on the place holds values of a type, which have one shape, wherever these own
-  -- variables hold values of their types; and values of the type that have that shape may be written
-  -- to it, where it is a variable.
+  -- variables hold values of their types; and values of the type that have that shape may be
+  -- written to it, where it is a variable.
   pub record IsPlaceOf (known : Owned) (is_variable : Bool) (s : Store) (to : Place) (t : ℕ)
       : Type 0 where
     pub sizes : List ℕ

@@ -3,6 +3,7 @@ use Rattle.std.specs.Prelude.{◌≡◌, ◌==◌, ◌<◌, ℕ, Bool, true, fal
 use Rattle.std.specs.Borrow.{Bor}
 use Rattle.m3_base.specs.declared.places.Pos.{Pos}
 use Rattle.m3_types.specs.declared.nodes.TypeId.{TypeId}
+use Rattle.m3_core.specs.declared.calls.BuiltinCall.{BuiltinCall}
 use Rattle.m3_core.specs.declared.chains.Base.{Base}
 use Rattle.m3_core.specs.declared.chains.Chain.{Chain, roll-Chain}
 use Rattle.m3_core.specs.declared.chains.Step.{Step}
@@ -28,7 +29,7 @@ use Rattle.m3_source_meaning.specs.Travelling.{argument_type}
 use Rattle.m3_source_typing.specs.ValueTypes.{class_of, HasType, HasFixedSizes}
 use Rattle.m3_source_typing.specs.Sound.{Owned, Alias, Scope, Leaving}
 use Rattle.m3_source_typing.specs.Operators.{is_ordinal, is_references, is_truth}
-use Rattle.m3_source_typing.specs.Expressions.{Given, PlaceOf, IsChain, IsExpression}
+use Rattle.m3_source_typing.specs.Expressions.{Given, PlaceOf, IsRoutine, IsChain, IsExpression}
 
 -- the same, inside a loop
 abbrev pub inside : Leaving → Leaving
@@ -137,6 +138,10 @@ module _ (p : Program) (here : Here) where
       -- a call as a statement; what it gives isn't wanted
       call : (own : Scope) (a : Leaving) (at : Pos) (c : Bor Chain) (g : Given)
           → IsChain p here own c.now g → IsStatement own a (roll-CoreStmt (statement.Call at c))
+      -- the call of a routine
+      builtin : (own : Scope) (a : Leaving) (at : Pos) (c : Bor BuiltinCall) (t : Option ℕ)
+          → IsRoutine p here own c.now t
+          → IsStatement own a (roll-CoreStmt (statement.Builtin at c))
       exit : (own : Scope) (a : Leaving) (at : Pos) → a.in_loop ≡ true
           → IsStatement own a (roll-CoreStmt (statement.Exit at))
       block : (own inner : Scope) (a : Leaving) (at : Pos) (variables : Bor (List ℕ))
