@@ -143,7 +143,7 @@ for_exits x body around exits = record {
   return = exits.return;
 }
 
-for_takes : (p : Program) (here : Here) (x : ℕ) (z : ℤ) (body : Acts) → Counts body → Takes (for_turn p here x z body)
+pub for_takes : (p : Program) (here : Here) (x : ℕ) (z : ℤ) (body : Acts) → Counts body → Takes (for_turn p here x z body)
 for_takes p here x z body c = record {
   ends = λ around now exits others h f s. (safe_bound (counted (length now.answers)) p here (within _ p here) x (Is (value.Ordinal z)) tt).ends around now (for_exits x body around exits) (for_exits x body around others) (same_number _) (record {
     gives = λ u later q l. (body_takes body c).ends (record around { scope = around.scope ++ x ∷ [] }) later exits others (λ after less. h after (omega arith)) (λ after le. f after (omega arith)) (fewer (length now.answers) exits others _ l s);
@@ -193,6 +193,15 @@ same_choice true e f g around now exits h = h
 same_choice false e f g around now exits h = refl
 
 module _ (p : Program) (here : Here) where
+  -- how many turns there may be doesn't matter where there are fewer answers
+  pub counting_again : (n m : ℕ) (x : ℕ) (step last z : ℤ) (body : Acts) → Counts body → (around : Around) (now : Now) (exits : Exits (Unit {0})) → length now.answers < n → length now.answers < m → counting p here n x step last z body around now exits ≡ counting p here m x step last z body around now exits
+  counting_again zero m x step last z body c around now exits l k = absurd (omega arith)
+  counting_again (suc n) zero x step last z body c around now exits l k = absurd (omega arith)
+  counting_again (suc n) (suc m) x step last z body c around now exits l k =
+      same_choice (is_further step last z) _ _ done around now exits
+      (then_same (for_turn p here x z body) (for_takes p here x z body c) (counting p here n x step last (z +ℤ step) body) (counting p here m x step last (z +ℤ step) body) around now exits
+      (λ later less. counting_again n m x step last (z +ℤ step) body c around later exits (omega arith) (omega arith)))
+
   counting_same : (n : ℕ) (other : Acts) (x : ℕ) (step last z : ℤ) (body : Acts) → Counts body → (around : Around) (now : Now) (exits : Exits (Unit {0})) → length now.answers < n → counting p here n x step last z body around now exits ≡ counting_or p here other n x step last z body around now exits
   counting_same zero other x step last z body c around now exits l = absurd (omega arith)
   counting_same (suc n) other x step last z body c around now exits l =

@@ -97,10 +97,10 @@ module _ (p : Program) (own : Scope) (here : Here) (a : Leaving) where
       (gives_does p own a u _ _ (in_bounds p own at (bounds p t) limits.0 z u limits.1))
       (λ y w k f. stored w to t (value.Ordinal z) (place_stays p own.holds true s w to t (and_later s u w l k) h) numbers (number_class p own (class_of p t) numbers, f)))
 
-  abbrev IsAnyNumber : Store → Value → Type 0
+  abbrev pub IsAnyNumber : Store → Value → Type 0
   IsAnyNumber s v = (n : ℤ) × (v ≡ value.Ordinal n)
 
-  amount_sound : (e : Option (Bor CoreExpr)) → IsAmount p here own e → (s : Store) → Gives p own s IsAnyNumber (amount_of (option_map (λ (e : Bor CoreExpr). expression p here e.now) e))
+  pub amount_sound : (e : Option (Bor CoreExpr)) → IsAmount p here own e → (s : Store) → Gives p own s IsAnyNumber (amount_of (option_map (λ (e : Bor CoreExpr). expression p here e.now) e))
   amount_sound None h s = given_sound p own s IsAnyNumber (value.Ordinal (pos 1)) (λ u l. (pos 1, refl))
   amount_sound (Some e) h s =
       bind_sound p own s (Typed p h.0) IsAnyNumber _ given ((expression_sound p own here e.now h.0 h.1).value s)

@@ -1,5 +1,5 @@
 -- The steps of chains, and chains.
-use Rattle.std.proofs.Common.{◌≡◌, ◌⊎◌, inl, inr, ⊎_elim, ℕ, pos, ◌<◌, Bool, true, false, List, [], ◌∷◌, Option, Some, None, refl, sym, ap, ◌∙◌, subst, arith}
+use Rattle.std.proofs.Common.{◌≡◌, ◌⊎◌, inl, inr, ⊎_elim, ◌≤◌, ◌+◌, ℕ, zero, suc, pos, ◌+ℤ◌, ◌<◌, Bool, true, false, List, [], ◌∷◌, length, Option, Some, None, refl, sym, ap, ◌∙◌, subst, arith}
 use Rattle.std.specs.Prelude.{◌-ℤ◌, nat_le, slice_get}
 use Rattle.std.specs.Option.{option_map, option_map_or, option_and_then}
 use Rattle.std.proofs.lemmas.Bool.Decides.{nat_tests}
@@ -31,6 +31,19 @@ use Rattle.m3_source_typing.proofs.Heads.{first_of}
 use Rattle.m3_source_typing.proofs.Parts.{array_of}
 use Rattle.m3_source_typing.proofs.Places.{IsGiven, given_stays, place_known, readable, thing_given, own_place, fresh_place, field_place, element_place}
 use Rattle.m3_source_typing.proofs.Referents.{referent_place, object_place, ref_class, ref_no_text, ref_no_thread}
+use Rattle.std.specs.Prelude.{neg_ℤ, not}
+use Rattle.m3_core.specs.declared.exprs.ArrayLimit.{ArrayLimit}
+use Rattle.m3_core.specs.declared.exprs.ArrayLimit.TheVariants as limit
+use Rattle.m3_values.specs.Values.{items}
+use Rattle.m3_values.specs.Types.{Bounds, bounds, index_in, type_sizes, is_same}
+use Rattle.m3_source_meaning.specs.Meanings.{holding, valued}
+use Rattle.m3_source_meaning.specs.Operators as operators
+use Rattle.m3_source_typing.specs.ValueTypes.{IsNumberOf, is_count}
+use Rattle.m3_source_typing.specs.Expressions as typed
+use Rattle.m3_source_typing.specs.Expressions.{counts, last_indices, HasLimit}
+use Rattle.m3_source_typing.proofs.Operands.{numbers_is, within_two}
+use Rattle.m3_source_typing.proofs.Parts.{size_counts}
+use Rattle.m3_source_typing.proofs.Places.{part_place}
 
 module _ (p : Program) (own : Scope) where
   module _ (here : Here) where
@@ -66,7 +79,7 @@ module _ (p : Program) (own : Scope) where
 
     -- ---- references
 
-    by_value_sound : (t : ℕ) (g : Given) (go : Value → Evaluates Thing) → ((v : Value) (s : Store) → HasType p s v t → Gives p own s (IsGiven p own.holds g) (go v)) → (s : Store) (thing : Thing) → IsGiven p own.holds (ValueOf t) s thing → Gives p own s (IsGiven p own.holds g) (designators.by_value p here go thing)
+    pub by_value_sound : (t : ℕ) (g : Given) (go : Value → Evaluates Thing) → ((v : Value) (s : Store) → HasType p s v t → Gives p own s (IsGiven p own.holds g) (go v)) → (s : Store) (thing : Thing) → IsGiven p own.holds (ValueOf t) s thing → Gives p own s (IsGiven p own.holds g) (designators.by_value p here go thing)
     by_value_sound t g go h s (Is v) q = h v s q
     by_value_sound t g go h s (At to) q = absurd q
 
@@ -125,6 +138,51 @@ module _ (p : Program) (own : Scope) where
         (subst (λ x. Gives p own w (IsGiven p own.holds (PlaceOf b e)) (designators.element_at p here index.pos kind to x (value.Ordinal z.0))) (sym a.is)
         (there_sound index.pos to b (count (value.Array a.below a.elements)) (count_of (z.0 -ℤ option_map_or (first_index p) kind (pos 0))) t e c is w (place_stays p own.holds b s w to t (and_later s u w l k) h) (ap first_of (sym (ap shape a.is) ∙ f.1))))))
 
+    -- ---- SUBARRAY
+
+    -- the array types of a SUBARRAY and of what it is taken from
+    pub record ArePartly (t k : ℕ) : Type 0 where
+      pub array : class_of p t ≡ OfArrays
+      pub e : ℕ
+      pub element_is : element p t ≡ Some e
+      pub first : Option ℕ
+      pub rest : List (Option ℕ)
+      pub sizes : type_sizes p t ≡ first ∷ rest
+      pub open_array : class_of p k ≡ OfArrays
+      pub f : ℕ
+      pub open_element : element p k ≡ Some f
+      pub open_sizes : type_sizes p k ≡ None ∷ rest
+      pub same : is_same p e f ≡ true
+
+    is_within : (m n : ℕ) → not (nat_le m n) ≡ false → m ≤ n
+    is_within m n h = grind (arith, nat_tests)
+
+    part_there_sound : (at : Pos) (to : Place) (b : Bool) (size : ℕ) (start n : Option ℕ) (t k : ℕ) → ArePartly t k → (s : Store) (h : IsPlaceOf p own.holds b s to t) → size ≡ first_of h.sizes → Gives p own s (IsGiven p own.holds (PlaceOf b k)) (designators.part_there p here at to size start n)
+    part_there_sound at to b size None n t k a s h same = fault_sound p own s _ fault_kind.Subarray at
+    part_there_sound at to b size (Some start) None t k a s h same = fault_sound p own s _ fault_kind.Subarray at
+    part_there_sound at to b size (Some start) (Some n) t k a s h same =
+        bind_sound p own s (λ u w. not (nat_le (start + n) size) ≡ false) (IsGiven p own.holds (PlaceOf b k)) _ _ (unless_sound p own s fault_kind.Subarray at (not (nat_le (start + n) size)))
+        (λ w u l q. thing_given p own (PlaceOf b k) u (At (place.further to (place.Part start n)))
+        (part_place p own.holds b u to t k a.e a.f start n a.first a.rest a.array a.element_is a.sizes a.open_array a.open_element a.open_sizes a.same (place_stays p own.holds b s u to t l h) (subst (λ m. start + n ≤ m) same (is_within (start + n) size q))))
+
+    subarray_of_sound : (at : Pos) (first count_ : Expression) (b : Bool) (t k i j : ℕ) → ArePartly t k → IsOfType p own first i → rule.is_ordinal p i ≡ true → IsOfType p own count_ j → rule.is_ordinal p j ≡ true → (s : Store) (thing : Thing) → IsGiven p own.holds (PlaceOf b t) s thing → Gives p own s (IsGiven p own.holds (PlaceOf b k)) (designators.subarray_of p here at first count_ thing)
+    subarray_of_sound at first count_ b t k i j a one numbers two others s (Is v) h = absurd h
+    subarray_of_sound at first count_ b t k i j a one numbers two others s (At to) h =
+        bind_sound p own s (Typed p i) _ _ _ (holding_sound p own s (Typed p i) (At to) first.value (one.value s))
+        (λ x u l q. bind_sound p own u (Typed p j) _ _ _ (holding_sound p own u (Typed p j) (At to) (holding (Is x) count_.value) (holding_sound p own u (Typed p j) (Is x) count_.value (two.value u)))
+        (λ y w m f. bind_sound p own w (ArrayFor t h.sizes) _ _ _ (seeing_sound p own w (ArrayFor t h.sizes) (λ mem. read mem to) (λ mem d good. let r = h.reads mem (and_later s w mem.store (and_later s u w l m) d) good.fair in (r.0, r.1, (r.2, r.3))))
+        (λ array d e g.
+        let z = number_of p u x i numbers q in
+        let c = number_of p w y j others f in
+        let v = array_of p d array t a.array g.0 in
+        subst (λ n. Gives p own d (IsGiven p own.holds (PlaceOf b k)) (designators.part_at p here at to array n y)) (sym z.1)
+        (subst (λ n. Gives p own d (IsGiven p own.holds (PlaceOf b k)) (designators.part_at p here at to array (value.Ordinal z.0) n)) (sym c.1)
+        (part_there_sound at to b (count array) (count_of z.0) (count_of c.0) t k a d (place_stays p own.holds b s d to t (and_later s u d l (and_later u w d m e)) h) (ap count v.is ∙ ap first_of (sym (ap shape v.is) ∙ g.1)))))))
+
+    pub subarray_sound : (at : Pos) (array : Chained) (first count_ : Expression) (b : Bool) (t k i j : ℕ) → ArePartly t k → ((s : Store) → Gives p own s (IsGiven p own.holds (PlaceOf b t)) array.thing) → IsOfType p own first i → rule.is_ordinal p i ≡ true → IsOfType p own count_ j → rule.is_ordinal p j ≡ true → (s : Store) → Gives p own s (IsGiven p own.holds (PlaceOf b k)) (designators.subarray p here at array first count_)
+    subarray_sound at array first count_ b t k i j a from one numbers two others s =
+        bind_sound p own s (IsGiven p own.holds (PlaceOf b t)) _ _ _ (from s) (λ thing u l q. subarray_of_sound at first count_ b t k i j a one numbers two others u thing q)
+
     -- ---- chains
 
     pub record TypedStep (g : Given) (x : Stepped) (h : Given) : Type 0 where
@@ -180,3 +238,47 @@ module _ (p : Program) (own : Scope) where
       value = λ s. bind_sound p own s (IsGiven p own.holds (ValueOf t)) (Typed p t) _ _ (h.thing s) (λ thing u l q. value_sound t u thing q);
       unread = h.unread;
     }
+
+    -- ---- FIRST, LAST and NUMBER
+
+    in_counts : (n : ℕ) → is_count n ≡ true → IsNumberOf (pos n) (Some counts)
+    in_counts n h = grind (arith, nat_tests)
+
+    in_last : (n : ℕ) → is_count n ≡ true → IsNumberOf (pos n +ℤ neg_ℤ (pos 1)) (Some last_indices)
+    in_last zero h = refl
+    in_last (suc n) h = grind (arith, nat_tests)
+
+    no_index : (noted : ℕ) → index_in (node_of p noted) ≡ None → option_and_then (λ t. option_and_then (bounds p) (index_in (node_of p t))) (Some noted) ≡ None
+    no_index noted e = ap (option_and_then (bounds p)) e
+
+    its_index : (noted i : ℕ) (b : Bounds) → index_in (node_of p noted) ≡ Some i → bounds p i ≡ Some b → option_and_then (λ t. option_and_then (bounds p) (index_in (node_of p t))) (Some noted) ≡ Some b
+    its_index noted i b e f = ap (option_and_then (bounds p)) e ∙ f
+
+    abbrev index_bounds : ℕ → Option Bounds
+    index_bounds noted = option_and_then (λ t. option_and_then (bounds p) (index_in (node_of p t))) (Some noted)
+
+    abbrev limit_number : ArrayLimit → Option Bounds → ℕ → Value
+    limit_number l index n = operators.limit_of_index p l (option_map_or (λ b. b) index (operators.open_bounds p n)) n
+
+    limit_typed : (l : ArrayLimit) (noted kind n : ℕ) → HasLimit p noted kind l → rule.is_ordinal p kind ≡ true → is_count n ≡ true → (s : Store) → HasType p s (limit_number l (index_bounds noted) n) kind
+    limit_typed _ noted kind n (typed.first_of i b e f within) numbers h s = subst (λ o. HasType p s (limit_number limit.First o n) kind) (sym (its_index noted i b e f)) (numbers_is (class_of p kind) numbers, within)
+    limit_typed _ noted kind n (typed.last_of i b e f within) numbers h s = subst (λ o. HasType p s (limit_number limit.Last o n) kind) (sym (its_index noted i b e f)) (numbers_is (class_of p kind) numbers, within)
+    limit_typed _ noted kind n (typed.first_of_open e within) numbers h s = subst (λ o. HasType p s (limit_number limit.First o n) kind) (sym (no_index noted e)) (numbers_is (class_of p kind) numbers, within)
+    limit_typed _ noted kind n (typed.last_of_open e within) numbers h s = subst (λ o. HasType p s (limit_number limit.Last o n) kind) (sym (no_index noted e)) (numbers_is (class_of p kind) numbers, within_two p (pos n +ℤ neg_ℤ (pos 1)) (Some last_indices) (bounds p kind) within (in_last n h))
+    limit_typed _ noted kind n (typed.number_of within) numbers h s = (numbers_is (class_of p kind) numbers, within_two p (pos n) (Some counts) (bounds p kind) within (in_counts n h))
+
+    array_now : (b : Bool) (t : ℕ) (s : Store) (thing : Thing) → IsGiven p own.holds (PlaceOf b t) s thing → Gives p own s (Typed p t) (valued thing)
+    array_now b t s (Is v) h = absurd h
+    array_now b t s (At to) h = seeing_sound p own s (Typed p t) (λ m. value_now m (At to)) (λ m l good. let r = h.reads m l good.fair in (r.0, r.1, r.2))
+
+    pub limit_sound : (l : ArrayLimit) (noted kind : ℕ) (c : Chained) (b : Bool) (t : ℕ) → c.kind ≡ Some noted → ((s : Store) → Gives p own s (IsGiven p own.holds (PlaceOf b t)) c.thing) → class_of p t ≡ OfArrays → HasLimit p noted kind l → rule.is_ordinal p kind ≡ true → (s : Store) →
+        Gives p own s (Typed p kind) (operators.array_limit p l (option_and_then (λ t. option_and_then (bounds p) (index_in (node_of p t))) c.kind) c)
+    limit_sound l noted kind c b t named from arrays has numbers s =
+        bind_sound p own s (IsGiven p own.holds (PlaceOf b t)) _ _ _ (from s)
+        (λ thing u k q. bind_sound p own u (Typed p t) _ _ _ (array_now b t u thing q)
+        (λ v w m f.
+        let a = array_of p w v t arrays f in
+        let n : ℕ = length (items a.elements) in
+        subst (λ o. Gives p own w (Typed p kind) (given (operators.limit_of_index p l (option_map_or (λ b. b) (option_and_then (λ t. option_and_then (bounds p) (index_in (node_of p t))) o) (operators.open_bounds p (count v))) (count v)))) (sym named)
+        (subst (λ x. Gives p own w (Typed p kind) (given (limit_number l (index_bounds noted) (count x)))) (sym a.is)
+        (typed_given p own w kind (limit_number l (index_bounds noted) n) (limit_typed l noted kind n has numbers (size_counts p (type_sizes p t) n a.below a.sizes) w)))))

@@ -7,16 +7,17 @@ use Rattle.m3_values.specs.Integers.{Computed, Result, Fault}
 use Rattle.m3_values.specs.Programs.{Program}
 use Rattle.m3_values.specs.Places.{Thing}
 use Rattle.m3_values.specs.Store.{Store, Memory, value_now}
-use Rattle.m3_source_meaning.specs.Meanings.{Told, Around, Now, Exits, End, Evaluates, given, fault, there, computed, unless, seeing, valued, acting, holding, holding_all, standing, ◌>>=◌}
+use Rattle.m3_source_meaning.specs.Meanings.{Raised, raising, Told, Around, Now, Exits, End, Evaluates, given, fault, there, computed, unless, seeing, valued, acting, holding, holding_all, standing, ◌>>=◌}
+use Rattle.m3_source_meaning.specs.Travelling.{argument_type}
 use Rattle.m3_source_typing.specs.Stores.{IsLater, IsTyped}
-use Rattle.m3_source_typing.specs.Points.{Fits, AnswerFits, new_cell}
+use Rattle.m3_source_typing.specs.Points.{IsArgument, Fits, AnswerFits, new_cell}
 use Rattle.m3_source_typing.specs.Sound.{Scope, IsGood, IsDefined, AllFit, IsSound, AreSound, Gives, IsReadable}
 use Rattle.m3_source_typing.proofs.Staying.{place_stays, now_itself, and_later, type_stays}
 
 module _ (p : Program) (own : Scope) where
   same_sound : (f g : Now → End) (now : Now) → ((answers : List Told) → f (record now { answers = answers }) ≡ g (record now { answers = answers })) → IsSound p g now → IsSound p f now
   same_sound f g now same sound fit =
-      subst IsDefined (sym (same now.answers))
+      subst (IsDefined p) (sym (same now.answers))
       (sound (λ before after told action standing s is leads. fit before after told action standing s is (same before ∙ leads)))
 
   -- what follows is sound from a later store on too
@@ -79,8 +80,8 @@ module _ (p : Program) (own : Scope) where
 
   -- an action to which an answer comes that fits, and that makes no cell whose defaults are missing
   acting_at : (s : Store) (action : Action Thing) (around : Around) (m : Memory) (answers : List Told) (exits : Exits (Answer Thing)) → IsLater s m.store → IsGood p own m → ((a : Answer Thing) → new_cell action a ≡ None) → AreSound p own s (λ t a. AnswerFits p t action a) exits →
-      AllFit p (λ later. acting action around later exits) (record { memory = m; answers = answers }) → IsDefined (acting action around (record { memory = m; answers = answers }) exits)
-  acting_at s action around m [] exits l good old b fit = tt
+      AllFit p (λ later. acting action around later exits) (record { memory = m; answers = answers }) → IsDefined p (acting action around (record { memory = m; answers = answers }) exits)
+  acting_at s action around m [] exits l good old b fit = good.fair.store
   acting_at s action around m (told ∷ answers) exits l good old b fit =
       let now : Now = record { memory = m; answers = told ∷ answers } in
       let one : Fits p m.store action told = fit [] answers told action (standing around now) m.store refl refl in
@@ -92,3 +93,7 @@ module _ (p : Program) (own : Scope) where
 
   pub acting_sound : (s : Store) (action : Action Thing) → ((a : Answer Thing) → new_cell action a ≡ None) → Gives p own s (λ t a. AnswerFits p t action a) (acting action)
   acting_sound s action old = record { ends = λ around now exits l typed b. acting_at s action around now.memory now.answers exits l typed old b }
+
+  -- an exception that goes on outwards
+  pub raising_sound : {A : Type 0} (s : Store) (P : Store → A → Type 0) (r : Raised) → ((t : Store) → IsLater s t → IsArgument p t r.argument (argument_type p r.exception)) → Gives p own s P (raising r)
+  raising_sound s P r h = record { ends = λ around now exits l good b. b.raised r now l good (h now.memory.store l) }

@@ -27,13 +27,9 @@ use Rattle.m3_source_typing.proofs.Expressions.{expression_sound}
 use Rattle.m3_source_typing.proofs.Leaving.{Nothing, DoesAll, later_for, gives_does, does_given, does_exit, does_raise, does_return}
 use Rattle.std.specs.Prelude.{◌||◌}
 use Rattle.m3_source_typing.proofs.Making.{does_variable}
+use Rattle.m3_source_typing.proofs.Staying.{argument_stays}
 
 module _ (p : Program) (own : Scope) (here : Here) where
-  pub argument_stays : (s t : Store) → IsLater s t → (v : Option Value) (k : Option ℕ) → IsArgument p s v k → IsArgument p t v k
-  argument_stays s t l v None h = tt
-  argument_stays s t l None (Some k) h = h
-  argument_stays s t l (Some v) (Some k) h = type_stays p s t l v k h
-
   pub optional_sound : (a : Leaving) (e : Option (Bor CoreExpr)) (k : Option ℕ) → IsOptional p here own e k → (s : Store) → Does p own a s (λ t v. IsArgument p t v k) (optional (option_map (λ (e : Bor CoreExpr). expression p here e.now) e))
   optional_sound a None None h s = does_given p own a s _ None (λ t l. tt)
   optional_sound a None (Some k) h s = absurd h
@@ -58,10 +54,10 @@ module _ (p : Program) (own : Scope) (here : Here) where
     ends = λ around now exits l good b. (h s).ends around now _ l good (record {
       after = record {
         gives = λ u later k fine q. (g later.memory.store).ends around later _ (now_itself later.memory.store) fine (last_for a s later exits (exits.gives u) k b (λ after m well. b.after.gives tt after (and_later s later.memory.store after.memory.store k m) well tt));
-        raised = λ r later k fine q. (g later.memory.store).ends (record around { held = kept_value r.argument ++ around.held }) later _ (now_itself later.memory.store) fine (last_for a s later exits (exits.raised r) k b (λ after m well. b.after.raised r after (and_later s later.memory.store after.memory.store k m) well (argument_stays later.memory.store after.memory.store m r.argument (argument_type p r.exception) q)));
+        raised = λ r later k fine q. (g later.memory.store).ends (record around { held = kept_value r.argument ++ around.held }) later _ (now_itself later.memory.store) fine (last_for a s later exits (exits.raised r) k b (λ after m well. b.after.raised r after (and_later s later.memory.store after.memory.store k m) well (argument_stays p later.memory.store after.memory.store m r.argument (argument_type p r.exception) q)));
       };
       exit = λ is later k fine. (g later.memory.store).ends around later _ (now_itself later.memory.store) fine (last_for a s later exits exits.exit k b (λ after m well. b.exit is after (and_later s later.memory.store after.memory.store k m) well));
-      return = λ v later k fine q. (g later.memory.store).ends (record around { held = kept_value v ++ around.held }) later _ (now_itself later.memory.store) fine (last_for a s later exits (exits.return v) k b (λ after m well. b.return v after (and_later s later.memory.store after.memory.store k m) well (argument_stays later.memory.store after.memory.store m v a.result q)));
+      return = λ v later k fine q. (g later.memory.store).ends (record around { held = kept_value v ++ around.held }) later _ (now_itself later.memory.store) fine (last_for a s later exits (exits.return v) k b (λ after m well. b.return v after (and_later s later.memory.store after.memory.store k m) well (argument_stays p later.memory.store after.memory.store m v a.result q)));
     });
   }
 
@@ -103,7 +99,7 @@ module _ (p : Program) (own : Scope) (here : Here) where
   choice_of a false body leaving s h g = g
 
   handled_sound : (a : Leaving) (hs : List Handling) (otherwise : Otherwise) (r : Raised) → AreHandling a hs → DoesAll p own a otherwise.body → (s : Store) → IsArgument p s r.argument (argument_type p r.exception) → Does p own a s (Nothing p own a) (handled p here hs otherwise r)
-  handled_sound a _ otherwise r no_handling h s q = choice_of a otherwise.is_written otherwise.body (raising r) s (h s) (does_raise p own a s r (λ t l. argument_stays s t l r.argument (argument_type p r.exception) q))
+  handled_sound a _ otherwise r no_handling h s q = choice_of a otherwise.is_written otherwise.body (raising r) s (h s) (does_raise p own a s r (λ t l. argument_stays p s t l r.argument (argument_type p r.exception) q))
   handled_sound a _ otherwise r (handling x hs is more) h s q =
       at (list_any (λ e. r.exception == e) x.exceptions) refl (handled_sound a hs otherwise r more h s q)
     where
@@ -119,6 +115,6 @@ module _ (p : Program) (own : Scope) (here : Here) where
         raised = λ r later k fine q. (handled_sound a hs otherwise r all g later.memory.store q).ends around later exits (now_itself later.memory.store) fine (later_for p own a s later.memory.store (Nothing p own a) exits k b);
       };
       exit = λ is later k fine. (choice_of a otherwise.is_written otherwise.body (exiting p here) later.memory.store (g later.memory.store) (does_exit p own a later.memory.store is)).ends around later exits (now_itself later.memory.store) fine (later_for p own a s later.memory.store (Nothing p own a) exits k b);
-      return = λ v later k fine q. (choice_of a otherwise.is_written otherwise.body (returning v) later.memory.store (g later.memory.store) (does_return p own a later.memory.store v (λ t m. argument_stays later.memory.store t m v a.result q))).ends around later exits (now_itself later.memory.store) fine (later_for p own a s later.memory.store (Nothing p own a) exits k b);
+      return = λ v later k fine q. (choice_of a otherwise.is_written otherwise.body (returning v) later.memory.store (g later.memory.store) (does_return p own a later.memory.store v (λ t m. argument_stays p later.memory.store t m v a.result q))).ends around later exits (now_itself later.memory.store) fine (later_for p own a s later.memory.store (Nothing p own a) exits k b);
     });
   }

@@ -1,5 +1,5 @@
 -- Well typed expressions are defined.
-use Rattle.std.proofs.Common.{◌≡◌, ℕ, true, false, List, [], ◌∷◌, map, Some, None, refl, sym, ap, ◌∙◌, subst}
+use Rattle.std.proofs.Common.{Option, ◌≡◌, ℕ, true, false, List, [], ◌∷◌, map, Some, None, refl, sym, ap, ◌∙◌, subst}
 use Rattle.m3_base.specs.declared.places.Pos.{Pos}
 use Rattle.m3_types.specs.declared.nodes.Field.{Field}
 use Rattle.m3_types.specs.declared.nodes.TypeId.{TypeId}
@@ -42,6 +42,28 @@ use Rattle.m3_source_typing.proofs.Rows as rows
 use Rattle.m3_source_typing.proofs.Rows.{TypedRow, row_sound, prefix_form, range_form, narrow_form, test_form}
 use Rattle.m3_source_typing.proofs.Constructing as parts
 use Rattle.m3_source_typing.proofs.Constructing.{TypedElements, TypedFields, field_of, set_form, record_form}
+use Rattle.m3_core.specs.declared.calls.Actual.{Actual}
+use Rattle.m3_types.specs.declared.nodes.Formal.{Formal}
+use Rattle.m3_values.specs.Types.{formals_in}
+use Rattle.m3_source_meaning.specs.Phrases.{By_value, By_place}
+use Rattle.m3_source_typing.specs.ValueTypes.{result_in}
+use Rattle.m3_source_typing.specs.Expressions.{given_by, AreActuals}
+use Rattle.m3_source_typing.proofs.Calling as calling
+use Rattle.m3_source_typing.proofs.Calling.{TypedPassings, call_sound, method_call_sound}
+use Rattle.m3_base.specs.declared.outcomes.FaultKind.TheVariants as fault_kind
+use Rattle.m3_values.specs.Programs.{procedure_at}
+use Rattle.m3_source_meaning.specs.Operators.{converted}
+use Rattle.m3_source_meaning.specs.Phrases.{Chained}
+use Rattle.m3_source_typing.specs.ValueTypes.{OfProcedures, called_alike, IsOfNil}
+use Rattle.m3_source_typing.proofs.Combining.{fault_sound}
+use Rattle.m3_source_typing.proofs.Chains.{ArePartly, subarray_sound, limit_sound}
+use Rattle.m3_source_typing.proofs.Sameness.{procedure_then}
+use Rattle.m3_core.specs.declared.calls.BuiltinCall.{BuiltinCall}
+use Rattle.m3_source_meaning.specs.Expressions.{routine}
+use Rattle.m3_source_meaning.specs.Phrases.{Served}
+use Rattle.m3_source_typing.specs.Expressions.{IsRoutine, AreOperands}
+use Rattle.m3_source_typing.proofs.Serving as serving
+use Rattle.m3_source_typing.proofs.Serving.{TypedOperands, IsServed, routine_sound}
 
 pub types_stay : TypesStay
 types_stay p s t v kind l h = type_stays p s t l v kind h
@@ -81,6 +103,36 @@ module _ (p : Program) (own : Scope) (here : Here) where
     value = λ s. bind_sound p own s (Typed p t) (Typed p u) e.value given (is.value s) (λ v k l q. typed_given p own k u v (share_values p k v t u alike q));
     unread = is.unread;
   }
+
+  procedure_alike : (s : Store) (v : Value) (t u : ℕ) → class_of p u ≡ OfProcedures → called_alike p (node_of p t) (node_of p u) ≡ true → class_of p t ≡ OfProcedures → HasType p s v t → HasType p s v u
+  procedure_alike s value.Nil t u c alike d h = subst IsOfNil (sym c) tt
+  procedure_alike s (value.Procedure q around) t u c alike d h = (c, procedure_then p (procedure_at p q) t u alike h.1)
+  procedure_alike s (value.Ordinal z) t u c alike d h = let bad : true ≡ false = sym (ap rule.is_procedures d) ∙ ap rule.is_procedures h.0 in absurd cc
+  procedure_alike s (value.Pointer n) t u c alike d h = let bad : true ≡ false = sym (ap rule.is_procedures d) ∙ ap rule.is_procedures h.0 in absurd cc
+  procedure_alike s (value.Text n) t u c alike d h = let bad : true ≡ false = sym (ap rule.is_procedures d) ∙ ap rule.is_procedures h.0 in absurd cc
+  procedure_alike s value.MainThread t u c alike d h = let bad : true ≡ false = sym (ap rule.is_procedures d) ∙ ap rule.is_procedures h.0 in absurd cc
+  procedure_alike s (value.Members ms) t u c alike d h = let bad : true ≡ false = sym (ap rule.is_procedures d) ∙ ap rule.is_procedures h.0 in absurd cc
+  procedure_alike s (value.Record vs) t u c alike d h = let bad : true ≡ false = sym (ap rule.is_procedures d) ∙ ap rule.is_procedures h.0 in absurd cc
+  procedure_alike s (value.Array below vs) t u c alike d h = let bad : true ≡ false = sym (ap rule.is_procedures d) ∙ ap rule.is_procedures h.0 in absurd cc
+
+  of_alike : (e : Expression) (t u : ℕ) → IsOfType p own e t → class_of p t ≡ OfProcedures → class_of p u ≡ OfProcedures → called_alike p (node_of p t) (node_of p u) ≡ true → IsOfType p own e u
+  of_alike e t u is d c alike = record {
+    value = λ s. bind_sound p own s (Typed p t) (Typed p u) e.value given (is.value s) (λ v k l q. typed_given p own k u v (procedure_alike k v t u c alike d q));
+    unread = is.unread;
+  }
+
+  -- a procedure that isn't inside another one, or NIL
+  nested : (at : Pos) (kind : ℕ) (v : Value) (s : Store) → HasType p s v kind → Gives p own s (Typed p kind) (converted p conversion.Nested at kind v)
+  nested at kind (value.Procedure q None) s h = typed_given p own s kind (value.Procedure q None) h
+  nested at kind (value.Procedure q (Some around)) s h = fault_sound p own s _ fault_kind.NestedProc at
+  nested at kind value.Nil s h = typed_given p own s kind value.Nil h
+  nested at kind (value.Ordinal z) s h = typed_given p own s kind (value.Ordinal z) h
+  nested at kind (value.Pointer n) s h = typed_given p own s kind (value.Pointer n) h
+  nested at kind (value.Text n) s h = typed_given p own s kind (value.Text n) h
+  nested at kind value.MainThread s h = typed_given p own s kind value.MainThread h
+  nested at kind (value.Members ms) s h = typed_given p own s kind (value.Members ms) h
+  nested at kind (value.Record vs) s h = typed_given p own s kind (value.Record vs) h
+  nested at kind (value.Array below vs) s h = typed_given p own s kind (value.Array below vs) h
 
   mutual
     pub expression_sound : (e : CoreExpr) (t : ℕ) → IsExpression p here own e t → IsOfType p own (expression p here e) t
@@ -125,6 +177,19 @@ module _ (p : Program) (own : Scope) (here : Here) where
         subst (λ e. IsOfType p own e kind.0) (sym (trees.expression_is p here (layer.TypeTest at kind e other)))
         (plain_typed at kind _ (test_form p own (expression p here e.now) t other.0 kind.0 (expression_sound e.now t is) from boolean))
     expression_sound _ _ (typed.widened e t wider is from to part) = widen (expression p here e) t wider (expression_sound e t is) from to part
+    expression_sound _ _ (typed.routine c t is) =
+        subst (λ e. IsOfType p own e t) (sym (trees.expression_is p here (layer.Builtin c)))
+        (record { value = routine_typed c.now (Some t) is; unread = unread_sound _ t (routine_typed c.now (Some t) is) })
+    expression_sound _ _ (typed.outermost at kind e is) =
+        subst (λ e. IsOfType p own e kind.0) (sym (trees.expression_is p here (layer.Convert at kind conversion.Nested e)))
+        (plain_typed at kind _ (λ s. bind_sound p own s (Typed p kind.0) (Typed p kind.0) _ _ ((expression_sound e.now kind.0 is).value s) (λ v u l q. nested at kind.0 v u q)))
+    expression_sound _ _ (typed.limit_of at kind l begins base row noted c b t e form is arrays of numbers has) =
+        let known = chain_typed c.now (PlaceOf b t) is in
+        subst (λ e. IsOfType p own e kind.0) (sym (trees.expression_is p here (layer.ArrayLimit at kind l c)))
+        (plain_typed at kind _ (λ s. limit_sound p own here l noted.0 kind.0 (chain p here c.now) b t
+        (ap (λ (c : Chained). c.kind) (ap (chain p here) form ∙ trees.chain_is p here (record { pos = begins; base = base; steps = row; kind = Some noted })))
+        (λ u. known.thing u) arrays has numbers s))
+    expression_sound _ _ (typed.called_as e t other is procedures class alike) = of_alike (expression p here e) t other (expression_sound e t is) procedures class alike
     expression_sound _ _ (typed.same e t other is alike) = of_same (expression p here e) t other (expression_sound e t is) alike
 
     row_typed : (t : ℕ) (os : List Operation) (result : ℕ) → IsRow p here own t os result → TypedRow p own t (map (trees.operation p here) os) result
@@ -167,6 +232,18 @@ module _ (p : Program) (own : Scope) (here : Here) where
           thing = λ at s. own_sound p own here level x t mine is fixed s;
           unread = λ at s. bind_sound p own s (IsGiven p own.holds g) (IsReadable p own) _ given (own_sound p own here level x t mine is fixed s) (λ thing u l q. given_sound p own u (IsReadable p own) thing (λ w k. readable p own g w thing (given_stays p own.holds g u w thing k q)));
         })
+    base_typed _ _ (typed.subarray array start count kind b t e f n m first rest is arrays of sizes opened open_element open_sizes same one numbers two others) =
+        let g : Given = PlaceOf b kind.0 in
+        let partly : ArePartly p own here t kind.0 = record { array = arrays; e = e; element_is = of; first = first; rest = rest; sizes = sizes; open_array = opened; f = f; open_element = open_element; open_sizes = open_sizes; same = same } in
+        let known = chain_typed array.now (PlaceOf b t) is in
+        let sound = subarray_sound p own here in
+        let left = expression_sound start.now n one in
+        let right = expression_sound count.now m two in
+        subst (λ b. TypedBase p own here b g) (sym (trees.base_is p here (layer.Subarray array start count kind)))
+        (record {
+          thing = λ at s. sound at (chain p here array.now) (expression p here start.now) (expression p here count.now) b t kind.0 n m partly (λ u. known.thing u) left numbers right others s;
+          unread = λ at s. bind_sound p own s (IsGiven p own.holds g) (IsReadable p own) _ given (sound at (chain p here array.now) (expression p here start.now) (expression p here count.now) b t kind.0 n m partly (λ u. known.thing u) left numbers right others s) (λ thing u l q. given_sound p own u (IsReadable p own) thing (λ w k. readable p own g w thing (given_stays p own.holds g u w thing k q)));
+        })
     base_typed _ _ (typed.own_name level x kind a mine is knows) =
         let g : Given = PlaceOf a.is_variable a.kind in
         subst (λ b. TypedBase p own here b g) (sym (trees.base_is p here (layer.Alias level x kind)))
@@ -206,9 +283,33 @@ module _ (p : Program) (own : Scope) (here : Here) where
     step_typed _ _ _ (typed.object_field owner n kind t u c have fixed) =
         subst (λ x. TypedStep p own here (ValueOf t) x (PlaceOf true u)) (sym (trees.step_is p here (layer.ObjectField owner n kind)))
         (record { goes = λ before s thing g. object_field_sound p own here before.pos owner.0 n t u c have fixed s thing g })
+    step_typed _ _ _ (typed.call actuals kind t ns c agree all each) =
+        subst (λ x. TypedStep p own here (ValueOf t) x (given_by (result_in (node_of p t)))) (sym (trees.step_is p here (layer.Call actuals kind)))
+        (record { goes = λ before s thing g. call_sound p own here agree before (map (trees.actual p here) actuals.now) t c (actuals_typed (formals_in (node_of p t)) actuals.now ns all) s thing g })
+    step_typed _ _ _ (typed.method_call owner m actuals kind t result formals ns c have all each) =
+        subst (λ x. TypedStep p own here (ValueOf t) x (given_by result)) (sym (trees.step_is p here (layer.MethodCall owner m actuals kind)))
+        (record { goes = λ before s thing g. method_call_sound p own here before.pos owner.0 m (map (trees.actual p here) actuals.now) t result c have (actuals_typed formals actuals.now ns all) s thing g })
     step_typed _ _ _ (typed.element_of index kind b t e i is of indexed numbers) =
         subst (λ x. TypedStep p own here (PlaceOf b t) x (PlaceOf b e)) (sym (trees.step_is p here (layer.Element index kind)))
         (record { goes = λ before s thing g. element_sound p own here (expression p here index.now) b t e i is of (expression_sound index.now i indexed) numbers before.kind s thing g })
+
+    pub routine_typed : (c : BuiltinCall) (k : Option ℕ) → IsRoutine p here own c k → (s : Store) → Gives p own s (IsServed p own k) (routine p here c).value
+    routine_typed _ _ (typed.routine_call at r actuals order kind ts all each fits) s =
+        subst (λ (c : Served). Gives p own s (IsServed p own (type_of kind)) c.value) (sym (trees.routine_is p here (record { pos = at; routine = r; actuals = actuals; order = order; kind = kind })))
+        (routine_sound p own r at (map (expression p here) actuals.now) order.now ts (type_of kind) (operands_typed actuals.now ts all) each fits s)
+
+    operands_typed : (es : List CoreExpr) (ts : List ℕ) → AreOperands p here own es ts → TypedOperands p own (map (expression p here) es) ts
+    operands_typed _ _ typed.no_operands = serving.no_operands
+    operands_typed _ _ (typed.one_operand e es t ts is more) = serving.one_operand (expression p here e) (map (expression p here) es) t ts (expression_sound e t is) (operands_typed es ts more)
+
+    actuals_typed : (formals : List Formal) (xs : List Actual) (ns : List ℕ) → AreActuals p here own formals xs ns → TypedPassings p own here (map (trees.actual p here) xs)
+    actuals_typed _ _ _ (typed.no_actuals formals) = calling.no_passings
+    actuals_typed _ _ _ (typed.value_actual formals n f kind e more ns there takes closed is rest) =
+        subst (λ x. TypedPassings p own here (x ∷ map (trees.actual p here) more)) (sym (trees.actual_is p here (layer.Actual::Value n kind e)))
+        (calling.one_passing (By_value n kind.0 (expression p here e.now)) (map (trees.actual p here) more) (calling.by_value n kind.0 (expression p here e.now) f.kind.0 (expression_sound e.now f.kind.0 is) closed) (actuals_typed formals more ns rest))
+    actuals_typed _ _ _ (typed.place_actual formals n f kind c checks b t more ns there takes is same rest) =
+        subst (λ x. TypedPassings p own here (x ∷ map (trees.actual p here) more)) (sym (trees.actual_is p here (layer.Place n kind c checks)))
+        (calling.one_passing (By_place n kind.0 (chain p here c.now) checks) (map (trees.actual p here) more) (calling.by_place n kind.0 (chain p here c.now) checks b t (chain_typed c.now (PlaceOf b t) is)) (actuals_typed formals more ns rest))
 
 pub expressions_are_sound : ExpressionsAreSound
 expressions_are_sound p here own e t is = expression_sound p own here e t is

@@ -26,7 +26,7 @@ length_front (x ∷ xs) ys = let less : length xs ≤ length (xs ++ ys) = length
 pub same_so_far : (p : Program) (f g : Now → End) (now : Now) → ((answers : List Told) → length answers ≤ length now.answers → f (record now { answers = answers }) ≡ g (record now { answers = answers })) → IsSound p g now → IsSound p f now
 same_so_far p f g now same sound fit =
     let all : length now.answers ≤ length now.answers = omega arith in
-    subst IsDefined (sym (same now.answers all))
+    subst (IsDefined p) (sym (same now.answers all))
     (sound (λ before after told action standing s is leads.
     let front : length before ≤ length (before ++ told ∷ after) = length_front before (told ∷ after) in
     let less : length before ≤ length now.answers = subst (λ xs. length before ≤ length xs) (sym is) front in

@@ -8,6 +8,8 @@ pub mod Parts
 pub mod Places
 pub mod Referents
 pub mod Chains
+pub mod Calling
+pub mod Serving
 pub mod Expressions
 pub mod Leaving
 pub mod Repeating
@@ -15,8 +17,10 @@ pub mod Making
 pub mod Assigning
 pub mod Branching
 pub mod Turning
+pub mod Counted
 pub mod Excepting
 pub mod Statements
+pub mod Beginning
 pub mod Counting
 pub mod Depths
 pub mod Heads

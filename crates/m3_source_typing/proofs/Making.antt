@@ -10,7 +10,7 @@ use Rattle.m3_values.specs.Programs.{Program}
 use Rattle.m3_values.specs.Constants.{default_of}
 use Rattle.m3_values.specs.Places.{Place, Thing, Is, At}
 use Rattle.m3_values.specs.Store.{Store, Memory}
-use Rattle.m3_source_meaning.specs.Meanings.{Exits, Acts, given, done, there, in_scope, changing, ◌>>=◌, ◌>>◌}
+use Rattle.m3_source_meaning.specs.Meanings.{Evaluates, Exits, Acts, given, done, there, in_scope, changing, ◌>>=◌, ◌>>◌}
 use Rattle.m3_source_meaning.specs.Phrases.{Here, Expression}
 use Rattle.m3_source_meaning.specs.Assignment.{type_of_variable, bound, bound_in, each_made}
 use Rattle.m3_source_meaning.specs.Blocks.{in_turn, block, with}
@@ -127,23 +127,26 @@ module _ (p : Program) where
         at y b false e is = names_stay own m x (At to) new.unnamed y b is (good.names y b is)
 
     -- A NEW VARIABLE or name is made, and what follows knows it.
-    bound_so : (own inner : Scope) (a : Leaving) (s : Store) (x : ℕ) (thing : Thing) (f : Acts) → IsNew p here own x → IsInside own inner → ((m : Memory) → IsLater s m.store → IsGood p own m → IsGood p inner (with_thing_of m x thing)) → ((u : Store) → IsLater s u → Does p inner a u (Nothing p own a) f) → Does p own a s (Nothing p own a) (bound p here x thing >> f)
-    bound_so own inner a s x thing f new more h n =
-        subst (λ b. Does p own a s (Nothing p own a) (changing (λ m. Some (bound_in p here b x thing m)) >> f)) (sym new.alone)
+    bound_so : {A : Type 0} (own inner : Scope) (a : Leaving) (s : Store) (P : Store → A → Type 0) (x : ℕ) (thing : Thing) (f : Evaluates A) → IsNew p here own x → IsInside own inner → ((m : Memory) → IsLater s m.store → IsGood p own m → IsGood p inner (with_thing_of m x thing)) → ((u : Store) → IsLater s u → Does p inner a u P f) → Does p own a s P (bound p here x thing >> f)
+    bound_so own inner a s P x thing f new more h n =
+        subst (λ b. Does p own a s P (changing (λ m. Some (bound_in p here b x thing m)) >> f)) (sym new.alone)
         (record {
           ends = λ around now exits l good b.
               (n now.memory.store l).ends around (record now { memory = with_thing_of now.memory x thing }) exits (now_itself now.memory.store)
               (h now.memory l good)
-              (less_sound own inner a now.memory.store (Nothing p own a) exits more (later_for p own a s now.memory.store (Nothing p own a) exits l b));
+              (less_sound own inner a now.memory.store P exits more (later_for p own a s now.memory.store P exits l b));
         })
 
+    pub giving_bound : {A : Type 0} (own : Scope) (a : Leaving) (s : Store) (P : Store → A → Type 0) (x t : ℕ) (v : Value) (f : Evaluates A) → IsNew p here own x → HasType p s v t → ((u : Store) → IsLater s u → Does p (and_variable x t own) a u P f) → Does p own a s P (bound p here x (Is v) >> f)
+    giving_bound own a s P x t v f new h n = bound_so own (and_variable x t own) a s P x (Is v) f new (variable_more own x t new.unmade) (λ m l good. made_good own m x t v new good (type_stays p s m.store l v t h)) n
+
     pub does_bound : (own : Scope) (a : Leaving) (s : Store) (x t : ℕ) (v : Value) (f : Acts) → IsNew p here own x → HasType p s v t → ((u : Store) → IsLater s u → Does p (and_variable x t own) a u (Nothing p own a) f) → Does p own a s (Nothing p own a) (bound p here x (Is v) >> f)
-    does_bound own a s x t v f new h n = bound_so own (and_variable x t own) a s x (Is v) f new (variable_more own x t new.unmade) (λ m l good. made_good own m x t v new good (type_stays p s m.store l v t h)) n
+    does_bound own a s x t v f new h n = bound_so own (and_variable x t own) a s (Nothing p own a) x (Is v) f new (variable_more own x t new.unmade) (λ m l good. made_good own m x t v new good (type_stays p s m.store l v t h)) n
 
     does_named : (own : Scope) (a : Leaving) (s : Store) (x : ℕ) (to : Place) (b : Bool) (t : ℕ) (f : Acts) → IsNew p here own x → IsPlaceOf p own.holds b s to t → ((u : Store) → IsLater s u → Does p (and_name x (record { known = own.holds; is_variable = b; kind = t }) own) a u (Nothing p own a) f) → Does p own a s (Nothing p own a) (bound p here x (At to) >> f)
     does_named own a s x to b t f new h n =
         let name : Alias = record { known = own.holds; is_variable = b; kind = t } in
-        bound_so own (and_name x name own) a s x (At to) f new (name_more own x name new.unnamed) (λ m l good. named_good own m x name to new good (place_stays p own.holds b s m.store to t l h)) n
+        bound_so own (and_name x name own) a s (Nothing p own a) x (At to) f new (name_more own x name new.unnamed) (λ m l good. named_good own m x name to new good (place_stays p own.holds b s m.store to t l h)) n
 
     -- variables with their defaults, and what follows
     pub does_made : (own inner : Scope) (a : Leaving) (xs : List ℕ) (f : Acts) → AreMade p here own xs inner → (s : Store) → ((u : Store) → IsLater s u → Does p inner a u (Nothing p own a) f) → Does p own a s (Nothing p own a) (each_made p here xs >> f)

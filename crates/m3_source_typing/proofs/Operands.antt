@@ -67,7 +67,7 @@ nil_is_none NoType h n = n
 nil_is_no_set : (c : Class) → c ≡ OfSets → IsOfNil c → ⊥
 nil_is_no_set c e n = subst IsOfNil e n
 
-numbers_is : (c : Class) → is_numbers c ≡ true → c ≡ OfNumbers
+pub numbers_is : (c : Class) → is_numbers c ≡ true → c ≡ OfNumbers
 numbers_is OfNumbers h = refl
 numbers_is OfReferences h = absurd (let bad : false ≡ true = h in cc)
 numbers_is OfProcedures h = absurd (let bad : false ≡ true = h in cc)
@@ -90,7 +90,7 @@ integer_node (Some node.Integer) h = refl
 integer_node None h = absurd (let bad : false ≡ true = h in cc)
 integer_node (Some n) h = absurd (let bad : false ≡ true = h in cc)
 
-boolean_node : (o : Option TypeNode) → is_boolean_in o ≡ true → o ≡ Some node.Boolean
+pub boolean_node : (o : Option TypeNode) → is_boolean_in o ≡ true → o ≡ Some node.Boolean
 boolean_node (Some node.Boolean) h = refl
 boolean_node None h = absurd (let bad : false ≡ true = h in cc)
 boolean_node (Some n) h = absurd (let bad : false ≡ true = h in cc)

@@ -1,6 +1,6 @@
 -- Parts of values: what a path leads to, and what a value becomes where a part of it changes.
-use Rattle.std.proofs.Common.{◌≡◌, ℕ, zero, suc, ◌<◌, Bool, true, false, List, [], ◌∷◌, ◌++◌, length, map, Option, Some, None, refl, sym, ap, ◌∙◌, subst, arith}
-use Rattle.std.specs.Prelude.{◌==◌, if◌then◌else◌, nat_lt, slice_get, slice_set}
+use Rattle.std.proofs.Common.{◌≡◌, ℕ, zero, suc, ◌<◌, Bool, true, false, List, [], ◌∷◌, ◌++◌, length, map, take, drop, ◌+◌, Option, Some, None, refl, sym, ap, ◌∙◌, subst, arith}
+use Rattle.std.specs.Prelude.{◌&&◌, ◌==◌, if◌then◌else◌, nat_lt, slice_get, slice_set}
 use Rattle.std.specs.Option.{option_map_or, option_and_then}
 use Rattle.std.proofs.lemmas.Bool.{eqb-true}
 use Rattle.std.proofs.lemmas.Bool.Decides.{nat_tests}
@@ -17,7 +17,7 @@ use Rattle.m3_values.specs.Types.{node_of, depth, element, element_in, sizes_to,
 use Rattle.m3_values.specs.Places as place
 use Rattle.m3_values.specs.Places.{Place, Selector, selected, value_in, with_item, with_selected, value_with}
 use Rattle.m3_values.specs.Store.{Store, Memory, held_by, holding, read, write}
-use Rattle.m3_source_typing.specs.ValueTypes.{Class, OfNumbers, OfReferences, OfProcedures, OfSets, OfRecords, OfArrays, NoType, class_in, class_of, record_fields, has_sizes, HasFixedSizes, IsOfNil, HasType, AreFields, AreElements}
+use Rattle.m3_source_typing.specs.ValueTypes.{Class, OfNumbers, OfReferences, OfProcedures, OfSets, OfRecords, OfArrays, NoType, class_in, class_of, record_fields, is_count, has_sizes, HasFixedSizes, IsOfNil, HasType, AreFields, AreElements}
 use Rattle.m3_source_typing.proofs.Operands.{left_true, right_true}
 
 -- ---- through a path
@@ -190,8 +190,8 @@ module _ (p : Program) where
   all_said [] (n ∷ have) h = absurd (let bad : false ≡ true = h in cc)
   all_said (size ∷ sizes) [] h = absurd (let bad : false ≡ true = h in cc)
   all_said (size ∷ sizes) (n ∷ have) h =
-      let one : size ≡ n = eqb-true size n (left_true (size == n) (has_sizes (map Some sizes) have) h) in
-      ap (λ m. m ∷ have) (sym one) ∙ ap (λ ns. size ∷ ns) (all_said sizes have (right_true (size == n) (has_sizes (map Some sizes) have) h))
+      let one : size ≡ n = eqb-true size n (right_true (is_count n) (size == n) (left_true (is_count n && (size == n)) (has_sizes (map Some sizes) have) h)) in
+      ap (λ m. m ∷ have) (sym one) ∙ ap (λ ns. size ∷ ns) (all_said sizes have (right_true (is_count n && (size == n)) (has_sizes (map Some sizes) have) h))
 
   without_shape : (t : ℕ) → (c : Class) → class_of p t ≡ c → is_arrays c ≡ false → (f : HasFixedSizes p t) → [] ≡ f.sizes
   without_shape t c e h f = sym (none_said f.sizes (sym f.are ∙ no_sizes (depth p) t (no_element (node_of p t) (ap is_arrays e ∙ h))))
@@ -216,3 +216,41 @@ module _ (p : Program) where
   fixed_shape s (value.Members ms) t h f = without_shape t _ h.0 refl f
   fixed_shape s (value.Record vs) t h f = without_shape t _ h.0 refl f
   fixed_shape s (value.Array below vs) t h f = all_said f.sizes (shape (value.Array below vs)) (subst (λ wanted. has_sizes wanted (shape (value.Array below vs)) ≡ true) f.are h.2)
+
+  -- ---- elements from one on
+
+  elements_taken : (s : Store) (n : ℕ) (vs : Values) (below : List ℕ) (o : Option ℕ) → AreElements p s vs below o → AreElements p s (row_of (take n (items vs))) below o
+  elements_taken s n vs below None h = absurd h
+  elements_taken s zero vs below (Some e) h = tt
+  elements_taken s (suc n) value.End below (Some e) h = tt
+  elements_taken s (suc n) (value.More v vs) below (Some e) h = (h.0, h.1, elements_taken s n vs below (Some e) h.2)
+
+  elements_dropped : (s : Store) (n : ℕ) (vs : Values) (below : List ℕ) (o : Option ℕ) → AreElements p s vs below o → AreElements p s (row_of (drop n (items vs))) below o
+  elements_dropped s n vs below None h = absurd h
+  elements_dropped s zero vs below (Some e) h = subst (λ us. AreElements p s us below (Some e)) (sym (row_again vs)) h
+  elements_dropped s (suc n) value.End below (Some e) h = tt
+  elements_dropped s (suc n) (value.More v vs) below (Some e) h = elements_dropped s n vs below (Some e) h.2
+
+  both_elements : (s : Store) (us vs : List Value) (below : List ℕ) (o : Option ℕ) → AreElements p s (row_of us) below o → AreElements p s (row_of vs) below o → AreElements p s (row_of (us ++ vs)) below o
+  both_elements s us vs below None h g = absurd h
+  both_elements s [] vs below (Some e) h g = g
+  both_elements s (u ∷ us) vs below (Some e) h g = (h.0, h.1, both_elements s us vs below (Some e) h.2 g)
+
+  pub part_elements : (s : Store) (start n : ℕ) (vs : Values) (below : List ℕ) (o : Option ℕ) → AreElements p s vs below o → AreElements p s (row_of (take n (drop start (items vs)))) below o
+  part_elements s start n vs below o h = subst (λ us. AreElements p s (row_of (take n us)) below o) (items_of (drop start (items vs))) (elements_taken s n (row_of (drop start (items vs))) below o (elements_dropped s start vs below o h))
+
+  pub replaced_elements : (s : Store) (start : ℕ) (us : Values) (vs : Values) (below : List ℕ) (o : Option ℕ) → AreElements p s us below o → AreElements p s vs below o → AreElements p s (row_of (take start (items vs) ++ items us ++ drop (start + length (items us)) (items vs))) below o
+  replaced_elements s start us vs below o h g =
+      both_elements s (take start (items vs) ++ items us) (drop (start + length (items us)) (items vs)) below o
+      (both_elements s (take start (items vs)) (items us) below o (elements_taken s start vs below o g) (subst (λ xs. AreElements p s xs below o) (sym (row_again us)) h))
+      (elements_dropped s (start + length (items us)) vs below o g)
+
+  -- the outermost size is a number of elements
+  pub size_counts : (sizes : List (Option ℕ)) (n : ℕ) (below : List ℕ) → has_sizes sizes (n ∷ below) ≡ true → is_count n ≡ true
+  size_counts [] n below h = absurd (let bad : false ≡ true = h in cc)
+  size_counts (None ∷ sizes) n below h = left_true (is_count n) (has_sizes sizes below) h
+  size_counts (Some size ∷ sizes) n below h = left_true (is_count n) (size == n) (left_true (is_count n && (size == n)) (has_sizes sizes below) h)
+
+  pub sizes_below : (o : Option ℕ) (sizes : List (Option ℕ)) (n : ℕ) (below : List ℕ) → has_sizes (o ∷ sizes) (n ∷ below) ≡ true → has_sizes sizes below ≡ true
+  sizes_below None sizes n below h = right_true (is_count n) (has_sizes sizes below) h
+  sizes_below (Some size) sizes n below h = right_true (is_count n && (size == n)) (has_sizes sizes below) h

@@ -1,5 +1,5 @@
 -- Places that can be read from now on, and those that can be written.
-use Rattle.std.proofs.Common.{◌≡◌, ◌≤◌, ℕ, zero, suc, ◌<◌, ◌⊎◌, inl, inr, ⊎_elim, Bool, true, false, List, [], ◌∷◌, length, Option, Some, None, refl, sym, ap, ◌∙◌, subst, arith}
+use Rattle.std.proofs.Common.{◌≡◌, ◌≤◌, ◌+◌, ◌-◌, ℕ, zero, suc, ◌<◌, ◌⊎◌, inl, inr, ⊎_elim, Bool, true, false, List, [], ◌∷◌, ◌++◌, length, take, drop, Option, Some, None, refl, sym, ap, ◌∙◌, subst, arith}
 use Rattle.std.specs.Prelude.{slice_get, slice_set}
 use Rattle.std.specs.Option.{option_and_then}
 use Rattle.std.proofs.lemmas.List.{length-set}
@@ -21,11 +21,20 @@ use Rattle.m3_source_meaning.specs.Assignment.{type_of_variable}
 use Rattle.m3_source_typing.specs.ValueTypes.{OfRecords, OfArrays, class_of, record_fields, HasFixedSizes, HasType}
 use Rattle.m3_source_typing.specs.Stores.{IsLater, IsContentOf, AreVariables}
 use Rattle.m3_source_typing.specs.Sound.{Owned, Knows, Scope, IsFair, Becomes, IsPlaceOf, IsGood, Gives, IsReadable}
-use Rattle.m3_source_typing.specs.Expressions.{Given, PlaceOf, ValueOf}
+use Rattle.m3_source_typing.specs.Expressions.{Given, PlaceOf, ValueOf, Nothing}
 use Rattle.m3_source_typing.proofs.Staying.{place_stays, now_itself, becomes_itself, type_stays, fields_stay}
 use Rattle.m3_source_typing.proofs.Combining.{given_sound}
 use Rattle.m3_source_typing.proofs.Heads.{first_of, rest_of}
 use Rattle.m3_source_typing.proofs.Parts.{read_further, write_further, item_set, record_of, array_of, field_there, element_there, record_with, array_with, same_shape, fixed_shape}
+use Rattle.std.specs.Prelude.{if◌then◌else◌, nat_le}
+use Rattle.std.proofs.lemmas.Bool.{eq-eqb}
+use Rattle.std.proofs.lemmas.Bool.Decides.{nat_tests}
+use Rattle.std.proofs.lemmas.List.{length-append, length-drop, length-take-le}
+use Rattle.m3_values.specs.Types.{type_sizes, is_same}
+use Rattle.m3_source_typing.specs.ValueTypes.{is_count, has_sizes, AreElements}
+use Rattle.m3_source_typing.proofs.Operands.{both_true}
+use Rattle.m3_source_typing.proofs.Parts.{items_of, part_elements, replaced_elements, size_counts, sizes_below}
+use Rattle.m3_source_typing.proofs.Sameness.{flipped, share_elements}
 
 -- a variable that is set, and each other one
 set_thing : (vs : Variables) (x : ℕ) (thing : Thing) (y : ℕ) (old : Thing) → thing_in vs y ≡ Some old → ((x ≡ y) × (thing_in (with_thing x thing vs) y ≡ Some thing)) ⊎ (thing_in (with_thing x thing vs) y ≡ Some old)
@@ -114,18 +123,24 @@ module _ (p : Program) where
   IsGiven own (PlaceOf b t) s (Is v) = ⊥
   IsGiven own (ValueOf t) s (Is v) = HasType p s v t
   IsGiven own (ValueOf t) s (At to) = ⊥
+  IsGiven own Nothing s (Is v) = Unit {0}
+  IsGiven own Nothing s (At to) = ⊥
 
   pub given_stays : (own : Owned) (g : Given) (s u : Store) (thing : Thing) → IsLater s u → IsGiven own g s thing → IsGiven own g u thing
   given_stays own (PlaceOf b t) s u (At to) l h = place_stays p own b s u to t l h
   given_stays own (PlaceOf b t) s u (Is v) l h = h
   given_stays own (ValueOf t) s u (Is v) l h = type_stays p s u l v t h
   given_stays own (ValueOf t) s u (At to) l h = h
+  given_stays own Nothing s u (Is v) l h = h
+  given_stays own Nothing s u (At to) l h = h
 
   pub readable : (own : Scope) (g : Given) (s : Store) (thing : Thing) → IsGiven own.holds g s thing → IsReadable p own s thing
   readable own (PlaceOf b t) s (At to) h = record { reads = λ m l good. let r = h.reads m l good.fair in (r.0, r.1) }
   readable own (PlaceOf b t) s (Is v) h = absurd h
   readable own (ValueOf t) s (Is v) h = record { reads = λ m l good. (v, refl) }
   readable own (ValueOf t) s (At to) h = absurd h
+  readable own Nothing s (Is v) h = record { reads = λ m l good. (v, refl) }
+  readable own Nothing s (At to) h = absurd h
 
   pub thing_given : (own : Scope) (g : Given) (s : Store) (thing : Thing) → IsGiven own.holds g s thing → Gives p own s (IsGiven own.holds g) (given thing)
   thing_given own g s thing h = given_sound p own s (IsGiven own.holds g) thing (λ u l. given_stays own.holds g s u thing l h)
@@ -252,3 +267,79 @@ module _ (p : Program) (known : Owned) where
         (write_further m to (place.Element i) (value.Array a.below a.elements) w.0 new changed (v.1 ∙ ap Some a.is) w.1 (ap (λ o. place.as_array a.below o) (item_set (items a.elements) i new w.0 w.1)))
         (h.writes may m l good changed (array_with p m.store a.elements a.below t e i new (subst (λ x. HasType p m.store x t) a.is v.2) is g (k ∙ sym (ap rest_of shaped))) (same_shape p a.elements a.below i new ∙ shaped));
   }
+
+  -- ---- elements from one on
+
+  at_most_is : (m n : ℕ) → m ≤ n → nat_le m n ≡ true
+  at_most_is m n h = grind (arith, nat_tests)
+
+  part_is : (start n : ℕ) (below : List ℕ) (vs : Values) → start + n ≤ length (items vs) → selected (place.Part start n) (value.Array below vs) ≡ Some (value.Array below (row_of (take n (drop start (items vs)))))
+  part_is start n below vs le = ap (λ b. if b then Some (value.Array below (row_of (take n (drop start (items vs))))) else None) (at_most_is (start + n) (length (items vs)) le)
+
+  part_length : (start n : ℕ) (vs : List Value) → start + n ≤ length vs → length (take n (drop start vs)) ≡ n
+  part_length start n vs le =
+      let rest : length (drop start vs) ≡ length vs - start = length-drop start vs in
+      length-take-le n (drop start vs) (omega arith)
+
+  whole_length : (start : ℕ) (us vs : List Value) → start + length us ≤ length vs → length (take start vs ++ us ++ drop (start + length us) vs) ≡ length vs
+  whole_length start us vs le =
+      let first : length (take start vs) ≡ start = length-take-le start vs (omega arith) in
+      let last : length (drop (start + length us) vs) ≡ length vs - (start + length us) = length-drop (start + length us) vs in
+      let all : length ((take start vs ++ us) ++ drop (start + length us) vs) ≡ length (take start vs ++ us) + length (drop (start + length us) vs) = length-append (take start vs ++ us) (drop (start + length us) vs) in
+      let front : length (take start vs ++ us) ≡ length (take start vs) + length us = length-append (take start vs) us in
+      omega arith
+
+  part_set : (start n : ℕ) (below inner : List ℕ) (us vs : Values) → start + n ≤ length (items vs) → length (items us) ≡ n → place.with_selected (place.Part start n) (value.Array inner us) (value.Array below vs) ≡ Some (value.Array below (row_of (take start (items vs) ++ items us ++ drop (start + length (items us)) (items vs))))
+  part_set start n below inner us vs le e =
+      let enough : start + length (items us) ≤ length (items vs) = omega arith in
+      ap (λ b. if b then place.as_array below (place.with_items start (items us) (items vs)) else None) (eq-eqb n (length (items us)) (sym e))
+      ∙ ap (λ b. place.as_array below (if b then Some (take start (items vs) ++ items us ++ drop (start + length (items us)) (items vs)) else None)) (at_most_is (start + length (items us)) (length (items vs)) enough)
+
+  pub part_place : (b : Bool) (s : Store) (to : Place) (t k e f start n : ℕ) (o : Option ℕ) (rest : List (Option ℕ)) → class_of p t ≡ OfArrays → element p t ≡ Some e → type_sizes p t ≡ o ∷ rest → class_of p k ≡ OfArrays → element p k ≡ Some f → type_sizes p k ≡ None ∷ rest → is_same p e f ≡ true →
+      (h : IsPlaceOf p known b s to t) → start + n ≤ first_of h.sizes → IsPlaceOf p known b s (place.further to (place.Part start n)) k
+  part_place b s to t open_kind e f start n o rest c is sizes d are opened same h le = record {
+    sizes = n ∷ rest_of h.sizes;
+    reads = λ m l good.
+        let v = h.reads m l good in
+        let a = array_of p m.store v.0 t c v.2 in
+        let shaped : shape (value.Array a.below a.elements) ≡ h.sizes = sym (ap shape a.is) ∙ v.3 in
+        let enough : start + n ≤ length (items a.elements) = subst (λ ns. start + n ≤ first_of ns) (sym shaped) le in
+        let part : Value = value.Array a.below (row_of (take n (drop start (items a.elements)))) in
+        let long : length (items (row_of (take n (drop start (items a.elements))))) ≡ n = ap length (items_of (take n (drop start (items a.elements)))) ∙ part_length start n (items a.elements) enough in (
+          part,
+          read_further m to (place.Part start n) ∙ ap (option_and_then (selected (place.Part start n))) (v.1 ∙ ap Some a.is) ∙ part_is start n a.below a.elements enough,
+          (
+            d,
+            subst (AreElements p m.store (row_of (take n (drop start (items a.elements)))) a.below) (sym are) (share_elements p m.store (row_of (take n (drop start (items a.elements)))) a.below (Some e) (Some f) same (subst (AreElements p m.store (row_of (take n (drop start (items a.elements)))) a.below) is (part_elements p m.store start n a.elements a.below (element p t) a.typed))),
+            subst (λ ns. has_sizes ns (shape part) ≡ true) (sym opened) (part_sizes m a.below a.elements long (subst (λ ns. has_sizes ns (shape (value.Array a.below a.elements)) ≡ true) sizes a.sizes) enough),
+          ),
+          ap (λ m. m ∷ a.below) long ∙ ap (λ ns. n ∷ ns) (ap rest_of shaped),
+        );
+    writes = λ may m l good new g k.
+        let v = h.reads m l good in
+        let a = array_of p m.store v.0 t c v.2 in
+        let w = array_of p m.store new open_kind d g in
+        let shaped : shape (value.Array a.below a.elements) ≡ h.sizes = sym (ap shape a.is) ∙ v.3 in
+        let enough : start + n ≤ length (items a.elements) = subst (λ ns. start + n ≤ first_of ns) (sym shaped) le in
+        let given : shape (value.Array w.below w.elements) ≡ n ∷ rest_of h.sizes = sym (ap shape w.is) ∙ k in
+        let long : length (items w.elements) ≡ n = ap first_of given in
+        let inner : w.below ≡ a.below = ap rest_of given ∙ sym (ap rest_of shaped) in
+        let row : List Value = take start (items a.elements) ++ items w.elements ++ drop (start + length (items w.elements)) (items a.elements) in
+        let changed : Value = value.Array a.below (row_of row) in
+        let fits : start + length (items w.elements) ≤ length (items a.elements) = omega arith in
+        let kept : shape changed ≡ shape (value.Array a.below a.elements) = ap (λ m. m ∷ a.below) (ap length (items_of row) ∙ whole_length start (items w.elements) (items a.elements) fits) in
+        becomes_so p known m (write (place.further to (place.Part start n)) new m) (write to changed m)
+        (write_further m to (place.Part start n) (value.Array a.below a.elements) (value.Array a.below (row_of (take n (drop start (items a.elements))))) new changed (v.1 ∙ ap Some a.is) (part_is start n a.below a.elements enough) (ap (λ x. place.with_selected (place.Part start n) x (value.Array a.below a.elements)) w.is ∙ part_set start n a.below w.below w.elements a.elements enough long))
+        (h.writes may m l good changed (
+          c,
+          replaced_elements p m.store start w.elements a.elements a.below (element p t)
+              (subst (AreElements p m.store w.elements a.below) (sym is) (share_elements p m.store w.elements a.below (Some f) (Some e) (flipped p e f same) (subst (λ ns. AreElements p m.store w.elements ns (Some f)) inner (subst (AreElements p m.store w.elements w.below) are w.typed)))) a.typed,
+          subst (λ ns. has_sizes (type_sizes p t) ns ≡ true) (sym kept) a.sizes,
+        )
+        (kept ∙ shaped));
+  }
+    where
+      part_sizes : (m : Memory) (below : List ℕ) (vs : Values) → length (items (row_of (take n (drop start (items vs))))) ≡ n → has_sizes (o ∷ rest) (shape (value.Array below vs)) ≡ true → start + n ≤ length (items vs) → has_sizes (None ∷ rest) (shape (value.Array below (row_of (take n (drop start (items vs)))))) ≡ true
+      part_sizes m below vs long h enough =
+          let size : is_count (length (items vs)) ≡ true = size_counts p (o ∷ rest) (length (items vs)) below h in
+          subst (λ x. has_sizes (None ∷ rest) (x ∷ below) ≡ true) (sym long) (both_true (is_count n) (has_sizes rest below) (grind (arith, nat_tests)) (sizes_below p o rest (length (items vs)) below h))

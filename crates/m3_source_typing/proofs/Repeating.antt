@@ -13,14 +13,14 @@ use Rattle.m3_source_typing.specs.Sound.{Scope, Leaving, IsDefined, IsSound, IsG
 use Rattle.m3_source_typing.proofs.Leaving.{same_so_far, Nothing}
 
 -- the end of a course, or any other that is defined
-abbrev or_any : Bool → End → End
+abbrev pub or_any : Bool → End → End
 or_any true e = e
 or_any false e = Faulted Overflow (record { file = 0; line = 0; col = 0 })
 
-is_less : (m n : ℕ) → m < n → nat_lt m n ≡ true
+pub is_less : (m n : ℕ) → m < n → nat_lt m n ≡ true
 is_less m n h = grind (arith, nat_tests)
 
-below : (m n : ℕ) → nat_lt m n ≡ true → m < n
+pub below : (m n : ℕ) → nat_lt m n ≡ true → m < n
 below m n h = grind (arith, nat_tests)
 
 module _ (p : Program) (own : Scope) (a : Leaving) (turn : Evaluates Bool) (takes : Takes turn) (does : (t : Store) → Does p own a t (λ u b. Unit {0}) turn) where
@@ -53,7 +53,7 @@ module _ (p : Program) (own : Scope) (a : Leaving) (turn : Evaluates Bool) (take
       same_so_far p (λ now. or_any (nat_lt (length now.answers) n) (repeatedly turn around now exits)) (λ now. repeatedly turn around now exits) later
       (λ answers fewer. let within : length answers < n = omega arith in ap (λ b. or_any b (repeatedly turn around (record later { answers = answers }) exits)) (is_less (length answers) n within))
       (h refl)
-  cut_sound around exits n later false is h = λ fit. subst (λ b. IsDefined (or_any b (repeatedly turn around later exits))) (sym is) tt
+  cut_sound around exits n later false is h = λ fit. subst (λ b. IsDefined p (or_any b (repeatedly turn around later exits))) (sym is) tt
 
   -- what follows a turn is sound, where the loop is from fewer answers on
   follows : (s : Store) (around : Around) (now : Now) (exits : Exits (Unit {0})) → ((later : Now) → length later.answers < length now.answers → IsLater s later.memory.store → IsGood p own later.memory → IsSoundHere around exits later) → AreSoundFor p own a s (Nothing p own a) exits → (x : Bool) (later : Now) → IsLater s later.memory.store → IsGood p own later.memory → IsSound p ((next_exits (length now.answers) around exits).gives x) later

@@ -248,13 +248,23 @@ module _ (p : Program) where
   result_then (Some t) None c e f = absurd (let bad : false ≡ true = e in cc)
   result_then (Some t) (Some u) None e f = f
 
+  called_then : (a b c : Option TypeNode) → called_alike p a b ≡ true → called_alike p b c ≡ true → called_alike p a c ≡ true
+  called_then a b c h g = both_true (same_list (same_formal p) (formals_in a) (formals_in c)) (same_result p (result_in a) (result_in c))
+      (list_then (same_formal p) formal_then (formals_in a) (formals_in b) (formals_in c)
+      (left_true (same_list (same_formal p) (formals_in a) (formals_in b)) (same_result p (result_in a) (result_in b)) h)
+      (left_true (same_list (same_formal p) (formals_in b) (formals_in c)) (same_result p (result_in b) (result_in c)) g))
+      (result_then (result_in a) (result_in b) (result_in c)
+      (right_true (same_list (same_formal p) (formals_in a) (formals_in b)) (same_result p (result_in a) (result_in b)) h)
+      (right_true (same_list (same_formal p) (formals_in b) (formals_in c)) (same_result p (result_in b) (result_in c)) g))
+
+  pub procedure_then : (q : Option ProcDef) (t u : ℕ) → called_alike p (node_of p t) (node_of p u) ≡ true → IsProcedureOf p q t → IsProcedureOf p q u
+  procedure_then None t u e h = h
+  procedure_then (Some q) t u e h = called_then (node_of p q.kind.0) (node_of p t) (node_of p u) h e
+
   called_same : (o : Option TypeNode) (t u : ℕ) → Same t u → called_alike p o (node_of p t) ≡ true → called_alike p o (node_of p u) ≡ true
-  called_same o t u e h = both_true (same_list (same_formal p) (formals_in o) (formals_in (node_of p u))) (same_result p (result_in o) (result_in (node_of p u)))
-      (list_then (same_formal p) formal_then (formals_in o) (formals_in (node_of p t)) (formals_in (node_of p u))
-      (left_true (same_list (same_formal p) (formals_in o) (formals_in (node_of p t))) (same_result p (result_in o) (result_in (node_of p t))) h)
-      (alike_formals (formals_in (node_of p t)) (formals_in (node_of p u)) (modes_same t u e) (formals_same t u e)))
-      (result_then (result_in o) (result_in (node_of p t)) (result_in (node_of p u))
-      (right_true (same_list (same_formal p) (formals_in o) (formals_in (node_of p t))) (same_result p (result_in o) (result_in (node_of p t))) h)
+  called_same o t u e h = called_then o (node_of p t) (node_of p u) h
+      (both_true (same_list (same_formal p) (formals_in (node_of p t)) (formals_in (node_of p u))) (same_result p (result_in (node_of p t)) (result_in (node_of p u)))
+      (alike_formals (formals_in (node_of p t)) (formals_in (node_of p u)) (modes_same t u e) (formals_same t u e))
       (alike_results (result_in (node_of p t)) (result_in (node_of p u)) (results_same t u e)))
 
   procedure_same : (q : Option ProcDef) (t u : ℕ) → Same t u → IsProcedureOf p q t → IsProcedureOf p q u
@@ -349,7 +359,7 @@ module _ (p : Program) where
       share_fields s vs fs gs (right_true (is_same p f.kind.0 g.kind.0) (same_list (is_same p) (map (field_kind p) fs) (map (field_kind p) gs)) e) h.1,
     )
 
-    share_elements : (s : Store) (vs : Values) (below : List ℕ) (a b : Option ℕ) → BothSame a b → AreElements p s vs below a → AreElements p s vs below b
+    pub share_elements : (s : Store) (vs : Values) (below : List ℕ) (a b : Option ℕ) → BothSame a b → AreElements p s vs below a → AreElements p s vs below b
     share_elements s vs below None b e h = absurd h
     share_elements s vs below (Some t) None e h = absurd e
     share_elements s value.End below (Some t) (Some u) e h = tt

@@ -33,7 +33,7 @@ use Rattle.m3_source_typing.specs.Statements.{inside, and_variable, branch_type,
 use Rattle.m3_source_typing.specs.Laws.{BodiesAreSound}
 use Rattle.m3_source_typing.proofs.Staying.{now_itself}
 use Rattle.m3_source_typing.proofs.Expressions.{expression_sound, chain_typed}
-use Rattle.m3_source_typing.proofs.Leaving.{Nothing, DoesAll, with_value, does_bind, does_done, does_then, does_exit, does_raise, does_return}
+use Rattle.m3_source_typing.proofs.Leaving.{gives_does, Nothing, DoesAll, with_value, does_bind, does_done, does_then, does_exit, does_raise, does_return}
 use Rattle.m3_source_typing.proofs.Repeating.{does_repeatedly}
 use Rattle.m3_source_typing.proofs.Assigning.{assignment_sound, change_sound}
 use Rattle.m3_source_typing.proofs.Making.{does_block, does_with, does_variable}
@@ -41,7 +41,13 @@ use Rattle.m3_source_typing.proofs.Branching as branching
 use Rattle.m3_source_typing.proofs.Branching.{AreLabelled, AreTypes, choice, on_truth, on_number, on_type}
 use Rattle.m3_source_typing.proofs.Turning.{body_sound, while_sound, repeat_sound}
 use Rattle.m3_source_typing.proofs.Excepting as excepting
-use Rattle.m3_source_typing.proofs.Excepting.{AreHandling, argument_stays, optional_sound, finally_sound, without_variable, with_its_argument, except_sound}
+use Rattle.m3_source_typing.proofs.Excepting.{AreHandling, optional_sound, finally_sound, without_variable, with_its_argument, except_sound}
+use Rattle.m3_source_typing.proofs.Counted.{for_sound}
+use Rattle.m3_source_typing.proofs.Staying.{argument_stays}
+use Rattle.m3_source_typing.proofs.Places.{IsGiven}
+use Rattle.m3_source_typing.specs.Stores.{IsTyped}
+use Rattle.m3_source_typing.proofs.Serving.{IsServed}
+use Rattle.m3_source_typing.proofs.Expressions.{routine_typed}
 
 module _ (p : Program) (here : Here) where
   mutual
@@ -56,6 +62,12 @@ module _ (p : Program) (here : Here) where
     statement_sound _ _ _ (typed.evaluate own a at e t is) =
         subst (DoesAll p own a) (sym (trees.statement_is p here (statement.Eval at e)))
         (with_value p own a (expression p here e.now) t (λ v. done) (expression_sound p own here e.now t is) (λ v s q. does_done p own a s))
+    statement_sound _ _ _ (typed.call own a at c g is) =
+        subst (DoesAll p own a) (sym (trees.statement_is p here (statement.Call at c)))
+        (λ s. does_bind p own a s (IsGiven p own.holds g) (Nothing p own a) _ _ (gives_does p own a s _ _ ((chain_typed p own here c.now g is).thing s)) (λ thing u l q. does_done p own a u))
+    statement_sound _ _ _ (typed.builtin own a at c k is) =
+        subst (DoesAll p own a) (sym (trees.statement_is p here (statement.Builtin at c)))
+        (λ s. does_bind p own a s (IsServed p own k) (Nothing p own a) _ _ (gives_does p own a s _ _ (routine_typed p own here c.now k is s)) (λ v u l q. does_done p own a u))
     statement_sound _ _ _ (typed.exit own a at is) =
         subst (DoesAll p own a) (sym (trees.statement_is p here (statement.Exit at))) (λ s. does_exit p own a s is)
     statement_sound _ _ _ (typed.block own inner a at variables initial body made first rest) =
@@ -82,14 +94,17 @@ module _ (p : Program) (here : Here) where
     statement_sound _ _ _ (typed.repeat own a at body condition t all is truth) =
         subst (DoesAll p own a) (sym (trees.statement_is p here (statement.Repeat at body condition)))
         (does_repeatedly p own a (repeat_turn (meaning.statements p here body.now) (expression p here condition.now)) (repeat_takes (meaning.statements p here body.now) (expression p here condition.now) (body_counts p here body.now) (test_counts p here condition.now)) (repeat_sound p own here a _ (expression p here condition.now) t (all_sound own (inside a) body.now all) (expression_sound p own here condition.now t is) truth))
+    statement_sound _ _ _ (typed.count own a at x first last step body t one two numbers is new all) =
+        subst (DoesAll p own a) (sym (trees.statement_is p here (statement.For at x first last step body)))
+        (for_sound p own here a x t (expression p here first.now) (expression p here last.now) step (meaning.statements p here body.now) (expression_sound p own here first.now t one) (expression_sound p own here last.now t two) numbers is new (body_counts p here body.now) (all_sound (and_variable x t own) (inside a) body.now all))
     statement_sound _ _ _ (typed.raise own a at exception e is) =
         subst (DoesAll p own a) (sym (trees.statement_is p here (statement.Raise at exception e)))
         (λ s. does_bind p own a s (λ t v. IsArgument p t v (argument_type p exception)) (Nothing p own a) _ _ (optional_sound p own here a e (argument_type p exception) is s)
-        (λ v u l q. does_raise p own a u (record { exception = exception; argument = v }) (λ t m. argument_stays p own here u t m v (argument_type p exception) q)))
+        (λ v u l q. does_raise p own a u (record { exception = exception; argument = v }) (λ t m. argument_stays p u t m v (argument_type p exception) q)))
     statement_sound _ _ _ (typed.return own a at e is) =
         subst (DoesAll p own a) (sym (trees.statement_is p here (statement.Return at e)))
         (λ s. does_bind p own a s (λ t v. IsArgument p t v a.result) (Nothing p own a) _ _ (optional_sound p own here a e a.result is s)
-        (λ v u l q. does_return p own a u v (λ t m. argument_stays p own here u t m v a.result q)))
+        (λ v u l q. does_return p own a u v (λ t m. argument_stays p u t m v a.result q)))
     statement_sound _ _ _ (typed.except own a at body handlers otherwise all handled behind) =
         subst (DoesAll p own a) (sym (trees.statement_is p here (statement.TryExcept at body handlers otherwise)))
         (except_sound p own here a _ (map (trees.handler p here) handlers.now) (trees.otherwise p here otherwise) (all_sound own a body.now all) (handlers_sound own a handlers.now handled) (else_sound own a otherwise behind))
@@ -142,13 +157,13 @@ module _ (p : Program) (here : Here) where
 
 -- ---- procedures
 
-end_defined : (p : Program) (q : ProcDef) (b : Bool) (s : Store) → IsDefined (procedures.at_end p q b s)
-end_defined p q true s = tt
-end_defined p q false s = tt
+end_defined : (p : Program) (q : ProcDef) (b : Bool) (s : Store) → IsTyped p None s → IsDefined p (procedures.at_end p q b s)
+end_defined p q true s h = tt
+end_defined p q false s h = h
 
-raised_defined : (p : Program) (q : ProcDef) (b : Bool) (r : Raised) (s : Store) → IsDefined (procedures.leaves_raised p q b r s)
-raised_defined p q true r s = tt
-raised_defined p q false r s = tt
+raised_defined : (p : Program) (q : ProcDef) (b : Bool) (r : Raised) (s : Store) → IsTyped p None s → IsDefined p (procedures.leaves_raised p q b r s)
+raised_defined p q true r s h = h
+raised_defined p q false r s h = tt
 
 pub bodies_are_sound : BodiesAreSound
 bodies_are_sound p here own q around now all good fit =
@@ -156,10 +171,10 @@ bodies_are_sound p here own q around now all good fit =
     (all_sound p here own a q.body.now all now.memory.store).ends around now (procedures.ways_out p q) (now_itself now.memory.store) good
     (record {
       after = record {
-        gives = λ u later l fine w f. end_defined p q (procedures.has_result p q) later.memory.store;
-        raised = λ r later l fine w f. raised_defined p q (procedures.may_raise p (option_map (λ es. es.now) q.raises) r.exception) r later.memory.store;
+        gives = λ u later l fine w f. end_defined p q (procedures.has_result p q) later.memory.store fine.fair.store;
+        raised = λ r later l fine w f. raised_defined p q (procedures.may_raise p (option_map (λ es. es.now) q.raises) r.exception) r later.memory.store fine.fair.store;
       };
       exit = λ is later l fine f. absurd (let bad : false ≡ true = is in cc);
-      return = λ v later l fine w f. tt;
+      return = λ v later l fine w f. fine.fair.store;
     })
     fit

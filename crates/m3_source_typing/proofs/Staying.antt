@@ -10,6 +10,7 @@ use Rattle.m3_values.specs.Places.{Place}
 use Rattle.m3_values.specs.Store as store
 use Rattle.m3_values.specs.Store.{Cell, Store, cell_at, cell_has_type, has_type}
 use Rattle.m3_source_typing.specs.ValueTypes.{HasType, AreFields, AreElements, record_fields}
+use Rattle.m3_source_typing.specs.Points.{IsArgument}
 use Rattle.m3_source_typing.specs.Sound.{Owned, IsPlaceOf}
 use Rattle.m3_source_typing.specs.Stores as stores
 use Rattle.m3_source_typing.specs.Stores.{Becomes, HasStill, IsLater}
@@ -80,3 +81,8 @@ module _ (p : Program) where
     reads = λ m k fair. h.reads m (and_later s u m.store l k) fair;
     writes = λ is m k fair v g e. h.writes is m (and_later s u m.store l k) fair v g e;
   }
+
+  pub argument_stays : (s t : Store) → IsLater s t → (v : Option Value) (k : Option ℕ) → IsArgument p s v k → IsArgument p t v k
+  argument_stays s t l v None h = tt
+  argument_stays s t l None (Some k) h = h
+  argument_stays s t l (Some v) (Some k) h = type_stays s t l v k h

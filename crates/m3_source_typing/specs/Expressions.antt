@@ -1,15 +1,25 @@
 -- WELL TYPED EXPRESSIONS: one rule for each form of the checked tree. The forms without a rule are
 -- named in docs/PROOFS.md.
-use Rattle.std.specs.Prelude.{◌≡◌, ℕ, ℤ, ◌==◌, ◌<◌, Bool, true, false, List, [], ◌∷◌, length, Option, Some, slice_get}
+use Rattle.std.specs.Prelude.{◌≡◌, ℕ, ℤ, pos, negsuc, ◌==◌, ◌<◌, Bool, true, false, List, [], ◌∷◌, length, Option, Some, None, slice_get}
 use Rattle.std.specs.Borrow.{Bor}
 use Rattle.std.specs.List.{list_any}
+use Rattle.std.specs.Option.{option_map}
 use Rattle.m3_base.specs.declared.places.Pos.{Pos}
 use Rattle.m3_types.specs.declared.nodes.Field.{Field}
 use Rattle.m3_types.specs.declared.nodes.TypeId.{TypeId}
+use Rattle.m3_types.specs.declared.nodes.Formal.{Formal}
+use Rattle.m3_types.specs.declared.nodes.Mode.{Mode}
+use Rattle.m3_types.specs.declared.nodes.Mode.TheVariants as mode
+use Rattle.m3_core.specs.declared.calls.Actual.{Actual, roll-Actual}
+use Rattle.m3_core.specs.declared.calls.BuiltinCall.{BuiltinCall, roll-BuiltinCall}
+use Rattle.m3_core.specs.declared.calls.Routine.{Routine}
 use Rattle.m3_core.specs.declared.calls.Actual.TheOpen as layer
+use Rattle.m3_core.specs.declared.program.ProcDef.{ProcDef}
 use Rattle.m3_core.specs.declared.chains.Base.{Base, roll-Base}
 use Rattle.m3_core.specs.declared.chains.Chain.{Chain, roll-Chain}
 use Rattle.m3_core.specs.declared.chains.Step.{Step, roll-Step}
+use Rattle.m3_core.specs.declared.exprs.ArrayLimit.{ArrayLimit}
+use Rattle.m3_core.specs.declared.exprs.ArrayLimit.TheVariants as limit
 use Rattle.m3_core.specs.declared.exprs.Conversion.TheVariants as conversion
 use Rattle.m3_core.specs.declared.exprs.CoreExpr.{CoreExpr, roll-CoreExpr}
 use Rattle.m3_core.specs.declared.exprs.FieldValue.{FieldValue, roll-FieldValue}
@@ -22,19 +32,29 @@ use Rattle.m3_core.specs.declared.values.ValueId.{ValueId}
 use Rattle.m3_values.specs.Values.{Value}
 use Rattle.m3_values.specs.Programs.{Program, procedure_at}
 use Rattle.m3_values.specs.Constants.{constant_at}
+use Rattle.m3_values.specs.Methods.{method_place, procedure_of}
 use Rattle.m3_values.specs.Store.{Store, is_text_type, is_thread_type, is_made_type}
 use Rattle.m3_source_meaning.specs.Phrases.{Here}
 use Rattle.m3_source_meaning.specs.Designators.{is_own}
 use Rattle.m3_source_meaning.specs.Assignment.{type_of_variable}
-use Rattle.m3_values.specs.Types.{bounds, node_of, element, target_in, parent, is_object_in, unveiled, object_fields, object_field as field_of_object, is_same}
-use Rattle.m3_source_typing.specs.ValueTypes.{OfReferences, OfProcedures, OfRecords, OfArrays, HasType, HasFixedSizes, class_of, member_in, record_fields, IsOfNil, IsNumberOf, IsProcedureOf}
+use Rattle.m3_values.specs.Types.{Bounds, bounds, node_of, index_in, type_sizes, element, target_in, formals_in, is_open, parent, is_object_in, unveiled, object_fields, object_field as field_of_object, is_same}
+use Rattle.m3_source_typing.specs.ValueTypes.{OfReferences, OfProcedures, OfRecords, OfArrays, HasType, HasFixedSizes, class_of, member_in, record_fields, result_in, same_result, called_alike, IsOfNil, IsNumberOf, IsProcedureOf}
+use Rattle.m3_source_typing.specs.Routines.{routine_fits}
+use Rattle.m3_source_typing.specs.Points.{result_type}
 use Rattle.m3_source_typing.specs.Sound.{Knows, Alias, Scope}
-use Rattle.m3_source_typing.specs.Operators.{is_ordinal, is_boolean, is_text_in, is_part, is_references, prefixes_fit, operator_fits}
+use Rattle.m3_source_typing.specs.Operators.{is_ordinal, is_boolean, is_text_in, is_part, is_references, within_bounds, prefixes_fit, operator_fits}
 
--- what a chain gives up to a step: a place of a type, which is a variable or not, or a value of one
+-- what a chain gives up to a step: a place of a type, which is a variable or not, a value of one,
+-- or nothing, as the call of a procedure without result
 pub data Given : Type 0 where
   PlaceOf : (is_variable : Bool) → ℕ → Given
   ValueOf : ℕ → Given
+  Nothing : Given
+
+-- what a call gives, by the type of the result
+abbrev pub given_by : Option ℕ → Given
+given_by None = Nothing
+given_by (Some t) = ValueOf t
 
 -- the places of the fields that have values, each once
 abbrev pub HasEachField : List Field → List ℕ → Type 0
@@ -60,6 +80,63 @@ pub record HaveField (p : Program) (t n u : ℕ) : Type 0 where
   pub no_thread : is_thread_type p (node_of p (unveiled p t)) ≡ false
   pub each : (kind : ℕ)
       → is_made_type p kind (unveiled p t) (node_of p (unveiled p t)) ≡ true → HasField p kind n u
+
+-- the heading of each procedure has the result that the procedure's type has
+abbrev pub HeadingsAgree : Program → Type 0
+HeadingsAgree p = (n : ℕ) (q : ProcDef) → procedure_at p n ≡ Some q
+    → result_in (node_of p q.kind.0) ≡ option_map (λ (t : TypeId). t.0) q.result
+
+-- Each object that is a value of the type has a method at a place with such a result, or NIL there.
+pub record HaveMethod (p : Program) (t n : ℕ) (result : Option ℕ) : Type 0 where
+  pub no_text : is_text_type p (node_of p (unveiled p t)) ≡ false
+  pub no_thread : is_thread_type p (node_of p (unveiled p t)) ≡ false
+  pub each : (kind : ℕ)
+      → is_made_type p kind (unveiled p t) (node_of p (unveiled p t)) ≡ true
+      → (procedure : ℕ) → procedure_of p kind n ≡ Some procedure
+      → same_result p (result_type p procedure) result ≡ true
+
+-- a formal that is no VALUE formal stands for a place: of a VAR formal it is a variable
+abbrev pub takes_value : Mode → Bool
+takes_value mode.Var = false
+takes_value _ = true
+
+abbrev pub takes_place : Mode → (is_variable : Bool) → Bool
+takes_place mode.Value is_variable = false
+takes_place mode.Var is_variable = is_variable
+takes_place mode.Readonly is_variable = true
+
+-- A limit of an array has the type: of a fixed array, whose index type the chain names, that of its
+-- index type; of an open one a number from 0 on, or one less.
+abbrev pub counts : Bounds
+counts = record { first = pos 0; last = pos 9223372036854775807 }
+
+abbrev pub last_indices : Bounds
+last_indices = record { first = negsuc 0; last = pos 9223372036854775807 }
+
+pub data HasLimit (p : Program) (noted kind : ℕ) : ArrayLimit → Type 0 where
+  first_of : (i : ℕ) (b : Bounds) → index_in (node_of p noted) ≡ Some i → bounds p i ≡ Some b
+      → IsNumberOf b.first (bounds p kind) → HasLimit p noted kind limit.First
+  last_of : (i : ℕ) (b : Bounds) → index_in (node_of p noted) ≡ Some i → bounds p i ≡ Some b
+      → IsNumberOf b.last (bounds p kind) → HasLimit p noted kind limit.Last
+  first_of_open : index_in (node_of p noted) ≡ None → IsNumberOf (pos 0) (bounds p kind)
+      → HasLimit p noted kind limit.First
+  last_of_open : index_in (node_of p noted) ≡ None
+      → within_bounds (Some last_indices) (bounds p kind) ≡ true
+      → HasLimit p noted kind limit.Last
+  number_of : within_bounds (Some counts) (bounds p kind) ≡ true
+      → HasLimit p noted kind limit.Number
+
+-- the numbers below a count, each once
+pub record HasEachNumber (count : ℕ) (ns : List ℕ) : Type 0 where
+  pub long : length ns ≡ count
+  pub each : (n : ℕ) → n < count → list_any (λ m. m == n) ns ≡ true
+  pub no_other : (n i : ℕ) → slice_get ns i ≡ Some n → n < count
+
+-- each formal once
+abbrev pub HasEachFormal : List Formal → List ℕ → Type 0
+HasEachFormal formals ns =
+    (length ns ≡ length formals)
+    × ((n : ℕ) → n < length formals → list_any (λ m. m == n) ns ≡ true)
 
 -- in an activation of whose own variables these are made, and have these types
 module _ (p : Program) (here : Here) (own : Scope) where
@@ -115,6 +192,24 @@ module _ (p : Program) (here : Here) (own : Scope) where
           → IsExpression operand.now t → is_references (class_of p t) ≡ true
           → is_boolean p kind.0 ≡ true
           → IsExpression (roll-CoreExpr (layer.TypeTest at kind operand other)) kind.0
+      -- a routine or predeclared function that gives a value
+      routine : (c : Bor BuiltinCall) (t : ℕ) → IsRoutine c.now (Some t)
+          → IsExpression (roll-CoreExpr (layer.Builtin c)) t
+      -- a procedure that isn't NIL and stands in no other one
+      outermost : (at : Pos) (kind : TypeId) (e : Bor CoreExpr) → IsExpression e.now kind.0
+          → IsExpression (roll-CoreExpr (layer.Convert at kind conversion.Nested e)) kind.0
+      -- FIRST, LAST and NUMBER of an array whose type the chain names
+      limit_of : (at : Pos) (kind : TypeId) (l : ArrayLimit) (begins : Pos) (base : Base)
+          (row : Bor (List Step)) (noted : TypeId) (c : Bor Chain) (is_variable : Bool) (t e : ℕ)
+          → c.now
+          ≡ roll-Chain (record { pos = begins; base = base; steps = row; kind = Some noted })
+          → IsChain c.now (PlaceOf is_variable t) → class_of p t ≡ OfArrays
+          → element p t ≡ Some e → is_ordinal p kind.0 ≡ true → HasLimit p noted.0 kind.0 l
+          → IsExpression (roll-CoreExpr (layer.ArrayLimit at kind l c)) kind.0
+      -- a procedure of a type can be called as one of each type with the same formals and result
+      called_as : (e : CoreExpr) (t other : ℕ) → IsExpression e t
+          → class_of p t ≡ OfProcedures → class_of p other ≡ OfProcedures
+          → called_alike p (node_of p t) (node_of p other) ≡ true → IsExpression e other
       -- a number of a type is one of each type that has all numbers of that one
       widened : (e : CoreExpr) (t wider : ℕ) → IsExpression e t → is_ordinal p t ≡ true
           → is_ordinal p wider ≡ true → is_part p t wider ≡ true → IsExpression e wider
@@ -146,6 +241,26 @@ module _ (p : Program) (here : Here) (own : Scope) where
           → IsExpression e.now f.kind.0 → AreFieldValues fields vs ns
           → AreFieldValues fields (roll-FieldValue (record { field = n; value = e }) ∷ vs) (n ∷ ns)
 
+    -- the call of a routine, whose value has a type, or that gives none: each actual is evaluated
+    -- once
+    pub data IsRoutine : BuiltinCall → Option ℕ → Type 0 where
+      routine_call : (at : Pos) (r : Routine) (actuals : Bor (List CoreExpr))
+          (order : Bor (List ℕ)) (kind : Option TypeId) (ts : List ℕ)
+          → AreOperands actuals.now ts → HasEachNumber (length ts) order.now
+          → routine_fits p r ts (option_map (λ (t : TypeId). t.0) kind) ≡ true
+          → IsRoutine (roll-BuiltinCall (record {
+            pos = at;
+            routine = r;
+            actuals = actuals;
+            order = order;
+            kind = kind;
+          })) (option_map (λ (t : TypeId). t.0) kind)
+
+    pub data AreOperands : List CoreExpr → List ℕ → Type 0 where
+      no_operands : AreOperands [] []
+      one_operand : (e : CoreExpr) (es : List CoreExpr) (t : ℕ) (ts : List ℕ) → IsExpression e t
+          → AreOperands es ts → AreOperands (e ∷ es) (t ∷ ts)
+
     -- ---- chains
 
     pub data IsChain : Chain → Given → Type 0 where
@@ -163,6 +278,15 @@ module _ (p : Program) (here : Here) (own : Scope) where
       own_variable : (level x : ℕ) (kind : TypeId) (t : ℕ) → is_own p here level x ≡ true
           → own.holds.kind x ≡ Some t → HasFixedSizes p t
           → IsBase (roll-Base (layer.Local level x kind)) (PlaceOf true t)
+      -- SUBARRAY: an open array of elements of the same type
+      subarray : (array : Bor Chain) (start count : Bor CoreExpr) (kind : TypeId)
+          (is_variable : Bool) (t e f n m : ℕ) (first : Option ℕ) (rest : List (Option ℕ))
+          → IsChain array.now (PlaceOf is_variable t) → class_of p t ≡ OfArrays
+          → element p t ≡ Some e → type_sizes p t ≡ first ∷ rest → class_of p kind.0 ≡ OfArrays
+          → element p kind.0 ≡ Some f → type_sizes p kind.0 ≡ None ∷ rest → is_same p e f ≡ true
+          → IsExpression start.now n → is_ordinal p n ≡ true
+          → IsExpression count.now m → is_ordinal p m ≡ true
+          → IsBase (roll-Base (layer.Subarray array start count kind)) (PlaceOf is_variable kind.0)
       -- a name that stands for a place
       own_name : (level x : ℕ) (kind : TypeId) (a : Alias) → is_own p here level x ≡ true
           → own.names x ≡ Some a → Knows a.known own.holds
@@ -197,8 +321,37 @@ module _ (p : Program) (here : Here) (own : Scope) where
           → class_of p t ≡ OfReferences → HaveField p t (field_of_object p owner.0 n) u
           → HasFixedSizes p u
           → IsStep (ValueOf t) (roll-Step (layer.ObjectField owner n kind)) (PlaceOf true u)
+      -- calls: a procedure value, and a method of an object, of which NIL is a fault
+      call : (actuals : Bor (List Actual)) (kind : Option TypeId) (t : ℕ) (ns : List ℕ)
+          → class_of p t ≡ OfProcedures → HeadingsAgree p
+          → AreActuals (formals_in (node_of p t)) actuals.now ns
+          → HasEachFormal (formals_in (node_of p t)) ns
+          → IsStep (ValueOf t) (roll-Step (layer.Call actuals kind))
+          (given_by (result_in (node_of p t)))
+      method_call : (owner : TypeId) (m : ℕ) (actuals : Bor (List Actual)) (kind : Option TypeId)
+          (t : ℕ) (result : Option ℕ) (formals : List Formal) (ns : List ℕ)
+          → class_of p t ≡ OfReferences → HaveMethod p t (method_place p owner.0 m) result
+          → AreActuals formals actuals.now ns → HasEachFormal formals ns
+          → IsStep (ValueOf t) (roll-Step (layer.MethodCall owner m actuals kind))
+          (given_by result)
       element_of : (index : Bor CoreExpr) (kind : TypeId) (is_variable : Bool) (t e i : ℕ)
           → class_of p t ≡ OfArrays → element p t ≡ Some e → IsExpression index.now i
           → is_ordinal p i ≡ true
           → IsStep (PlaceOf is_variable t) (roll-Step (layer.Element index kind))
           (PlaceOf is_variable e)
+
+    -- the actuals of a call, with the places of their formals. A VALUE formal that is an open array
+    -- has no rule yet.
+    pub data AreActuals : List Formal → List Actual → List ℕ → Type 0 where
+      no_actuals : (formals : List Formal) → AreActuals formals [] []
+      value_actual : (formals : List Formal) (n : ℕ) (f : Formal) (kind : TypeId)
+          (e : Bor CoreExpr) (more : List Actual) (ns : List ℕ) → slice_get formals n ≡ Some f
+          → takes_value f.mode ≡ true → is_open p kind.0 ≡ false → IsExpression e.now f.kind.0
+          → AreActuals formals more ns
+          → AreActuals formals (roll-Actual (layer.Actual::Value n kind e) ∷ more) (n ∷ ns)
+      place_actual : (formals : List Formal) (n : ℕ) (f : Formal) (kind : TypeId) (c : Bor Chain)
+          (checks_shape is_variable : Bool) (t : ℕ) (more : List Actual) (ns : List ℕ)
+          → slice_get formals n ≡ Some f → takes_place f.mode is_variable ≡ true
+          → IsChain c.now (PlaceOf is_variable t) → is_same p t f.kind.0 ≡ true
+          → AreActuals formals more ns
+          → AreActuals formals (roll-Actual (layer.Place n kind c checks_shape) ∷ more) (n ∷ ns)

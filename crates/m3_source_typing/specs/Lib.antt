@@ -3,6 +3,8 @@ pub mod Stores
 pub mod Points
 pub mod Sound
 pub mod Operators
+pub mod Routines
 pub mod Expressions
 pub mod Statements
+pub mod Procedures
 pub mod Laws

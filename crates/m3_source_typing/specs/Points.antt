@@ -1,5 +1,5 @@
 -- WHICH ANSWERS FIT AN ACTION: what others may tell an activation that stands at a point.
-use Rattle.std.specs.Prelude.{◌≡◌, ℕ, pos, Bool, true, false, Option, Some, None}
+use Rattle.std.specs.Prelude.{◌≡◌, ◌<◌, ℕ, pos, Bool, true, false, length, Option, Some, None}
 use Rattle.std.specs.Option.{option_map, option_and_then}
 use Rattle.m3_core.specs.declared.program.ProcDef.{ProcDef}
 use Rattle.m3_types.specs.declared.nodes.TypeId.{TypeId}
@@ -37,27 +37,27 @@ IsThread s (Pointer c) = IsThreadCell (cell_at s c)
 IsThread s _ = ⊥
 
 -- any reference: what a thread comes to that is joined
-abbrev pub IsAnyReference : Store → Value → Type 0
-IsAnyReference s Nil = Unit {0}
-IsAnyReference s (Text n) = Unit {0}
-IsAnyReference s MainThread = Unit {0}
-IsAnyReference s (Pointer c) = (cell : Cell) × (cell_at s c ≡ Some cell)
-IsAnyReference s _ = ⊥
+abbrev pub IsAnyReference : Program → Store → Value → Type 0
+IsAnyReference p s Nil = Unit {0}
+IsAnyReference p s (Text n) = n < length p.texts
+IsAnyReference p s MainThread = Unit {0}
+IsAnyReference p s (Pointer c) = (cell : Cell) × (cell_at s c ≡ Some cell)
+IsAnyReference p s _ = ⊥
 
-abbrev pub ServiceGives : Store → Service Thing → Option Thing → Type 0
-ServiceGives s asked.GetByte (Some (Is v)) = IsByte v
-ServiceGives s asked.EndOfInput (Some (Is v)) = IsTruth v
-ServiceGives s asked.TestAlert (Some (Is v)) = IsTruth v
-ServiceGives s asked.MySelf (Some (Is v)) = IsThread s v
-ServiceGives s (asked.Join t alertable) (Some (Is v)) = IsAnyReference s v
-ServiceGives s (asked.Put form v) None = Unit {0}
-ServiceGives s (asked.Acquire m) None = Unit {0}
-ServiceGives s (asked.Release m) None = Unit {0}
-ServiceGives s (asked.Wait m c alertable) None = Unit {0}
-ServiceGives s (asked.Signal c) None = Unit {0}
-ServiceGives s (asked.Broadcast c) None = Unit {0}
-ServiceGives s (asked.Alert t) None = Unit {0}
-ServiceGives s _ _ = ⊥
+abbrev pub ServiceGives : Program → Store → Service Thing → Option Thing → Type 0
+ServiceGives p s asked.GetByte (Some (Is v)) = IsByte v
+ServiceGives p s asked.EndOfInput (Some (Is v)) = IsTruth v
+ServiceGives p s asked.TestAlert (Some (Is v)) = IsTruth v
+ServiceGives p s asked.MySelf (Some (Is v)) = IsThread s v
+ServiceGives p s (asked.Join t alertable) (Some (Is v)) = IsAnyReference p s v
+ServiceGives p s (asked.Put form v) None = Unit {0}
+ServiceGives p s (asked.Acquire m) None = Unit {0}
+ServiceGives p s (asked.Release m) None = Unit {0}
+ServiceGives p s (asked.Wait m c alertable) None = Unit {0}
+ServiceGives p s (asked.Signal c) None = Unit {0}
+ServiceGives p s (asked.Broadcast c) None = Unit {0}
+ServiceGives p s (asked.Alert t) None = Unit {0}
+ServiceGives p s _ _ = ⊥
 
 abbrev pub is_alertable : Service Thing → Bool
 is_alertable (asked.Join t alertable) = alertable
@@ -120,7 +120,7 @@ module _ (p : Program) where
       IsArgument s (received_one n t (argument_type p e)) (argument_type p e)
   AnswerFits s (Makes new) (Gives (Some (Is (Pointer c)))) = IsMade new (cell_at s c)
   AnswerFits s (Forks closure) (Gives (Some (Is v))) = IsThread s v
-  AnswerFits s (Serves service) (Gives v) = ServiceGives s service v
+  AnswerFits s (Serves service) (Gives v) = ServiceGives p s service v
   AnswerFits s (Serves service) (Raises e n t) =
       (is_alertable service ≡ true) × (e ≡ p.alerted) × (argument_type p e ≡ None)
   AnswerFits s (Serves service) (Fails kind) = may_fail service ≡ true

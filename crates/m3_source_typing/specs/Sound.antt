@@ -42,13 +42,14 @@ pub record Leaving : Type 0 where
   pub in_loop : Bool
   pub result : Option ℕ
 
-abbrev pub IsDefined : End → Type 0
-IsDefined (Waits action standing s) = Unit {0}
-IsDefined (Left answer s) = Unit {0}
-IsDefined (Faulted kind at) = Unit {0}
-IsDefined Undefined = ⊥
-
 module _ (p : Program) where
+  -- the end is defined, and leaves the store well typed
+  abbrev pub IsDefined : End → Type 0
+  IsDefined (Waits action standing s) = IsTyped p None s
+  IsDefined (Left answer s) = IsTyped p None s
+  IsDefined (Faulted kind at) = Unit {0}
+  IsDefined Undefined = ⊥
+
   -- Each answer fits the action at which the course stands when it takes it: that is where the
   -- course ends if it is told no more than the answers before that one.
   abbrev pub AllFit : (course : Now → End) → Now → Type 0
@@ -85,8 +86,8 @@ module _ (p : Program) where
         → thing_in after.own x ≡ Some (At place)
 
   -- From a store on the place holds values of a type, which have one shape, wherever these own
-  -- variables hold values of their types; and values of the type that have that shape may be written
-  -- to it, where it is a variable.
+  -- variables hold values of their types; and values of the type that have that shape may be
+  -- written to it, where it is a variable.
   pub record IsPlaceOf (known : Owned) (is_variable : Bool) (s : Store) (to : Place) (t : ℕ)
       : Type 0 where
     pub sizes : List ℕ

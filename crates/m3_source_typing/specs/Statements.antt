@@ -3,6 +3,7 @@ use Rattle.std.specs.Prelude.{◌≡◌, ◌==◌, ◌<◌, ℕ, Bool, true, fal
 use Rattle.std.specs.Borrow.{Bor}
 use Rattle.m3_base.specs.declared.places.Pos.{Pos}
 use Rattle.m3_types.specs.declared.nodes.TypeId.{TypeId}
+use Rattle.m3_core.specs.declared.calls.BuiltinCall.{BuiltinCall}
 use Rattle.m3_core.specs.declared.chains.Base.{Base}
 use Rattle.m3_core.specs.declared.chains.Chain.{Chain, roll-Chain}
 use Rattle.m3_core.specs.declared.chains.Step.{Step}
@@ -28,7 +29,7 @@ use Rattle.m3_source_meaning.specs.Travelling.{argument_type}
 use Rattle.m3_source_typing.specs.ValueTypes.{class_of, HasType, HasFixedSizes}
 use Rattle.m3_source_typing.specs.Sound.{Owned, Alias, Scope, Leaving}
 use Rattle.m3_source_typing.specs.Operators.{is_ordinal, is_references, is_truth}
-use Rattle.m3_source_typing.specs.Expressions.{PlaceOf, IsChain, IsExpression}
+use Rattle.m3_source_typing.specs.Expressions.{Given, PlaceOf, IsRoutine, IsChain, IsExpression}
 
 -- the same, inside a loop
 abbrev pub inside : Leaving → Leaving
@@ -52,7 +53,7 @@ abbrev pub IsChecked : Program → (checks_shape : Bool) → ℕ → Type 0
 IsChecked p true t = Unit {0}
 IsChecked p false t = HasFixedSizes p t
 
--- the amount of INC or DEC
+-- the amount of INC or DEC, or the step of FOR
 abbrev pub IsAmount : Program → Here → Scope → Option (Bor CoreExpr) → Type 0
 IsAmount p here own None = Unit {0}
 IsAmount p here own (Some e) =
@@ -134,6 +135,13 @@ module _ (p : Program) (here : Here) where
       evaluate : (own : Scope) (a : Leaving) (at : Pos) (e : Bor CoreExpr) (t : ℕ)
           → IsExpression p here own e.now t
           → IsStatement own a (roll-CoreStmt (statement.Eval at e))
+      -- a call as a statement; what it gives isn't wanted
+      call : (own : Scope) (a : Leaving) (at : Pos) (c : Bor Chain) (g : Given)
+          → IsChain p here own c.now g → IsStatement own a (roll-CoreStmt (statement.Call at c))
+      -- the call of a routine
+      builtin : (own : Scope) (a : Leaving) (at : Pos) (c : Bor BuiltinCall) (t : Option ℕ)
+          → IsRoutine p here own c.now t
+          → IsStatement own a (roll-CoreStmt (statement.Builtin at c))
       exit : (own : Scope) (a : Leaving) (at : Pos) → a.in_loop ≡ true
           → IsStatement own a (roll-CoreStmt (statement.Exit at))
       block : (own inner : Scope) (a : Leaving) (at : Pos) (variables : Bor (List ℕ))
@@ -169,6 +177,13 @@ module _ (p : Program) (here : Here) where
           (condition : Bor CoreExpr) (t : ℕ) → AreStatements own (inside a) body.now
           → IsExpression p here own condition.now t → is_truth p t ≡ true
           → IsStatement own a (roll-CoreStmt (statement.Repeat at body condition))
+      -- FOR: the variable has the type of the first value and the last one
+      count : (own : Scope) (a : Leaving) (at : Pos) (x : ℕ) (first last : Bor CoreExpr)
+          (step : Option (Bor CoreExpr)) (body : Bor (List CoreStmt)) (t : ℕ)
+          → IsExpression p here own first.now t → IsExpression p here own last.now t
+          → is_ordinal p t ≡ true → IsAmount p here own step → IsNew p here own x
+          → AreStatements (and_variable x t own) (inside a) body.now
+          → IsStatement own a (roll-CoreStmt (statement.For at x first last step body))
       raise : (own : Scope) (a : Leaving) (at : Pos) (exception : ℕ) (e : Option (Bor CoreExpr))
           → IsOptional p here own e (argument_type p exception)
           → IsStatement own a (roll-CoreStmt (statement.Raise at exception e))

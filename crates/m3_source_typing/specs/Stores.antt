@@ -13,8 +13,8 @@ use Rattle.m3_source_typing.specs.ValueTypes.{HasType, AreFields}
 
 -- ---- what stays
 
--- what a cell may become: it keeps its type and the shape of what it holds, a text its bytes, and the
--- cell of a thread its number
+-- what a cell may become: it keeps its type and the shape of what it holds, a text its bytes, and
+-- the cell of a thread its number
 pub data Becomes : Cell → Cell → Type 0 where
   made : (kind : ℕ) (v u : Value) (m n : ℕ) → shape v ≡ shape u
       → Becomes (Made kind v m) (Made kind u n)

@@ -1,5 +1,5 @@
 -- THE VALUES OF A TYPE, in a store: what a variable of the type may hold.
-use Rattle.std.specs.Prelude.{◌≡◌, ℕ, ℤ, ◌&&◌, ◌==◌, ◌<◌, Bool, true, false, List, [], ◌∷◌, length, map, Option, Some, None}
+use Rattle.std.specs.Prelude.{◌≡◌, ℕ, ℤ, ◌&&◌, ◌==◌, ◌<◌, Bool, true, false, List, [], ◌∷◌, length, map, Option, Some, None, nat_lt}
 use Rattle.std.specs.Option.{option_map, option_and_then}
 use Rattle.m3_core.specs.declared.program.ProcDef.{ProcDef}
 use Rattle.m3_types.specs.declared.nodes.Field.{Field}
@@ -82,11 +82,16 @@ AreMembersOf (m ∷ ms) b = IsNumberOf m b × AreMembersOf ms b
 
 -- ---- arrays
 
+-- a number of elements is in INTEGER
+abbrev pub is_count : ℕ → Bool
+is_count n = nat_lt n 9223372036854775808
+
 -- a shape has so many dimensions, and the sizes that are said of them
 abbrev pub has_sizes : List (Option ℕ) → List ℕ → Bool
 has_sizes [] [] = true
-has_sizes (None ∷ wanted) (n ∷ sizes) = has_sizes wanted sizes
-has_sizes (Some size ∷ wanted) (n ∷ sizes) = (size == n) && has_sizes wanted sizes
+has_sizes (None ∷ wanted) (n ∷ sizes) = is_count n && has_sizes wanted sizes
+has_sizes (Some size ∷ wanted) (n ∷ sizes) =
+    (is_count n && (size == n)) && has_sizes wanted sizes
 has_sizes _ _ = false
 
 module _ (p : Program) where

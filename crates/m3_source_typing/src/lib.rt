@@ -2,7 +2,7 @@
 //! defined: no course of one comes to what has no meaning, whatever answers it is told that fit.
 #![tactic(auto)]
 
-ghost use Rattle.m3_source_typing.specs.Laws.{TypesStay, SameTypesShareValues, ExpressionsAreSound, BodiesAreSound};
+ghost use Rattle.m3_source_typing.specs.Laws.{TypesStay, SameTypesShareValues, ExpressionsAreSound, BodiesAreSound, ProceduresAreSound};
 
 /// A value keeps its type, however the store goes on.
 pub fn types_stay()
@@ -20,8 +20,14 @@ pub fn expressions_are_sound()
     ensures { ExpressionsAreSound }
 {}
 
-/// The body of a procedure whose statements are well typed never comes to what isn't defined, if
-/// each answer fits the action at which its course stands.
+/// The body of a procedure whose statements are well typed never comes to what isn't defined, and
+/// leaves the store well typed, if each answer fits the action at which its course stands.
 pub fn bodies_are_sound()
     ensures { BodiesAreSound }
+{}
+
+/// A well typed procedure that is called in a well typed store, with actuals that fit its formals,
+/// never comes to what isn't defined, and leaves the store well typed.
+pub fn procedures_are_sound()
+    ensures { ProceduresAreSound }
 {}

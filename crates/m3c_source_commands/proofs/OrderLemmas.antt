@@ -214,11 +214,11 @@ same_run limits schedule schedule' input input' e f =
     subst (λ (x : List ℕ). by_schedule (on_input limits input) schedule ≡ by_schedule (on_input limits x) schedule') f (ap (λ (x : List Entry). by_schedule (on_input limits input) x) e)
 
 -- the limits of `bench`
-abbrev of_numbers : ℕ → ℕ → ℕ → ℕ → Setting
-of_numbers points heap stack threads = record { points = points; heap = heap; stack = stack; threads = threads; schedule = []; input = [] }
+abbrev of_numbers : ℕ → ℕ → ℕ → ℕ → Bool → Setting
+of_numbers points heap stack threads young = record { points = points; heap = heap; stack = stack; threads = threads; young = young; schedule = []; input = [] }
 
 pub bench_limits : (limits : Limits) → AreOfBench limits → setting_of limits ≡ bench_setting
-bench_limits limits bench = λ i. of_numbers (bench.0 i) (bench.1 i) (bench.2 i) (bench.3 i)
+bench_limits limits bench = λ i. of_numbers (bench.0 i) (bench.1 i) (bench.2 i) (bench.3 i) (bench.4 i)
 
 -- the same bytes before and after
 given_now : (a b : Option Files) (name : Option (List ℕ)) (text : List ℕ) → a ≡ b → IsGiven a name text → IsGiven b name text

@@ -10,7 +10,7 @@ use Rattle.m3c_image_commands.specs.declared.answers.Refusal.{Refusal}
 use Rattle.m3c_image_commands.specs.Statuses.{Shelving, Putting, PutsNothing, Only, IsRead, image_cap, LacksMemory, LacksOutput, Cuts, Refuses, Unfetched, read_fault, no_memory, absent, too_long, Tells}
 use Rattle.m3c_image_commands.specs.Reports.{Setting, Ended, end_status, within}
 use Rattle.m3c_image_commands.specs.ImageCommands.{on_input, ImageAnswer, image_refused, ended, RunAnswer, DumpAnswer, not_dumped, dumped, CutsDump, no_memory as no_more, not_put}
-use Rattle.m3c_inspect_command.specs.Inspecting.{BytesAnswer, CutsBytes, InspectAnswer, Inspected, NotShown, ended as run_to_end, image_refused as not_inspected, inspected, shown, unframed}
+use Rattle.m3c_inspect_command.specs.Inspecting.{BytesAnswer, CutsBytes, InspectAnswer, Inspected, ended as run_to_end, image_refused as not_inspected, inspected, shown, unframed}
 use Rattle.m3c_source_commands.specs.Judging.{Judgement, OfSome}
 use Rattle.m3c_source_commands.specs.SourceCommands.{BuildAnswer, not_built, stored, ExecAnswer, not_run, no_schedule, run_ended, IsOfNumber}
 use Rattle.m3c_source_commands.specs.Orders.{Order, build, run, exec, dump, bench, inspect, Fulfils, bench_setting}
@@ -101,7 +101,7 @@ not_dumped_other shelf name image out r (inr d) e = cut_dump_other image out r d
 
 cut_view_other : (image switches : List ℕ) (setting : Setting) (out : Putting) (r : Refusal) → CutsBytes image switches setting out r → r.status ≡ 2 → ⊥
 cut_view_other image switches setting out r (inl h) e = memory_other r h.0 e
-cut_view_other image switches setting out r (inr h) e = output_other r h.2.2.2.lacks e
+cut_view_other image switches setting out r (inr h) e = output_other r h.4.lacks e
 
 -- ---- commands
 
@@ -127,7 +127,7 @@ fulfilled_other judges (inspect name options) shelf out image (Ok a) h e = view_
 fulfilled_other judges (inspect name options) shelf out image (Err r) h e =
     elim h.refusal [
       | inl u ↦ unfetched_other shelf _ r.status r.front.now r.name.now u.0 e
-      | inr d ↦ cut_view_other image d.1.0 _ out r d.1.4 e
+      | inr d ↦ cut_view_other image d.1.0 (on_input (within options.bounds) d.1.1) out r d.1.4 e
     ]
 
 told_other : (err : Putting) (result : Result Answer Refusal) → Tells err result 2 → result_status result ≡ 2
