@@ -26,7 +26,7 @@ use Rattle.m3_source_typing.specs.Stores.{IsLater, IsTyped}
 use Rattle.m3_source_typing.specs.Sound.{Alias, IsDefined, IsPlaceOf, IsGood}
 use Rattle.m3_source_typing.specs.Procedures.{anywhere, unless_shared, unless_open, if_open, kind_of_formal, name_of_formal, scope_at_start, IsValueFor, IsActualFor, AreActualsFor}
 use Rattle.m3_source_typing.specs.Laws.{ProceduresAreSound}
-use Rattle.m3_source_typing.proofs.Staying.{place_stays, becomes_itself, type_stays}
+use Rattle.m3_source_typing.proofs.Staying.{later_keeps, place_stays, becomes_itself, type_stays}
 use Rattle.m3_source_typing.proofs.Places.{variables_stay, content_stays}
 use Rattle.m3_source_typing.proofs.Statements.{bodies_are_sound}
 
@@ -127,8 +127,8 @@ module _ (p : Program) (n : ℕ) (q : ProcDef) (around : Option ℕ) (actuals : 
 
   begun_typed : IsTyped p None s → IsTyped p None begun.store
   begun_typed typed = record {
-    cells = λ c k v holder is new. content_stays p s begun.store begun_later v k (node_of p k) (typed.cells c k v holder is new);
-    globals = variables_stay p s begun.store begun_later s.globals p.globals typed.globals;
+    cells = λ c k v holder is new. content_stays p s begun.store (later_keeps p s begun.store begun_later) v k (node_of p k) (typed.cells c k v holder is new);
+    globals = variables_stay p s begun.store (later_keeps p s begun.store begun_later) s.globals p.globals typed.globals;
   }
 
   begun_room : length begun.own ≡ length (variables_of q)

@@ -15,7 +15,7 @@ use Rattle.m3_source_typing.specs.Sound.{Scope, IsGood, IsDefined, AllFit, IsSou
 use Rattle.m3_source_typing.proofs.Staying.{place_stays, now_itself, and_later, type_stays}
 
 module _ (p : Program) (own : Scope) where
-  same_sound : (f g : Now → End) (now : Now) → ((answers : List Told) → f (record now { answers = answers }) ≡ g (record now { answers = answers })) → IsSound p g now → IsSound p f now
+  pub same_sound : (f g : Now → End) (now : Now) → ((answers : List Told) → f (record now { answers = answers }) ≡ g (record now { answers = answers })) → IsSound p g now → IsSound p f now
   same_sound f g now same sound fit =
       subst (IsDefined p) (sym (same now.answers))
       (sound (λ before after told action standing s is leads. fit before after told action standing s is (same before ∙ leads)))

@@ -31,6 +31,7 @@ use Rattle.m3_source_typing.proofs.Operating.{Typed, typed_given}
 pub data TypedElements (p : Program) (own : Scope) (member : ℕ) : List Adding → Type 0 where
   no_elements : TypedElements p own member []
   one_element : (e : Expression) (es : List Adding) → IsOfType p own e member → TypedElements p own member es → TypedElements p own member (meaning.with_one e ∷ es)
+  range_element : (first last : Expression) (es : List Adding) → IsOfType p own first member → IsOfType p own last member → TypedElements p own member es → TypedElements p own member (meaning.with_all first last ∷ es)
 
 -- an expression of a field's type, where there is such a field
 abbrev pub IsForField : Program → Scope → Expression → Option Field → Type 0
@@ -59,11 +60,26 @@ module _ (p : Program) (own : Scope) where
       subst (λ w. Gives p own t (λ u ns. AreMembersOf ns (bounds p member)) (meaning.one_member ms w)) (sym z.1)
       (given_sound p own t _ (sets.with_member z.0 ms) (λ u m. operand.with_member_in (bounds p member) z.0 ms z.2 h)))
 
+  all_sound : (first last : Expression) (member : ℕ) (s : Store) (ms : List ℤ) → IsOfType p own first member → IsOfType p own last member → rule.is_ordinal p member ≡ true → AreMembersOf ms (bounds p member) → Gives p own s (λ t ns. AreMembersOf ns (bounds p member)) (meaning.with_all first last ms)
+  all_sound first last member s ms is also numbers h =
+      bind_sound p own s (Typed p member) _ _ _ (is.value s)
+      (λ v t l q. bind_sound p own t (Typed p member) _ _ _ (holding_sound p own t (Typed p member) (Is v) last.value (also.value t))
+      (λ w u k f.
+      let x = number_of p t v member numbers q in
+      let y = number_of p u w member numbers f in
+      subst (λ a. Gives p own u (λ d ns. AreMembersOf ns (bounds p member)) (meaning.range_of_members ms a w)) (sym x.1)
+      (subst (λ a. Gives p own u (λ d ns. AreMembersOf ns (bounds p member)) (meaning.range_of_members ms (value.Ordinal x.0) a)) (sym y.1)
+      (given_sound p own u _ (sets.with_range x.0 y.0 ms) (λ d m. operand.range_in (bounds p member) x.0 y.0 ms x.2 y.2 h)))))
+
   pub set_form : (kind member : ℕ) → member_in (node_of p kind) ≡ Some member → rule.is_ordinal p member ≡ true → (es : List Adding) → TypedElements p own member es → (s : Store) (ms : List ℤ) → AreMembersOf ms (bounds p member) → Gives p own s (Typed p kind) (meaning.set_of es ms)
   set_form kind member is numbers _ no_elements s ms h = set_given s kind member ms is h
   set_form kind member is numbers _ (one_element e es typed more) s ms h =
       bind_sound p own s (λ t ns. AreMembersOf ns (bounds p member)) (Typed p kind) _ _
       (holding_sound p own s _ (Is (value.Members ms)) (meaning.with_one e ms) (one_sound e member s ms typed numbers h))
+      (λ ns t l q. set_form kind member is numbers es more t ns q)
+  set_form kind member is numbers _ (range_element first last es typed also more) s ms h =
+      bind_sound p own s (λ t ns. AreMembersOf ns (bounds p member)) (Typed p kind) _ _
+      (holding_sound p own s _ (Is (value.Members ms)) (meaning.with_all first last ms) (all_sound first last member s ms typed also numbers h))
       (λ ns t l q. set_form kind member is numbers es more t ns q)
 
   -- ---- records

@@ -64,6 +64,22 @@ use Rattle.m3_source_meaning.specs.Phrases.{Served}
 use Rattle.m3_source_typing.specs.Expressions.{IsRoutine, AreOperands}
 use Rattle.m3_source_typing.proofs.Serving as serving
 use Rattle.m3_source_typing.proofs.Serving.{TypedOperands, IsServed, routine_sound}
+use Rattle.m3_source_typing.specs.ValueTypes.{OfReferences}
+use Rattle.m3_source_typing.specs.Subtypes.{IsBelow}
+use Rattle.m3_source_typing.proofs.Above.{typed_above}
+use Rattle.std.proofs.Common.{suc, length}
+use Rattle.std.proofs.lemmas.List.{length-map}
+use Rattle.m3_values.specs.Types.{elements as elements_of}
+use Rattle.m3_source_meaning.specs.Constructors as constructors
+use Rattle.m3_source_typing.specs.Expressions.{AreElementsOf, count_fits}
+use Rattle.m3_source_typing.proofs.Rowing as rowing
+use Rattle.m3_source_typing.proofs.Rowing.{TypedRowOf, array_form}
+use Rattle.std.proofs.Common.{◌-◌, arith}
+use Rattle.m3_core.specs.declared.program.ProcDef.{ProcDef}
+use Rattle.m3_source_meaning.specs.Designators.{activation_at, outwards}
+use Rattle.m3_source_typing.specs.ValueTypes.{IsProcedureOf}
+use Rattle.m3_source_typing.proofs.Combining.{seeing_sound}
+use Rattle.m3_source_typing.proofs.Creating.{new_sound}
 
 pub types_stay : TypesStay
 types_stay p s t v kind l h = type_stays p s t l v kind h
@@ -103,6 +119,22 @@ module _ (p : Program) (own : Scope) (here : Here) where
     value = λ s. bind_sound p own s (Typed p t) (Typed p u) e.value given (is.value s) (λ v k l q. typed_given p own k u v (share_values p k v t u alike q));
     unread = is.unread;
   }
+
+  of_above : (e : Expression) (t u : ℕ) → IsOfType p own e t → class_of p t ≡ OfReferences → class_of p u ≡ OfReferences → IsBelow p t u → IsOfType p own e u
+  of_above e t u is c d under = record {
+    value = λ s. bind_sound p own s (Typed p t) (Typed p u) e.value given (is.value s) (λ v k l q. typed_given p own k u v (typed_above p own k v t u c d under q));
+    unread = is.unread;
+  }
+
+  -- the activation around a procedure that stands in the one that speaks is this one
+  here_sound : (n : ℕ) → n ≡ here.level → (s : Store) → Gives p own s (λ u x. Unit {0}) (activation_at p here n)
+  here_sound n e s = seeing_sound p own s _ (λ m. outwards (here.level - n) m.store here.activation)
+      (λ m l good. let none : here.level - n ≡ 0 = omega arith in (here.activation, ap (λ k. outwards k m.store here.activation) none, tt))
+
+  inner_given : (s : Store) (n kind : ℕ) (q : ProcDef) → class_of p kind ≡ OfProcedures → q.level ≡ suc here.level → IsProcedureOf p (procedure_at p n) kind → Gives p own s (Typed p kind) (activation_at p here (q.level - 1) >>= (λ activation. given (value.Procedure n (Some activation))))
+  inner_given s n kind q c level of =
+      let same : q.level - 1 ≡ here.level = omega arith in
+      bind_sound p own s (λ u x. Unit {0}) (Typed p kind) _ _ (here_sound (q.level - 1) same s) (λ a u l h. typed_given p own u kind (value.Procedure n (Some a)) (c, of))
 
   procedure_alike : (s : Store) (v : Value) (t u : ℕ) → class_of p u ≡ OfProcedures → called_alike p (node_of p t) (node_of p u) ≡ true → class_of p t ≡ OfProcedures → HasType p s v t → HasType p s v u
   procedure_alike s value.Nil t u c alike d h = subst IsOfNil (sym c) tt
@@ -148,6 +180,9 @@ module _ (p : Program) (own : Scope) (here : Here) where
     expression_sound _ _ (typed.procedure at kind n is of) =
         subst (λ e. IsOfType p own e kind.0) (sym (trees.expression_is p here (layer.Procedure at kind n)))
         (plain_typed at kind _ (λ s. literal s (value.Procedure n None) kind.0 (is, of)))
+    expression_sound _ _ (typed.inner_procedure at kind n q procedures is level of) =
+        subst (λ e. IsOfType p own e kind.0) (sym (trees.expression_is p here (layer.InnerProcedure at kind n)))
+        (plain_typed at kind _ (λ s. subst (λ o. Gives p own s (Typed p kind.0) (there o >>= (λ (q : ProcDef). activation_at p here (q.level - 1) >>= (λ activation. given (value.Procedure n (Some activation)))))) (sym is) (inner_given s n kind.0 q procedures level of)))
     expression_sound _ _ (typed.constant at kind n v is of) =
         subst (λ e. IsOfType p own e kind.0) (sym (trees.expression_is p here (layer.Constant at kind n)))
         (plain_typed at kind _ (λ s. subst (λ o. Gives p own s (Typed p kind.0) (there o)) (sym is) (literal s v kind.0 (of s))))
@@ -177,6 +212,15 @@ module _ (p : Program) (own : Scope) (here : Here) where
         subst (λ e. IsOfType p own e kind.0) (sym (trees.expression_is p here (layer.TypeTest at kind e other)))
         (plain_typed at kind _ (test_form p own (expression p here e.now) t other.0 kind.0 (expression_sound e.now t is) from boolean))
     expression_sound _ _ (typed.widened e t wider is from to part) = widen (expression p here e) t wider (expression_sound e t is) from to part
+    expression_sound _ _ (typed.array_of at kind first rest elements is_filled e size row arrays of sizes all fits) =
+        subst (λ e. IsOfType p own e kind.0) (sym (trees.expression_is p here (layer.ArrayOf at kind elements is_filled)))
+        (plain_typed at kind _ (λ s. subst (λ xs. Gives p own s (Typed p kind.0) (constructors.array_value p kind.0 (map (expression p here) xs) is_filled)) (sym row)
+        (array_form p own kind.0 e size is_filled (expression p here first) (map (expression p here) rest) arrays of sizes (subst (λ xs. TypedRowOf p own e (map (expression p here) xs)) row (row_of_typed e elements.now all)) (subst (λ n. count_fits is_filled size (elements_of p kind.0) (suc n) ≡ true) (sym (length-map rest (expression p here))) (subst (λ (xs : List CoreExpr). count_fits is_filled size (elements_of p kind.0) (length xs) ≡ true) row fits)) s)))
+    expression_sound _ _ (typed.new_cell at kind made sizes bindings no_sizes no_bindings class is content) =
+        subst (λ e. IsOfType p own e kind.0) (sym (trees.expression_is p here (layer.New at kind made sizes bindings)))
+        (plain_typed at kind _ (λ s. subst (λ xs. Gives p own s (Typed p kind.0) (constructors.new_cell p made.0 (map (expression p here) xs) (map (trees.binding p here) bindings.now))) (sym no_sizes)
+        (subst (λ bs. Gives p own s (Typed p kind.0) (constructors.new_cell p made.0 [] (map (trees.binding p here) bs))) (sym no_bindings)
+        (new_sound p own made.0 kind.0 class is content s))))
     expression_sound _ _ (typed.routine c t is) =
         subst (λ e. IsOfType p own e t) (sym (trees.expression_is p here (layer.Builtin c)))
         (record { value = routine_typed c.now (Some t) is; unread = unread_sound _ t (routine_typed c.now (Some t) is) })
@@ -189,6 +233,7 @@ module _ (p : Program) (own : Scope) (here : Here) where
         (plain_typed at kind _ (λ s. limit_sound p own here l noted.0 kind.0 (chain p here c.now) b t
         (ap (λ (c : Chained). c.kind) (ap (chain p here) form ∙ trees.chain_is p here (record { pos = begins; base = base; steps = row; kind = Some noted })))
         (λ u. known.thing u) arrays has numbers s))
+    expression_sound _ _ (typed.above e t other is c d under) = of_above (expression p here e) t other (expression_sound e t is) c d under
     expression_sound _ _ (typed.called_as e t other is procedures class alike) = of_alike (expression p here e) t other (expression_sound e t is) procedures class alike
     expression_sound _ _ (typed.same e t other is alike) = of_same (expression p here e) t other (expression_sound e t is) alike
 
@@ -203,6 +248,9 @@ module _ (p : Program) (own : Scope) (here : Here) where
     elements_typed _ _ (typed.one_element member e es is more) =
         subst (λ x. TypedElements p own member (x ∷ map (trees.set_element p here) es)) (sym (trees.set_element_is p here (layer.One e)))
         (parts.one_element (expression p here e.now) (map (trees.set_element p here) es) (expression_sound e.now member is) (elements_typed member es more))
+    elements_typed _ _ (typed.range_element member first last es is also more) =
+        subst (λ x. TypedElements p own member (x ∷ map (trees.set_element p here) es)) (sym (trees.set_element_is p here (layer.Range first last)))
+        (parts.range_element (expression p here first.now) (expression p here last.now) (map (trees.set_element p here) es) (expression_sound first.now member is) (expression_sound last.now member also) (elements_typed member es more))
 
     fields_typed : (fields : List Field) (vs : List FieldValue) (ns : List ℕ) → AreFieldValues p here own fields vs ns → TypedFields p own fields (map (trees.field p here) vs) × (map field_of (map (trees.field p here) vs) ≡ ns)
     fields_typed _ _ _ (typed.no_fields fields) = (parts.no_fields, refl)
@@ -292,6 +340,10 @@ module _ (p : Program) (own : Scope) (here : Here) where
     step_typed _ _ _ (typed.element_of index kind b t e i is of indexed numbers) =
         subst (λ x. TypedStep p own here (PlaceOf b t) x (PlaceOf b e)) (sym (trees.step_is p here (layer.Element index kind)))
         (record { goes = λ before s thing g. element_sound p own here (expression p here index.now) b t e i is of (expression_sound index.now i indexed) numbers before.kind s thing g })
+
+    row_of_typed : (e : ℕ) (xs : List CoreExpr) → AreElementsOf p here own e xs → TypedRowOf p own e (map (expression p here) xs)
+    row_of_typed _ _ (typed.none_of e) = rowing.none
+    row_of_typed _ _ (typed.one_of e x xs is more) = rowing.more (expression p here x) (map (expression p here) xs) (expression_sound x e is) (row_of_typed e xs more)
 
     pub routine_typed : (c : BuiltinCall) (k : Option ℕ) → IsRoutine p here own c k → (s : Store) → Gives p own s (IsServed p own k) (routine p here c).value
     routine_typed _ _ (typed.routine_call at r actuals order kind ts all each fits) s =

@@ -15,6 +15,7 @@ use Rattle.m3_values.specs.Types.{Bounds, bounds_in, element_in, target_in, inde
 use Rattle.m3_values.specs.Store.{is_text_type, is_thread_type, is_made_type}
 use Rattle.m3_values.specs.Sameness.{head_code, integer_code, text_code, number_code, formal_code, flag_code, raises_code, mode_code}
 use Rattle.m3_source_typing.specs.ValueTypes.{Class, OfNumbers, OfReferences, OfProcedures, OfSets, OfRecords, OfArrays, NoType, class_in, member_in, record_fields, result_in}
+use Rattle.m3_source_typing.specs.Subtypes.{is_declared_in}
 
 -- ---- rows of numbers
 
@@ -70,6 +71,14 @@ member_place n = in_table (None ∷ None ∷ None ∷ None ∷ None ∷ None ∷
 
 abbrev pub target_place : ℕ → Option ℕ
 target_place n = in_table (None ∷ None ∷ None ∷ None ∷ None ∷ None ∷ None ∷ None ∷ None ∷ None ∷ None ∷ Some 0 ∷ []) None n
+
+abbrev pub above_place : ℕ → Option ℕ
+above_place n = in_table (None ∷ None ∷ None ∷ None ∷ None ∷ None ∷ None ∷ None ∷ None ∷ None ∷ None ∷ None ∷ Some 0 ∷ []) None n
+
+-- the parent that an object type names
+abbrev pub named_parent : Option TypeNode → Option ℕ
+named_parent (Some (node.Object brand parent fields methods overrides)) = Some parent.0
+named_parent _ = None
 
 abbrev pub index_place : ℕ → Option ℕ
 index_place n = in_table (None ∷ None ∷ None ∷ None ∷ None ∷ None ∷ None ∷ Some 0 ∷ []) None n
@@ -145,32 +154,34 @@ module _ (p : Program) where
     pub element : element_in o ≡ pick (element_place (first_of (code_of t o))) (parts_in o)
     pub member : member_in o ≡ pick (member_place (first_of (code_of t o))) (parts_in o)
     pub target : target_in o ≡ pick (target_place (first_of (code_of t o))) (parts_in o)
+    pub above : named_parent o ≡ pick (above_place (first_of (code_of t o))) (parts_in o)
+    pub declared : is_declared_in o ≡ ((first_of (code_of t o) == 12) || (first_of (code_of t o) == 18))
     pub index : index_in o ≡ pick (index_place (first_of (code_of t o))) (parts_in o)
     pub text : is_text_type p o ≡ ((first_of (code_of t o) == 16) || (first_of (code_of t o) == 17))
     pub made : (kind : ℕ) → is_made_type p kind t o ≡ made_by (first_of (code_of t o)) (is_object_in (node_of p kind)) (is_below p kind t)
 
   pub known : (t : ℕ) (o : Option TypeNode) → Known t o
-  known t None = record { class = refl; opened = refl; element = refl; member = refl; target = refl; index = refl; text = refl; made = λ kind. refl }
-  known t (Some node.Reserved) = record { class = refl; opened = refl; element = refl; member = refl; target = refl; index = refl; text = refl; made = λ kind. refl }
-  known t (Some node.Integer) = record { class = refl; opened = refl; element = refl; member = refl; target = refl; index = refl; text = refl; made = λ kind. refl }
-  known t (Some node.Boolean) = record { class = refl; opened = refl; element = refl; member = refl; target = refl; index = refl; text = refl; made = λ kind. refl }
-  known t (Some node.Character) = record { class = refl; opened = refl; element = refl; member = refl; target = refl; index = refl; text = refl; made = λ kind. refl }
-  known t (Some (node.Enumeration names)) = record { class = refl; opened = refl; element = refl; member = refl; target = refl; index = refl; text = refl; made = λ kind. refl }
-  known t (Some (node.Subrange base first last)) = record { class = refl; opened = refl; element = refl; member = refl; target = refl; index = refl; text = refl; made = λ kind. refl }
-  known t (Some (node.FixedArray index element)) = record { class = refl; opened = refl; element = refl; member = refl; target = refl; index = refl; text = refl; made = λ kind. refl }
-  known t (Some (node.OpenArray element)) = record { class = refl; opened = refl; element = refl; member = refl; target = refl; index = refl; text = refl; made = λ kind. refl }
-  known t (Some (node.Fields fields)) = record { class = refl; opened = refl; element = refl; member = refl; target = refl; index = refl; text = refl; made = λ kind. refl }
-  known t (Some (node.SetOf base)) = record { class = refl; opened = refl; element = refl; member = refl; target = refl; index = refl; text = refl; made = λ kind. refl }
-  known t (Some (node.RefTo brand target)) = record { class = refl; opened = refl; element = refl; member = refl; target = refl; index = refl; text = refl; made = λ kind. refl }
-  known t (Some (node.Object brand parent fields methods overrides)) = record { class = refl; opened = refl; element = refl; member = refl; target = refl; index = refl; text = refl; made = λ kind. refl }
-  known t (Some (node.Procedure formals result raises)) = record { class = refl; opened = refl; element = refl; member = refl; target = refl; index = refl; text = refl; made = λ kind. refl }
-  known t (Some (node.Opaque bound secret)) = record { class = refl; opened = refl; element = refl; member = refl; target = refl; index = refl; text = refl; made = λ kind. refl }
-  known t (Some node.Null) = record { class = refl; opened = refl; element = refl; member = refl; target = refl; index = refl; text = refl; made = λ kind. refl }
-  known t (Some node.RefAny) = record { class = refl; opened = refl; element = refl; member = refl; target = refl; index = refl; text = refl; made = λ kind. refl }
-  known t (Some node.Text) = record { class = refl; opened = refl; element = refl; member = refl; target = refl; index = refl; text = refl; made = λ kind. refl }
-  known t (Some node.Mutex) = record { class = refl; opened = refl; element = refl; member = refl; target = refl; index = refl; text = refl; made = λ kind. refl }
-  known t (Some node.Root) = record { class = refl; opened = refl; element = refl; member = refl; target = refl; index = refl; text = refl; made = λ kind. refl }
-  known t (Some (node.Constant value)) = record { class = refl; opened = refl; element = refl; member = refl; target = refl; index = refl; text = refl; made = λ kind. refl }
+  known t None = record { class = refl; opened = refl; element = refl; member = refl; target = refl; above = refl; declared = refl; index = refl; text = refl; made = λ kind. refl }
+  known t (Some node.Reserved) = record { class = refl; opened = refl; element = refl; member = refl; target = refl; above = refl; declared = refl; index = refl; text = refl; made = λ kind. refl }
+  known t (Some node.Integer) = record { class = refl; opened = refl; element = refl; member = refl; target = refl; above = refl; declared = refl; index = refl; text = refl; made = λ kind. refl }
+  known t (Some node.Boolean) = record { class = refl; opened = refl; element = refl; member = refl; target = refl; above = refl; declared = refl; index = refl; text = refl; made = λ kind. refl }
+  known t (Some node.Character) = record { class = refl; opened = refl; element = refl; member = refl; target = refl; above = refl; declared = refl; index = refl; text = refl; made = λ kind. refl }
+  known t (Some (node.Enumeration names)) = record { class = refl; opened = refl; element = refl; member = refl; target = refl; above = refl; declared = refl; index = refl; text = refl; made = λ kind. refl }
+  known t (Some (node.Subrange base first last)) = record { class = refl; opened = refl; element = refl; member = refl; target = refl; above = refl; declared = refl; index = refl; text = refl; made = λ kind. refl }
+  known t (Some (node.FixedArray index element)) = record { class = refl; opened = refl; element = refl; member = refl; target = refl; above = refl; declared = refl; index = refl; text = refl; made = λ kind. refl }
+  known t (Some (node.OpenArray element)) = record { class = refl; opened = refl; element = refl; member = refl; target = refl; above = refl; declared = refl; index = refl; text = refl; made = λ kind. refl }
+  known t (Some (node.Fields fields)) = record { class = refl; opened = refl; element = refl; member = refl; target = refl; above = refl; declared = refl; index = refl; text = refl; made = λ kind. refl }
+  known t (Some (node.SetOf base)) = record { class = refl; opened = refl; element = refl; member = refl; target = refl; above = refl; declared = refl; index = refl; text = refl; made = λ kind. refl }
+  known t (Some (node.RefTo brand target)) = record { class = refl; opened = refl; element = refl; member = refl; target = refl; above = refl; declared = refl; index = refl; text = refl; made = λ kind. refl }
+  known t (Some (node.Object brand parent fields methods overrides)) = record { class = refl; opened = refl; element = refl; member = refl; target = refl; above = refl; declared = refl; index = refl; text = refl; made = λ kind. refl }
+  known t (Some (node.Procedure formals result raises)) = record { class = refl; opened = refl; element = refl; member = refl; target = refl; above = refl; declared = refl; index = refl; text = refl; made = λ kind. refl }
+  known t (Some (node.Opaque bound secret)) = record { class = refl; opened = refl; element = refl; member = refl; target = refl; above = refl; declared = refl; index = refl; text = refl; made = λ kind. refl }
+  known t (Some node.Null) = record { class = refl; opened = refl; element = refl; member = refl; target = refl; above = refl; declared = refl; index = refl; text = refl; made = λ kind. refl }
+  known t (Some node.RefAny) = record { class = refl; opened = refl; element = refl; member = refl; target = refl; above = refl; declared = refl; index = refl; text = refl; made = λ kind. refl }
+  known t (Some node.Text) = record { class = refl; opened = refl; element = refl; member = refl; target = refl; above = refl; declared = refl; index = refl; text = refl; made = λ kind. refl }
+  known t (Some node.Mutex) = record { class = refl; opened = refl; element = refl; member = refl; target = refl; above = refl; declared = refl; index = refl; text = refl; made = λ kind. refl }
+  known t (Some node.Root) = record { class = refl; opened = refl; element = refl; member = refl; target = refl; above = refl; declared = refl; index = refl; text = refl; made = λ kind. refl }
+  known t (Some (node.Constant value)) = record { class = refl; opened = refl; element = refl; member = refl; target = refl; above = refl; declared = refl; index = refl; text = refl; made = λ kind. refl }
 
   range_is : (first last : ℤ) → Some (record { first = first; last = last }) ≡ bounds_by (6 ∷ integer_code first ++ integer_code last)
   range_is (pos m) (pos n) = refl

@@ -10,6 +10,9 @@ pub mod Referents
 pub mod Chains
 pub mod Calling
 pub mod Serving
+pub mod Above
+pub mod Rowing
+pub mod Creating
 pub mod Expressions
 pub mod Leaving
 pub mod Repeating

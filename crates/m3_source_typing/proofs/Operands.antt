@@ -1,5 +1,5 @@
 -- What values of a type look like, and the types of results.
-use Rattle.std.proofs.Common.{◌≡◌, ℕ, ℤ, pos, negsuc, Bool, true, false, List, [], ◌∷◌, Option, Some, None, refl, sym, ap, ◌∙◌, subst, arith}
+use Rattle.std.proofs.Common.{◌-ℤ◌, ◌+ℤ◌, ◌≤◌, ◌<◌, zero, ◌≡◌, ℕ, ℤ, pos, negsuc, Bool, true, false, List, [], ◌∷◌, Option, Some, None, refl, sym, ap, ◌∙◌, subst, arith, suc}
 use Rattle.std.specs.Prelude.{◌&&◌, cond, int_le, int_lt}
 use Rattle.std.specs.List.{filter}
 use Rattle.std.specs.Option.{option_and_then}
@@ -20,6 +20,7 @@ use Rattle.m3_values.specs.Store.{Store}
 use Rattle.m3_source_typing.specs.ValueTypes.{Class, OfNumbers, OfReferences, OfProcedures, OfSets, OfRecords, OfArrays, NoType, class_in, class_of, member_in, member_bounds, IsOfNil, IsNumberOf, AreMembersOf, HasType}
 use Rattle.m3_source_typing.specs.Operators as operators
 use Rattle.m3_source_typing.specs.Operators.{is_numbers, is_integer_in, is_boolean_in, same_bounds, within_bounds}
+use Rattle.std.proofs.lemmas.Int.{ints}
 
 -- ---- tests
 
@@ -215,6 +216,13 @@ module _ (b : Option Bounds) where
   with_member_in z [] h g = (h, tt)
   with_member_in z (m ∷ ms) h g = put_in (int_lt z m) (same_integer z m) z m ms (sets.with_member z ms) h g (with_member_in z ms h g.1)
 
+  pub members_in : (count : ℕ) (first : ℤ) (ms : List ℤ) → ((i : ℕ) → i < count → IsNumberOf (first +ℤ pos i) b) → AreMembersOf ms b → AreMembersOf (sets.with_members count first ms) b
+  members_in zero first ms h g = g
+  members_in (suc count) first ms h g =
+      let none : first +ℤ pos 0 ≡ first = omega (arith, ints) in
+      with_member_in first (sets.with_members count (first +ℤ pos 1) ms) (subst (λ z. IsNumberOf z b) none (h 0 (omega arith)))
+      (members_in count (first +ℤ pos 1) ms (λ i less. let same : first +ℤ pos (suc i) ≡ (first +ℤ pos 1) +ℤ pos i = omega (arith, ints) in subst (λ z. IsNumberOf z b) same (h (suc i) (omega arith))) g)
+
   pub union_in : (ms ns : List ℤ) → AreMembersOf ms b → AreMembersOf ns b → AreMembersOf (sets.union ms ns) b
   union_in [] ns h g = g
   union_in (m ∷ ms) ns h g = with_member_in m (sets.union ms ns) h.0 (union_in ms ns h.1 g)
@@ -229,3 +237,16 @@ module _ (b : Option Bounds) where
 
   pub symmetric_in : (ms ns : List ℤ) → AreMembersOf ms b → AreMembersOf ns b → AreMembersOf (sets.symmetric_difference ms ns) b
   symmetric_in ms ns h g = union_in (sets.difference ms ns) (sets.difference ns ms) (filter_in _ ms h) (filter_in _ ns g)
+
+-- the members from one to another are between these
+between : (b : Bounds) (first last d : ℤ) → last -ℤ first ≡ d → is_between b.first b.last first ≡ true → is_between b.first b.last last ≡ true → (i : ℕ) → i < sets.steps d → is_between b.first b.last (first +ℤ pos i) ≡ true
+between b first last (pos n) e h g i less =
+    let le : i ≤ n = omega arith in
+    let low : int_le b.first first ≡ true = left_true (int_le b.first first) (int_le first b.last) h in
+    let high : int_le last b.last ≡ true = right_true (int_le b.first last) (int_le last b.last) g in
+    both_true (int_le b.first (first +ℤ pos i)) (int_le (first +ℤ pos i) b.last) (grind (arith, ints)) (grind (arith, ints))
+between b first last (negsuc n) e h g i less = absurd (omega arith)
+
+pub range_in : (o : Option Bounds) (first last : ℤ) (ms : List ℤ) → IsNumberOf first o → IsNumberOf last o → AreMembersOf ms o → AreMembersOf (sets.with_range first last ms) o
+range_in None first last ms h g f = absurd h
+range_in (Some b) first last ms h g f = members_in (Some b) (sets.steps (last -ℤ first)) first ms (λ i less. between b first last (last -ℤ first) refl h g i less) f

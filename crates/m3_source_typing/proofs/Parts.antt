@@ -205,6 +205,21 @@ module _ (p : Program) where
   nil_is_no_array OfArrays h = absurd h
   nil_is_no_array NoType h = absurd h
 
+  none_wanted : (t : ℕ) (c : Class) → class_of p t ≡ c → is_arrays c ≡ false → has_sizes (type_sizes p t) [] ≡ true
+  none_wanted t c e h = ap (λ sizes. has_sizes sizes []) (no_sizes (depth p) t (no_element (node_of p t) (ap is_arrays e ∙ h)))
+
+  -- each value has a shape that its type says
+  pub shape_said : (s : Store) (v : Value) (t : ℕ) → HasType p s v t → has_sizes (type_sizes p t) (shape v) ≡ true
+  shape_said s (value.Ordinal z) t h = none_wanted t _ h.0 refl
+  shape_said s value.Nil t h = none_wanted t _ refl (nil_is_no_array (class_of p t) h)
+  shape_said s (value.Pointer c) t h = none_wanted t _ h.0 refl
+  shape_said s (value.Text n) t h = none_wanted t _ h.0 refl
+  shape_said s value.MainThread t h = none_wanted t _ h.0 refl
+  shape_said s (value.Procedure q around) t h = none_wanted t _ h.0 refl
+  shape_said s (value.Members ms) t h = none_wanted t _ h.0 refl
+  shape_said s (value.Record vs) t h = none_wanted t _ h.0 refl
+  shape_said s (value.Array below vs) t h = h.2
+
   -- the values of a type that says the size of each dimension have that shape
   pub fixed_shape : (s : Store) (v : Value) (t : ℕ) → HasType p s v t → (f : HasFixedSizes p t) → shape v ≡ f.sizes
   fixed_shape s (value.Ordinal z) t h f = without_shape t _ h.0 refl f

@@ -22,7 +22,7 @@ use Rattle.m3_source_typing.specs.ValueTypes.{OfRecords, OfArrays, class_of, rec
 use Rattle.m3_source_typing.specs.Stores.{IsLater, IsContentOf, AreVariables}
 use Rattle.m3_source_typing.specs.Sound.{Owned, Knows, Scope, IsFair, Becomes, IsPlaceOf, IsGood, Gives, IsReadable}
 use Rattle.m3_source_typing.specs.Expressions.{Given, PlaceOf, ValueOf, Nothing}
-use Rattle.m3_source_typing.proofs.Staying.{place_stays, now_itself, becomes_itself, type_stays, fields_stay}
+use Rattle.m3_source_typing.proofs.Staying.{place_stays, now_itself, becomes_itself, type_stays, Keeps, later_keeps, type_kept, fields_kept}
 use Rattle.m3_source_typing.proofs.Combining.{given_sound}
 use Rattle.m3_source_typing.proofs.Heads.{first_of, rest_of}
 use Rattle.m3_source_typing.proofs.Parts.{read_further, write_further, item_set, record_of, array_of, field_there, element_there, record_with, array_with, same_shape, fixed_shape}
@@ -54,11 +54,11 @@ pub other_thing : (vs : Variables) (x : ℕ) (thing : Thing) (y : ℕ) (old : Th
 other_thing vs x thing y old h n = ⊎_elim (λ q. absurd (n q.0)) (λ q. q) (set_thing vs x thing y old h)
 
 module _ (p : Program) where
-  pub variables_stay : (s t : Store) → IsLater s t → (vs : List Value) (xs : List VarDef) → AreVariables p s vs xs → AreVariables p t vs xs
+  pub variables_stay : (s t : Store) → Keeps p s t → (vs : List Value) (xs : List VarDef) → AreVariables p s vs xs → AreVariables p t vs xs
   variables_stay s t l [] [] h = tt
   variables_stay s t l [] (x ∷ xs) h = h
   variables_stay s t l (v ∷ vs) [] h = h
-  variables_stay s t l (v ∷ vs) (x ∷ xs) h = (type_stays p s t l v (type_of_variable x.kind) h.0, variables_stay s t l vs xs h.1)
+  variables_stay s t l (v ∷ vs) (x ∷ xs) h = (type_kept p s t l v (type_of_variable x.kind) h.0, variables_stay s t l vs xs h.1)
 
   variable_set : (s : Store) (vs : List Value) (xs : List VarDef) (n : ℕ) (x : VarDef) (v : Value) → AreVariables p s vs xs → slice_get xs n ≡ Some x → HasType p s v (type_of_variable x.kind) → AreVariables p s (slice_set vs n v) xs
   variable_set s [] [] n x v h e g = h
@@ -74,10 +74,10 @@ module _ (p : Program) where
   variable_there s (v ∷ vs) (y ∷ xs) zero x h e = let q : Some y ≡ Some x = e in let same : y ≡ x = cc in (v, refl, subst (λ (z : VarDef). HasType p s v (type_of_variable z.kind)) same h.0)
   variable_there s (v ∷ vs) (y ∷ xs) (suc n) x h e = variable_there s vs xs n x h.1 e
 
-  pub content_stays : (s t : Store) → IsLater s t → (v : Value) (kind : ℕ) (o : Option TypeNode) → IsContentOf p s v kind o → IsContentOf p t v kind o
-  content_stays s t l v kind (Some (node.RefTo brand target)) h = type_stays p s t l v target.0 h
-  content_stays s t l v kind (Some (node.OpenArray element)) h = type_stays p s t l v kind h
-  content_stays s t l (value.Record vs) kind _ h = fields_stay p s t l vs (object_fields p kind) h
+  pub content_stays : (s t : Store) → Keeps p s t → (v : Value) (kind : ℕ) (o : Option TypeNode) → IsContentOf p s v kind o → IsContentOf p t v kind o
+  content_stays s t l v kind (Some (node.RefTo brand target)) h = type_kept p s t l v target.0 h
+  content_stays s t l v kind (Some (node.OpenArray element)) h = type_kept p s t l v kind h
+  content_stays s t l (value.Record vs) kind _ h = fields_kept p s t l vs (object_fields p kind) h
   content_stays s t l _ kind _ h = absurd h
 
 pub knows_itself : (own : Owned) → Knows own own
@@ -159,8 +159,8 @@ module _ (p : Program) (known : Owned) where
       let l : IsLater m.store (with_global m n v).store = global_later m n v in
       record {
         store = record {
-          cells = λ c kind w holder is new. content_stays p m.store (with_global m n v).store l w kind (node_of p kind) (good.store.cells c kind w holder is new);
-          globals = variable_set p (with_global m n v).store m.store.globals p.globals n x v (variables_stay p m.store (with_global m n v).store l m.store.globals p.globals good.store.globals) e (type_stays p m.store (with_global m n v).store l v (type_of_variable x.kind) h);
+          cells = λ c kind w holder is new. content_stays p m.store (with_global m n v).store (later_keeps p m.store (with_global m n v).store l) w kind (node_of p kind) (good.store.cells c kind w holder is new);
+          globals = variable_set p (with_global m n v).store m.store.globals p.globals n x v (variables_stay p m.store (with_global m n v).store (later_keeps p m.store (with_global m n v).store l) m.store.globals p.globals good.store.globals) e (type_stays p m.store (with_global m n v).store l v (type_of_variable x.kind) h);
         };
         room = good.room;
         variables = λ y t is. let w = good.variables y t is in record { value = w.value; is = w.is; typed = type_stays p m.store (with_global m n v).store l w.value t w.typed };

@@ -21,14 +21,14 @@ use Rattle.m3_source_typing.specs.Stores as stores
 use Rattle.m3_source_typing.specs.Stores.{Becomes as CellBecomes, HasStill, IsLater, IsContentOf}
 use Rattle.m3_source_typing.specs.Sound.{Owned, IsFair, Becomes, IsPlaceOf}
 use Rattle.m3_source_typing.specs.Expressions.{ParentsAreObjects, HasField, HaveField}
-use Rattle.m3_source_typing.proofs.Staying.{becomes_itself, type_stays}
+use Rattle.m3_source_typing.proofs.Staying.{later_keeps, becomes_itself, type_stays}
 use Rattle.m3_source_typing.proofs.Parts.{read_further, write_further, item_set, field_there, fields_set, fixed_shape}
 use Rattle.m3_source_typing.proofs.Places.{becomes_so, content_stays, variables_stay}
 use Rattle.m3_source_typing.proofs.Sameness.{BothSame, flipped, target_same, share_values}
 
 -- ---- rows
 
-any_in_both : (f : ℕ → Bool) (xs ys : List ℕ) → list_any f (xs ++ ys) ≡ true → (list_any f xs ≡ true) ⊎ (list_any f ys ≡ true)
+pub any_in_both : (f : ℕ → Bool) (xs ys : List ℕ) → list_any f (xs ++ ys) ≡ true → (list_any f xs ≡ true) ⊎ (list_any f ys ≡ true)
 any_in_both f [] ys e = inr e
 any_in_both f (x ∷ xs) ys e = at (f x) e (any_in_both f xs ys)
   where
@@ -36,12 +36,12 @@ any_in_both f (x ∷ xs) ys e = at (f x) e (any_in_both f xs ys)
     at true e h = inl refl
     at false e h = h e
 
-any_alone : (b : Bool) → (b || false) ≡ true → b ≡ true
+pub any_alone : (b : Bool) → (b || false) ≡ true → b ≡ true
 any_alone true e = refl
 any_alone false e = e
 
 -- what is set, and each other one
-set_or : {A : Type 0} (xs : List A) (n : ℕ) (x : A) (m : ℕ) (old : A) → slice_get xs m ≡ Some old → ((n ≡ m) × (slice_get (slice_set xs n x) m ≡ Some x)) ⊎ (slice_get (slice_set xs n x) m ≡ Some old)
+pub set_or : {A : Type 0} (xs : List A) (n : ℕ) (x : A) (m : ℕ) (old : A) → slice_get xs m ≡ Some old → ((n ≡ m) × (slice_get (slice_set xs n x) m ≡ Some x)) ⊎ (slice_get (slice_set xs n x) m ≡ Some old)
 set_or [] n x m old h = inr h
 set_or (y ∷ xs) zero x zero old h = inl (refl, refl)
 set_or (y ∷ xs) zero x (suc m) old h = inr h
@@ -57,12 +57,12 @@ was_or (y ∷ xs) (suc n) x (suc m) now h = ⊎_elim (λ q. inl (ap suc q.0, q.1
 
 -- ---- cells
 
-abbrev kind_or : ℕ → Cell → ℕ
+abbrev pub kind_or : ℕ → Cell → ℕ
 kind_or n (store.Made kind v holder) = kind
 kind_or n (store.Bytes bytes) = n
 kind_or n (store.Forked number result is_joined) = n
 
-abbrev content_or : Value → Cell → Value
+abbrev pub content_or : Value → Cell → Value
 content_or w (store.Made kind v holder) = v
 content_or w (store.Bytes bytes) = w
 content_or w (store.Forked number result is_joined) = w
@@ -121,10 +121,10 @@ module _ (p : Program) where
               (λ q.
               let same : kind ≡ k = ap (kind_or kind) q.1 in
               let what : v ≡ w = ap (content_or v) q.1 in
-              subst (λ x. IsContentOf p after.store w x (node_of p x)) same (subst (λ x. IsContentOf p after.store x kind (node_of p kind)) what (content_stays p m.store after.store l v kind (node_of p kind) content)))
-              (λ q. content_stays p m.store after.store l w k (node_of p k) (fair.store.cells d k w holder q new))
+              subst (λ x. IsContentOf p after.store w x (node_of p x)) same (subst (λ x. IsContentOf p after.store x kind (node_of p kind)) what (content_stays p m.store after.store (later_keeps p m.store after.store l) v kind (node_of p kind) content)))
+              (λ q. content_stays p m.store after.store (later_keeps p m.store after.store l) w k (node_of p k) (fair.store.cells d k w holder q new))
               (was_or m.store.cells c (store.Made kind v h.holder) d (store.Made k w holder) is);
-          globals = variables_stay p m.store after.store l m.store.globals p.globals fair.store.globals;
+          globals = variables_stay p m.store after.store (later_keeps p m.store after.store l) m.store.globals p.globals fair.store.globals;
         };
         room = fair.room;
         variables = λ y t is. let w = fair.variables y t is in record { value = w.value; is = w.is; typed = type_stays p m.store after.store l w.value t w.typed };

@@ -22,7 +22,10 @@ use Rattle.m3_source_typing.specs.ValueTypes.{class_of, member_in, record_fields
 use Rattle.m3_source_typing.specs.Laws.{SameTypesShareValues}
 use Rattle.m3_source_typing.proofs.Operands.{left_true, right_true, both_true}
 use Rattle.m3_source_typing.proofs.Depths.{same_is, same_itself, same_flipped, same_then, list_then}
-use Rattle.m3_source_typing.proofs.Heads.{code_of, first_of, rest_of, pick, row_if, part_if, class_by, bounds_by, size_by, made_by, opaque_by, modes_by, has_result_by, element_place, member_place, target_place, index_place, result_by, field_kind, formal_kind, formal_mode, known, bounds_known, size_known, fields_known, formals_known, modes_known, result_known, IsPlain, opaque_or}
+use Rattle.m3_source_typing.proofs.Heads.{code_of, first_of, rest_of, pick, row_if, part_if, class_by, bounds_by, size_by, made_by, opaque_by, modes_by, has_result_by, element_place, member_place, target_place, above_place, named_parent, index_place, result_by, field_kind, formal_kind, formal_mode, known, bounds_known, size_known, fields_known, formals_known, modes_known, result_known, IsPlain, opaque_or}
+use Rattle.m3_types.specs.declared.nodes.TypeNode.TheVariants as node
+use Rattle.m3_values.specs.Types.{parent, parent_in}
+use Rattle.m3_source_typing.specs.Subtypes.{is_declared_in}
 
 any_more : (f g : ℕ → Bool) → ((x : ℕ) → f x ≡ true → g x ≡ true) → (xs : List ℕ) → list_any f xs ≡ true → list_any g xs ≡ true
 any_more f g h [] e = e
@@ -119,6 +122,12 @@ module _ (p : Program) where
 
   pub target_same : (t u : ℕ) → Same t u → BothSame (target_in (node_of p t)) (target_in (node_of p u))
   target_same t u e = by_place (λ t. target_in (node_of p t)) target_place (λ t. (known p t (node_of p t)).target) t u e
+
+  above_same : (t u : ℕ) → Same t u → BothSame (named_parent (node_of p t)) (named_parent (node_of p u))
+  above_same t u e = by_place (λ t. named_parent (node_of p t)) above_place (λ t. (known p t (node_of p t)).above) t u e
+
+  pub declared_same : (t u : ℕ) → Same t u → is_declared_in (node_of p t) ≡ is_declared_in (node_of p u)
+  declared_same t u e = by_code (λ t. is_declared_in (node_of p t)) (λ c. (first_of c == 12) || (first_of c == 18)) (λ t. (known p t (node_of p t)).declared) t u e
 
   index_same : (t u : ℕ) → Same t u → BothSame (index_in (node_of p t)) (index_in (node_of p u))
   index_same t u e = by_place (λ t. index_in (node_of p t)) index_place (λ t. (known p t (node_of p t)).index) t u e
@@ -290,6 +299,45 @@ module _ (p : Program) where
 
   same_plain : (t u : ℕ) → Same t u → (t ≡ u) ⊎ BothPlain t u
   same_plain t u e = ⊎_elim (λ q. inl q) (λ q. plain_both t u q.0) (same_heads t u e)
+
+  unveiled_same : (t u : ℕ) → Same t u → Same (unveiled p t) (unveiled p u)
+  unveiled_same t u e = ⊎_elim
+      (λ q. subst (λ x. Same (unveiled p t) (unveiled p x)) q (itself (unveiled p t)))
+      (λ q. subst (λ x. Same x (unveiled p u)) (sym q.0.bare) (subst (Same t) (sym q.1.bare) e))
+      (same_plain t u e)
+
+  parent_is : (o : Option TypeNode) → parent_in p o ≡ option_map (unveiled p) (named_parent o)
+  parent_is None = refl
+  parent_is (Some node.Reserved) = refl
+  parent_is (Some node.Integer) = refl
+  parent_is (Some node.Boolean) = refl
+  parent_is (Some node.Character) = refl
+  parent_is (Some (node.Enumeration names)) = refl
+  parent_is (Some (node.Subrange base first last)) = refl
+  parent_is (Some (node.FixedArray index element)) = refl
+  parent_is (Some (node.OpenArray element)) = refl
+  parent_is (Some (node.Fields fields)) = refl
+  parent_is (Some (node.SetOf base)) = refl
+  parent_is (Some (node.RefTo brand target)) = refl
+  parent_is (Some (node.Object brand parent fields methods overrides)) = refl
+  parent_is (Some (node.Procedure formals result raises)) = refl
+  parent_is (Some (node.Opaque bound secret)) = refl
+  parent_is (Some node.Null) = refl
+  parent_is (Some node.RefAny) = refl
+  parent_is (Some node.Text) = refl
+  parent_is (Some node.Mutex) = refl
+  parent_is (Some node.Root) = refl
+  parent_is (Some (node.Constant value)) = refl
+
+  both_unveiled : (a b : Option ℕ) → BothSame a b → BothSame (option_map (unveiled p) a) (option_map (unveiled p) b)
+  both_unveiled None None h = tt
+  both_unveiled (Some t) (Some u) h = unveiled_same t u h
+  both_unveiled None (Some u) h = absurd h
+  both_unveiled (Some t) None h = absurd h
+
+  -- types that are the same have parents that are
+  pub parent_same : (t u : ℕ) → Same t u → BothSame (parent p t) (parent p u)
+  parent_same t u e = subst (λ a. BothSame a (parent p u)) (sym (parent_is (node_of p t))) (subst (BothSame (option_map (unveiled p) (named_parent (node_of p t)))) (sym (parent_is (node_of p u))) (both_unveiled (named_parent (node_of p t)) (named_parent (node_of p u)) (above_same t u e)))
 
   text_same : (t u : ℕ) → Same t u → is_text_type p (node_of p (unveiled p t)) ≡ is_text_type p (node_of p (unveiled p u))
   text_same t u e = ⊎_elim

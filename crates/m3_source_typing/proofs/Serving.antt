@@ -332,7 +332,7 @@ module _ (p : Program) (own : Scope) where
   any_cell k e (store.Bytes bytes) = ap (is_text_type p) e
   any_cell k e (store.Forked number result is_joined) = ap (is_thread_type p) e
 
-  any_typed : (k : ℕ) → is_any_in (node_of p k) ≡ true → (s : Store) (v : Value) → IsAnyReference p s v → HasType p s v k
+  pub any_typed : (k : ℕ) → is_any_in (node_of p k) ≡ true → (s : Store) (v : Value) → IsAnyReference p s v → HasType p s v k
   any_typed k h s v g = any_value k (any_node (node_of p k) h) (ap (unveiled_in p k) (any_node (node_of p k) h)) s v g
     where
       any_value : (k : ℕ) → node_of p k ≡ Some node.RefAny → unveiled p k ≡ k → (s : Store) (v : Value) → IsAnyReference p s v → HasType p s v k

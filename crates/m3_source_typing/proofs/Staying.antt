@@ -42,37 +42,50 @@ module _ (p : Program) where
   same_type t _ _ (stores.text bytes) = refl
   same_type t _ _ (stores.thread n v u a b) = refl
 
-  cell_stays : (s t : Store) → IsLater s t → (c k : ℕ) (o : Option Cell) → cell_at s c ≡ o → option_map (cell_has_type p k) o ≡ Some true → option_map (cell_has_type p k) (cell_at t c) ≡ Some true
-  cell_stays s t h c k None is e = absurd (let bad : None ≡ Some true = e in cc)
-  cell_stays s t h c k (Some cell) is e =
-      let still = h.cells c cell is in
-      ap (option_map (cell_has_type p k)) still.there ∙ ap Some (sym (same_type k cell still.now still.becomes)) ∙ e
+  -- all cells are there still and belong to the same types, whatever they hold
+  pub record Keeps (s t : Store) : Type 0 where
+    pub cells : (c : ℕ) (cell : Cell) → cell_at s c ≡ Some cell → (now : Cell) × (cell_at t c ≡ Some now) × ((k : ℕ) → cell_has_type p k cell ≡ cell_has_type p k now)
 
-  pub reference_stays : (s t : Store) → IsLater s t → (c k : ℕ) → has_type p s k (value.Pointer c) ≡ Some true → has_type p t k (value.Pointer c) ≡ Some true
-  reference_stays s t h c k e = cell_stays s t h c (unveiled p k) (cell_at s c) refl e
+  pub later_keeps : (s t : Store) → IsLater s t → Keeps s t
+  later_keeps s t h = record { cells = λ c cell is. let still = h.cells c cell is in (still.now, still.there, λ k. same_type k cell still.now still.becomes) }
+
+  cell_kept : (s t : Store) → Keeps s t → (c k : ℕ) (o : Option Cell) → cell_at s c ≡ o → option_map (cell_has_type p k) o ≡ Some true → option_map (cell_has_type p k) (cell_at t c) ≡ Some true
+  cell_kept s t h c k None is e = absurd (let bad : None ≡ Some true = e in cc)
+  cell_kept s t h c k (Some cell) is e =
+      let still = h.cells c cell is in
+      ap (option_map (cell_has_type p k)) still.1 ∙ ap Some (sym (still.2 k)) ∙ e
+
+  reference_kept : (s t : Store) → Keeps s t → (c k : ℕ) → has_type p s k (value.Pointer c) ≡ Some true → has_type p t k (value.Pointer c) ≡ Some true
+  reference_kept s t h c k e = cell_kept s t h c (unveiled p k) (cell_at s c) refl e
 
   mutual
-    pub type_stays : (s t : Store) → IsLater s t → (v : Value) (k : ℕ) → HasType p s v k → HasType p t v k
-    type_stays s t h (value.Ordinal z) k e = e
-    type_stays s t h value.Nil k e = e
-    type_stays s t h (value.Pointer c) k e = (e.0, reference_stays s t h c k e.1)
-    type_stays s t h (value.Text n) k e = e
-    type_stays s t h value.MainThread k e = e
-    type_stays s t h (value.Procedure q a) k e = e
-    type_stays s t h (value.Members ms) k e = e
-    type_stays s t h (value.Record vs) k e = (e.0, fields_stay s t h vs (record_fields (node_of p k)) e.1)
-    type_stays s t h (value.Array below vs) k e = (e.0, elements_stay s t h vs below (element p k) e.1, e.2)
+    pub type_kept : (s t : Store) → Keeps s t → (v : Value) (k : ℕ) → HasType p s v k → HasType p t v k
+    type_kept s t h (value.Ordinal z) k e = e
+    type_kept s t h value.Nil k e = e
+    type_kept s t h (value.Pointer c) k e = (e.0, reference_kept s t h c k e.1)
+    type_kept s t h (value.Text n) k e = e
+    type_kept s t h value.MainThread k e = e
+    type_kept s t h (value.Procedure q a) k e = e
+    type_kept s t h (value.Members ms) k e = e
+    type_kept s t h (value.Record vs) k e = (e.0, fields_kept s t h vs (record_fields (node_of p k)) e.1)
+    type_kept s t h (value.Array below vs) k e = (e.0, elements_kept s t h vs below (element p k) e.1, e.2)
 
-    pub fields_stay : (s t : Store) → IsLater s t → (vs : Values) (fs : List Field) → AreFields p s vs fs → AreFields p t vs fs
-    fields_stay s t h value.End [] e = tt
-    fields_stay s t h (value.More v vs) (f ∷ fs) e = (type_stays s t h v f.kind.0 e.0, fields_stay s t h vs fs e.1)
-    fields_stay s t h value.End (f ∷ fs) e = e
-    fields_stay s t h (value.More v vs) [] e = e
+    pub fields_kept : (s t : Store) → Keeps s t → (vs : Values) (fs : List Field) → AreFields p s vs fs → AreFields p t vs fs
+    fields_kept s t h value.End [] e = tt
+    fields_kept s t h (value.More v vs) (f ∷ fs) e = (type_kept s t h v f.kind.0 e.0, fields_kept s t h vs fs e.1)
+    fields_kept s t h value.End (f ∷ fs) e = e
+    fields_kept s t h (value.More v vs) [] e = e
 
-    elements_stay : (s t : Store) → IsLater s t → (vs : Values) (below : List ℕ) (o : Option ℕ) → AreElements p s vs below o → AreElements p t vs below o
-    elements_stay s t h vs below None e = absurd e
-    elements_stay s t h value.End below (Some k) e = tt
-    elements_stay s t h (value.More v vs) below (Some k) e = (type_stays s t h v k e.0, e.1, elements_stay s t h vs below (Some k) e.2)
+    elements_kept : (s t : Store) → Keeps s t → (vs : Values) (below : List ℕ) (o : Option ℕ) → AreElements p s vs below o → AreElements p t vs below o
+    elements_kept s t h vs below None e = absurd e
+    elements_kept s t h value.End below (Some k) e = tt
+    elements_kept s t h (value.More v vs) below (Some k) e = (type_kept s t h v k e.0, e.1, elements_kept s t h vs below (Some k) e.2)
+
+  pub reference_stays : (s t : Store) → IsLater s t → (c k : ℕ) → has_type p s k (value.Pointer c) ≡ Some true → has_type p t k (value.Pointer c) ≡ Some true
+  reference_stays s t h c k e = reference_kept s t (later_keeps s t h) c k e
+
+  pub type_stays : (s t : Store) → IsLater s t → (v : Value) (k : ℕ) → HasType p s v k → HasType p t v k
+  type_stays s t h v k e = type_kept s t (later_keeps s t h) v k e
 
   -- a place is one from every later store on
   abbrev pub place_stays : (known : Owned) (b : Bool) (s u : Store) (to : Place) (t : ℕ) → IsLater s u → IsPlaceOf p known b s to t → IsPlaceOf p known b u to t

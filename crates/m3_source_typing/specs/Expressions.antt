@@ -1,6 +1,6 @@
 -- WELL TYPED EXPRESSIONS: one rule for each form of the checked tree. The forms without a rule are
 -- named in docs/PROOFS.md.
-use Rattle.std.specs.Prelude.{◌≡◌, ℕ, ℤ, pos, negsuc, ◌==◌, ◌<◌, Bool, true, false, List, [], ◌∷◌, length, Option, Some, None, slice_get}
+use Rattle.std.specs.Prelude.{◌≡◌, ℕ, suc, ℤ, pos, negsuc, ◌==◌, ◌&&◌, ◌<◌, Bool, true, false, List, [], ◌∷◌, length, Option, Some, None, slice_get, nat_lt}
 use Rattle.std.specs.Borrow.{Bor}
 use Rattle.std.specs.List.{list_any}
 use Rattle.std.specs.Option.{option_map}
@@ -18,6 +18,7 @@ use Rattle.m3_core.specs.declared.program.ProcDef.{ProcDef}
 use Rattle.m3_core.specs.declared.chains.Base.{Base, roll-Base}
 use Rattle.m3_core.specs.declared.chains.Chain.{Chain, roll-Chain}
 use Rattle.m3_core.specs.declared.chains.Step.{Step, roll-Step}
+use Rattle.m3_core.specs.declared.exprs.Binding.{Binding}
 use Rattle.m3_core.specs.declared.exprs.ArrayLimit.{ArrayLimit}
 use Rattle.m3_core.specs.declared.exprs.ArrayLimit.TheVariants as limit
 use Rattle.m3_core.specs.declared.exprs.Conversion.TheVariants as conversion
@@ -37,9 +38,12 @@ use Rattle.m3_values.specs.Store.{Store, is_text_type, is_thread_type, is_made_t
 use Rattle.m3_source_meaning.specs.Phrases.{Here}
 use Rattle.m3_source_meaning.specs.Designators.{is_own}
 use Rattle.m3_source_meaning.specs.Assignment.{type_of_variable}
-use Rattle.m3_values.specs.Types.{Bounds, bounds, node_of, index_in, type_sizes, element, target_in, formals_in, is_open, parent, is_object_in, unveiled, object_fields, object_field as field_of_object, is_same}
-use Rattle.m3_source_typing.specs.ValueTypes.{OfReferences, OfProcedures, OfRecords, OfArrays, HasType, HasFixedSizes, class_of, member_in, record_fields, result_in, same_result, called_alike, IsOfNil, IsNumberOf, IsProcedureOf}
+use Rattle.m3_values.specs.Types.{Bounds, bounds, node_of, index_in, type_sizes, element, elements as elements_of, target_in, formals_in, is_open, parent, is_object_in, unveiled, kind_of, object_fields, object_field as field_of_object, is_same}
+use Rattle.m3_source_typing.specs.ValueTypes.{OfReferences, OfProcedures, OfRecords, OfArrays, HasType, HasFixedSizes, class_of, member_in, record_fields, result_in, same_result, called_alike, is_count, IsOfNil, IsNumberOf, IsProcedureOf}
+use Rattle.m3_source_meaning.specs.Constructors.{first_content}
+use Rattle.m3_source_typing.specs.Stores.{IsContentOf}
 use Rattle.m3_source_typing.specs.Routines.{routine_fits}
+use Rattle.m3_source_typing.specs.Subtypes.{IsBelow}
 use Rattle.m3_source_typing.specs.Points.{result_type}
 use Rattle.m3_source_typing.specs.Sound.{Knows, Alias, Scope}
 use Rattle.m3_source_typing.specs.Operators.{is_ordinal, is_boolean, is_text_in, is_part, is_references, within_bounds, prefixes_fit, operator_fits}
@@ -126,6 +130,21 @@ pub data HasLimit (p : Program) (noted kind : ℕ) : ArrayLimit → Type 0 where
   number_of : within_bounds (Some counts) (bounds p kind) ≡ true
       → HasLimit p noted kind limit.Number
 
+-- what a new cell of a type holds is what its cells may hold
+abbrev pub HasFirstContent : Program → ℕ → Type 0
+HasFirstContent p t = (s : Store) → IsContentOf p s
+    (first_content p (node_of p (unveiled p t)) (unveiled p t) []) (kind_of p t)
+    (node_of p (kind_of p t))
+
+-- So many elements are those of an array type that says this size, or are filled up to its size,
+-- which isn't 0.
+abbrev pub count_fits : (is_filled : Bool) → (size : Option ℕ) → (filled_to count : ℕ) → Bool
+count_fits true None filled_to count = false
+count_fits true (Some size) filled_to count =
+    (is_count size && nat_lt 0 size) && (size == filled_to)
+count_fits false None filled_to count = is_count count
+count_fits false (Some size) filled_to count = is_count size && (size == count)
+
 -- the numbers below a count, each once
 pub record HasEachNumber (count : ℕ) (ns : List ℕ) : Type 0 where
   pub long : length ns ≡ count
@@ -156,6 +175,11 @@ module _ (p : Program) (here : Here) (own : Scope) where
       procedure : (at : Pos) (kind : TypeId) (n : ℕ) → class_of p kind.0 ≡ OfProcedures
           → IsProcedureOf p (procedure_at p n) kind.0
           → IsExpression (roll-CoreExpr (layer.Procedure at kind n)) kind.0
+      -- a procedure that stands in the one that speaks
+      inner_procedure : (at : Pos) (kind : TypeId) (n : ℕ) (q : ProcDef)
+          → class_of p kind.0 ≡ OfProcedures → procedure_at p n ≡ Some q
+          → q.level ≡ suc here.level → IsProcedureOf p (procedure_at p n) kind.0
+          → IsExpression (roll-CoreExpr (layer.InnerProcedure at kind n)) kind.0
       -- a constant set, record or array
       constant : (at : Pos) (kind : TypeId) (n : ValueId) (v : Value)
           → constant_at p kind.0 n.0 ≡ Some v → ((s : Store) → HasType p s v kind.0)
@@ -192,6 +216,21 @@ module _ (p : Program) (here : Here) (own : Scope) where
           → IsExpression operand.now t → is_references (class_of p t) ≡ true
           → is_boolean p kind.0 ≡ true
           → IsExpression (roll-CoreExpr (layer.TypeTest at kind operand other)) kind.0
+      -- an array of at least one element
+      array_of : (at : Pos) (kind : TypeId) (first : CoreExpr) (rest : List CoreExpr)
+          (elements : Bor (List CoreExpr)) (is_filled : Bool) (e : ℕ) (size : Option ℕ)
+          → elements.now ≡ first ∷ rest → class_of p kind.0 ≡ OfArrays
+          → element p kind.0 ≡ Some e → type_sizes p kind.0 ≡ size ∷ type_sizes p e
+          → AreElementsOf e elements.now
+          → count_fits is_filled size (elements_of p kind.0) (length elements.now) ≡ true
+          → IsExpression (roll-CoreExpr (layer.ArrayOf at kind elements is_filled)) kind.0
+      -- NEW without sizes and bindings
+      new_cell : (at : Pos) (kind made : TypeId) (sizes : Bor (List CoreExpr))
+          (bindings : Bor (List Binding)) → sizes.now ≡ [] → bindings.now ≡ []
+          → class_of p kind.0 ≡ OfReferences
+          → is_made_type p (kind_of p made.0) (unveiled p kind.0) (node_of p (unveiled p kind.0))
+          ≡ true → HasFirstContent p made.0
+          → IsExpression (roll-CoreExpr (layer.New at kind made sizes bindings)) kind.0
       -- a routine or predeclared function that gives a value
       routine : (c : Bor BuiltinCall) (t : ℕ) → IsRoutine c.now (Some t)
           → IsExpression (roll-CoreExpr (layer.Builtin c)) t
@@ -206,6 +245,9 @@ module _ (p : Program) (here : Here) (own : Scope) where
           → IsChain c.now (PlaceOf is_variable t) → class_of p t ≡ OfArrays
           → element p t ≡ Some e → is_ordinal p kind.0 ≡ true → HasLimit p noted.0 kind.0 l
           → IsExpression (roll-CoreExpr (layer.ArrayLimit at kind l c)) kind.0
+      -- a reference is a value of each type above its type
+      above : (e : CoreExpr) (t other : ℕ) → IsExpression e t → class_of p t ≡ OfReferences
+          → class_of p other ≡ OfReferences → IsBelow p t other → IsExpression e other
       -- a procedure of a type can be called as one of each type with the same formals and result
       called_as : (e : CoreExpr) (t other : ℕ) → IsExpression e t
           → class_of p t ≡ OfProcedures → class_of p other ≡ OfProcedures
@@ -232,6 +274,16 @@ module _ (p : Program) (here : Here) (own : Scope) where
       one_element : (member : ℕ) (e : Bor CoreExpr) (es : List SetElement)
           → IsExpression e.now member → AreSetElements member es
           → AreSetElements member (roll-SetElement (layer.One e) ∷ es)
+      range_element : (member : ℕ) (first last : Bor CoreExpr) (es : List SetElement)
+          → IsExpression first.now member → IsExpression last.now member
+          → AreSetElements member es
+          → AreSetElements member (roll-SetElement (layer.Range first last) ∷ es)
+
+    -- the elements of an array, of one type
+    pub data AreElementsOf : ℕ → List CoreExpr → Type 0 where
+      none_of : (e : ℕ) → AreElementsOf e []
+      one_of : (e : ℕ) (x : CoreExpr) (xs : List CoreExpr) → IsExpression x e
+          → AreElementsOf e xs → AreElementsOf e (x ∷ xs)
 
     -- the values of the fields of a record, each of the type of its field, by the places of these
     pub data AreFieldValues : List Field → List FieldValue → List ℕ → Type 0 where

@@ -4,6 +4,7 @@ pub mod Points
 pub mod Sound
 pub mod Operators
 pub mod Routines
+pub mod Subtypes
 pub mod Expressions
 pub mod Statements
 pub mod Procedures

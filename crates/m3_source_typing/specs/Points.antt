@@ -127,9 +127,10 @@ module _ (p : Program) where
   AnswerFits s Passes (Gives None) = Unit {0}
   AnswerFits s _ _ = ⊥
 
-  -- what is told at a point where the store was this one: the answer fits, and the store has only
-  -- grown and is well typed
+  -- what is told at a point where the store was this one: the answer fits, the store has only grown
+  -- and is well typed, and a new cell has a new name
   pub record Fits (s : Store) (action : Action Thing) (told : Told) : Type 0 where
     pub answer : AnswerFits told.store action told.answer
     pub later : IsLater s told.store
+    pub fresh : (c : ℕ) → new_cell action told.answer ≡ Some c → cell_at s c ≡ None
     pub typed : IsTyped p (new_cell action told.answer) told.store
