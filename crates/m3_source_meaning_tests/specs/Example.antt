@@ -11,7 +11,8 @@ use Rattle.m3_values.specs.Programs.{Program}
 use Rattle.m3_values.specs.Places.{Thing}
 use Rattle.m3_values.specs.Store.{Store}
 use Rattle.m3_source_meaning.specs.Programs.{Activity, language}
-use Rattle.m3_source_meaning_tests.specs.Trees.{number, operation, operations, put, program}
+use Rattle.m3_source_typing.specs.Procedures.{IsProcedure}
+use Rattle.m3_source_meaning_tests.specs.Trees.{number, operation, operations, put, program, main_body}
 
 abbrev pub first : CoreStmt
 first = put 2 (operations 2 (number 1) (operation Plus 2 (number 2) ∷ []))
@@ -34,3 +35,7 @@ pub record PutsThree (given : Given) : Type 0 where
 
 abbrev pub ExamplePutsThree : Type 0
 ExamplePutsThree = PutsThree (record { points = 5; threads = 1; input = [] })
+
+-- its body is well typed
+abbrev pub ExampleIsWellTyped : Type 0
+ExampleIsWellTyped = (s : Store) → IsProcedure example s 0 (main_body body)

@@ -80,6 +80,21 @@ use Rattle.m3_source_meaning.specs.Designators.{activation_at, outwards}
 use Rattle.m3_source_typing.specs.ValueTypes.{IsProcedureOf}
 use Rattle.m3_source_typing.proofs.Combining.{seeing_sound}
 use Rattle.m3_source_typing.proofs.Creating.{new_sound}
+use Rattle.m3_core.specs.declared.exprs.Binding.{Binding}
+use Rattle.m3_source_typing.specs.Expressions.{AreBindings}
+use Rattle.m3_source_typing.proofs.Creating as creating
+use Rattle.m3_source_typing.proofs.Creating.{TypedBindings}
+use Rattle.std.proofs.Common.{Bool}
+use Rattle.std.specs.Prelude.{◌==◌, ◌&&◌, not}
+use Rattle.m3_values.specs.Arrays.{shape, fits}
+use Rattle.m3_values.specs.Types.{type_sizes}
+use Rattle.m3_values.specs.Values.{items}
+use Rattle.m3_source_typing.specs.ValueTypes.{is_count, has_sizes, AreElements}
+use Rattle.m3_source_typing.specs.Expressions.{HaveSameElements}
+use Rattle.m3_source_typing.proofs.Combining.{unless_sound}
+use Rattle.m3_source_typing.proofs.Operands.{left_true, right_true, both_true}
+use Rattle.m3_source_typing.proofs.Parts.{array_of, size_counts, sizes_below}
+use Rattle.m3_source_typing.proofs.Sameness.{share_elements}
 
 pub types_stay : TypesStay
 types_stay p s t v kind l h = type_stays p s t l v kind h
@@ -135,6 +150,54 @@ module _ (p : Program) (own : Scope) (here : Here) where
   inner_given s n kind q c level of =
       let same : q.level - 1 ≡ here.level = omega arith in
       bind_sound p own s (λ u x. Unit {0}) (Typed p kind) _ _ (here_sound (q.level - 1) same s) (λ a u l h. typed_given p own u kind (value.Procedure n (Some a)) (c, of))
+
+  -- an array of another size that its shape has
+  of_size : (q : Option ℕ) (rest : List (Option ℕ)) (n : ℕ) (below : List ℕ) → fits (q ∷ rest) (n ∷ below) ≡ true → is_count n ≡ true → has_sizes rest below ≡ true → has_sizes (q ∷ rest) (n ∷ below) ≡ true
+  of_size None rest n below f c h = both_true (is_count n) (has_sizes rest below) c h
+  of_size (Some size) rest n below f c h = both_true (is_count n && (size == n)) (has_sizes rest below) (both_true (is_count n) (size == n) c (left_true (size == n) (fits rest below) f)) h
+
+  resized : (s : Store) (v : Value) (t u : ℕ) (o q : Option ℕ) → HaveSameElements p t u o q → HasType p s v t → fits (type_sizes p u) (shape v) ≡ true → HasType p s v u
+  resized s v t u o q a h f =
+      let w = array_of p s v t a.array h in
+      let n : ℕ = length (items w.elements) in
+      let said : has_sizes (o ∷ a.rest) (n ∷ w.below) ≡ true = subst (λ xs. has_sizes xs (n ∷ w.below) ≡ true) a.sizes w.sizes in
+      let fit : fits (q ∷ a.rest) (n ∷ w.below) ≡ true = subst (λ xs. fits xs (n ∷ w.below) ≡ true) a.other_sizes (subst (λ x. fits (type_sizes p u) (shape x) ≡ true) w.is f) in
+      subst (λ x. HasType p s x u) (sym w.is) (
+        a.other_array,
+        subst (AreElements p s w.elements w.below) (sym a.other_element) (share_elements p s w.elements w.below (Some a.e) (Some a.f) a.same (subst (AreElements p s w.elements w.below) a.element_is w.typed)),
+        subst (λ xs. has_sizes xs (n ∷ w.below) ≡ true) (sym a.other_sizes) (of_size q a.rest n w.below fit (size_counts p (o ∷ a.rest) n w.below said) (sizes_below p o a.rest n w.below said)),
+      )
+
+  fits_open : (s : Store) (v : Value) (t u : ℕ) (o : Option ℕ) → HaveSameElements p t u o None → HasType p s v t → fits (type_sizes p u) (shape v) ≡ true
+  fits_open s v t u o a h =
+      let w = array_of p s v t a.array h in
+      let n : ℕ = length (items w.elements) in
+      let said : has_sizes (o ∷ a.rest) (n ∷ w.below) ≡ true = subst (λ xs. has_sizes xs (n ∷ w.below) ≡ true) a.sizes w.sizes in
+      subst (λ xs. fits xs (shape v) ≡ true) (sym a.other_sizes) (subst (λ x. fits (None ∷ a.rest) (shape x) ≡ true) (sym w.is) (fits_sizes a.rest w.below (sizes_below p o a.rest n w.below said)))
+    where
+      fits_sizes : (wanted : List (Option ℕ)) (sizes : List ℕ) → has_sizes wanted sizes ≡ true → fits wanted sizes ≡ true
+      fits_sizes [] [] h = refl
+      fits_sizes [] (n ∷ sizes) h = refl
+      fits_sizes (None ∷ wanted) [] h = h
+      fits_sizes (Some size ∷ wanted) [] h = h
+      fits_sizes (None ∷ wanted) (n ∷ sizes) h = fits_sizes wanted sizes (right_true (is_count n) (has_sizes wanted sizes) h)
+      fits_sizes (Some size ∷ wanted) (n ∷ sizes) h = both_true (size == n) (fits wanted sizes) (right_true (is_count n) (size == n) (left_true (is_count n && (size == n)) (has_sizes wanted sizes) h)) (fits_sizes wanted sizes (right_true (is_count n && (size == n)) (has_sizes wanted sizes) h))
+
+  of_open : (e : Expression) (t u : ℕ) (o : Option ℕ) → IsOfType p own e t → HaveSameElements p t u o None → IsOfType p own e u
+  of_open e t u o is a = record {
+    value = λ s. bind_sound p own s (Typed p t) (Typed p u) e.value given (is.value s) (λ v k l q. typed_given p own k u v (resized k v t u o None a q (fits_open k v t u o a q)));
+    unread = is.unread;
+  }
+
+  shape_form : (at : Pos) (kind : ℕ) (e : Expression) (t : ℕ) (o q : Option ℕ) → IsOfType p own e t → HaveSameElements p t kind o q → (s : Store) → Gives p own s (Typed p kind) (e.value >>= converted p conversion.Shape at kind)
+  shape_form at kind e t o q is a s =
+      bind_sound p own s (Typed p t) (Typed p kind) _ _ (is.value s)
+      (λ v u l h. bind_sound p own u (λ w x. not (fits (type_sizes p kind) (shape v)) ≡ false) (Typed p kind) _ _ (unless_sound p own u fault_kind.Shape at (not (fits (type_sizes p kind) (shape v))))
+      (λ x w k f. typed_given p own w kind v (resized w v t kind o q a (type_stays p u w k v t h) (not_not (fits (type_sizes p kind) (shape v)) f))))
+    where
+      not_not : (b : Bool) → not b ≡ false → b ≡ true
+      not_not true h = refl
+      not_not false h = absurd (let bad : true ≡ false = h in cc)
 
   procedure_alike : (s : Store) (v : Value) (t u : ℕ) → class_of p u ≡ OfProcedures → called_alike p (node_of p t) (node_of p u) ≡ true → class_of p t ≡ OfProcedures → HasType p s v t → HasType p s v u
   procedure_alike s value.Nil t u c alike d h = subst IsOfNil (sym c) tt
@@ -216,11 +279,10 @@ module _ (p : Program) (own : Scope) (here : Here) where
         subst (λ e. IsOfType p own e kind.0) (sym (trees.expression_is p here (layer.ArrayOf at kind elements is_filled)))
         (plain_typed at kind _ (λ s. subst (λ xs. Gives p own s (Typed p kind.0) (constructors.array_value p kind.0 (map (expression p here) xs) is_filled)) (sym row)
         (array_form p own kind.0 e size is_filled (expression p here first) (map (expression p here) rest) arrays of sizes (subst (λ xs. TypedRowOf p own e (map (expression p here) xs)) row (row_of_typed e elements.now all)) (subst (λ n. count_fits is_filled size (elements_of p kind.0) (suc n) ≡ true) (sym (length-map rest (expression p here))) (subst (λ (xs : List CoreExpr). count_fits is_filled size (elements_of p kind.0) (length xs) ≡ true) row fits)) s)))
-    expression_sound _ _ (typed.new_cell at kind made sizes bindings no_sizes no_bindings class is content) =
+    expression_sound _ _ (typed.new_cell at kind made sizes bindings us no_sizes bound class is content) =
         subst (λ e. IsOfType p own e kind.0) (sym (trees.expression_is p here (layer.New at kind made sizes bindings)))
         (plain_typed at kind _ (λ s. subst (λ xs. Gives p own s (Typed p kind.0) (constructors.new_cell p made.0 (map (expression p here) xs) (map (trees.binding p here) bindings.now))) (sym no_sizes)
-        (subst (λ bs. Gives p own s (Typed p kind.0) (constructors.new_cell p made.0 [] (map (trees.binding p here) bs))) (sym no_bindings)
-        (new_sound p own made.0 kind.0 class is content s))))
+        (new_sound p own made.0 kind.0 (map (trees.binding p here) bindings.now) us (bindings_typed kind.0 bindings.now us bound) class is content s)))
     expression_sound _ _ (typed.routine c t is) =
         subst (λ e. IsOfType p own e t) (sym (trees.expression_is p here (layer.Builtin c)))
         (record { value = routine_typed c.now (Some t) is; unread = unread_sound _ t (routine_typed c.now (Some t) is) })
@@ -233,6 +295,10 @@ module _ (p : Program) (own : Scope) (here : Here) where
         (plain_typed at kind _ (λ s. limit_sound p own here l noted.0 kind.0 (chain p here c.now) b t
         (ap (λ (c : Chained). c.kind) (ap (chain p here) form ∙ trees.chain_is p here (record { pos = begins; base = base; steps = row; kind = Some noted })))
         (λ u. known.thing u) arrays has numbers s))
+    expression_sound _ _ (typed.opened e t other size is alike) = of_open (expression p here e) t other size (expression_sound e t is) alike
+    expression_sound _ _ (typed.shaped at kind e t size wanted is alike) =
+        subst (λ e. IsOfType p own e kind.0) (sym (trees.expression_is p here (layer.Convert at kind conversion.Shape e)))
+        (plain_typed at kind _ (shape_form at kind.0 (expression p here e.now) t size wanted (expression_sound e.now t is) alike))
     expression_sound _ _ (typed.above e t other is c d under) = of_above (expression p here e) t other (expression_sound e t is) c d under
     expression_sound _ _ (typed.called_as e t other is procedures class alike) = of_alike (expression p here e) t other (expression_sound e t is) procedures class alike
     expression_sound _ _ (typed.same e t other is alike) = of_same (expression p here e) t other (expression_sound e t is) alike
@@ -340,6 +406,12 @@ module _ (p : Program) (own : Scope) (here : Here) where
     step_typed _ _ _ (typed.element_of index kind b t e i is of indexed numbers) =
         subst (λ x. TypedStep p own here (PlaceOf b t) x (PlaceOf b e)) (sym (trees.step_is p here (layer.Element index kind)))
         (record { goes = λ before s thing g. element_sound p own here (expression p here index.now) b t e i is of (expression_sound index.now i indexed) numbers before.kind s thing g })
+
+    bindings_typed : (t : ℕ) (bs : List Binding) (us : List ℕ) → AreBindings p here own t bs us → TypedBindings p own t (map (trees.binding p here) bs) us
+    bindings_typed _ _ _ (typed.no_bindings t) = creating.none
+    bindings_typed _ _ _ (typed.one_binding t owner n e u bs us of is more) =
+        subst (λ x. TypedBindings p own t (x ∷ map (trees.binding p here) bs) (u ∷ us)) (sym (trees.binding_is p here (record { owner = owner; field = n; value = e })))
+        (creating.more (record { owner = type_of owner; field = n; value = expression p here e.now }) (map (trees.binding p here) bs) u us of (expression_sound e.now u is) (bindings_typed t bs us more))
 
     row_of_typed : (e : ℕ) (xs : List CoreExpr) → AreElementsOf p here own e xs → TypedRowOf p own e (map (expression p here) xs)
     row_of_typed _ _ (typed.none_of e) = rowing.none

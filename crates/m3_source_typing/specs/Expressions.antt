@@ -18,7 +18,7 @@ use Rattle.m3_core.specs.declared.program.ProcDef.{ProcDef}
 use Rattle.m3_core.specs.declared.chains.Base.{Base, roll-Base}
 use Rattle.m3_core.specs.declared.chains.Chain.{Chain, roll-Chain}
 use Rattle.m3_core.specs.declared.chains.Step.{Step, roll-Step}
-use Rattle.m3_core.specs.declared.exprs.Binding.{Binding}
+use Rattle.m3_core.specs.declared.exprs.Binding.{Binding, roll-Binding}
 use Rattle.m3_core.specs.declared.exprs.ArrayLimit.{ArrayLimit}
 use Rattle.m3_core.specs.declared.exprs.ArrayLimit.TheVariants as limit
 use Rattle.m3_core.specs.declared.exprs.Conversion.TheVariants as conversion
@@ -40,7 +40,7 @@ use Rattle.m3_source_meaning.specs.Designators.{is_own}
 use Rattle.m3_source_meaning.specs.Assignment.{type_of_variable}
 use Rattle.m3_values.specs.Types.{Bounds, bounds, node_of, index_in, type_sizes, element, elements as elements_of, target_in, formals_in, is_open, parent, is_object_in, unveiled, kind_of, object_fields, object_field as field_of_object, is_same}
 use Rattle.m3_source_typing.specs.ValueTypes.{OfReferences, OfProcedures, OfRecords, OfArrays, HasType, HasFixedSizes, class_of, member_in, record_fields, result_in, same_result, called_alike, is_count, IsOfNil, IsNumberOf, IsProcedureOf}
-use Rattle.m3_source_meaning.specs.Constructors.{first_content}
+use Rattle.m3_source_meaning.specs.Constructors.{first_content, cell_field}
 use Rattle.m3_source_typing.specs.Stores.{IsContentOf}
 use Rattle.m3_source_typing.specs.Routines.{routine_fits}
 use Rattle.m3_source_typing.specs.Subtypes.{IsBelow}
@@ -129,6 +129,26 @@ pub data HasLimit (p : Program) (noted kind : ℕ) : ArrayLimit → Type 0 where
       → HasLimit p noted kind limit.Last
   number_of : within_bounds (Some counts) (bounds p kind) ≡ true
       → HasLimit p noted kind limit.Number
+
+-- two array types of the same elements, and the sizes that they say of their first dimensions
+pub record HaveSameElements (p : Program) (t u : ℕ) (size other : Option ℕ) : Type 0 where
+  pub array : class_of p t ≡ OfArrays
+  pub other_array : class_of p u ≡ OfArrays
+  pub e : ℕ
+  pub f : ℕ
+  pub element_is : element p t ≡ Some e
+  pub other_element : element p u ≡ Some f
+  pub same : is_same p e f ≡ true
+  pub rest : List (Option ℕ)
+  pub sizes : type_sizes p t ≡ size ∷ rest
+  pub other_sizes : type_sizes p u ≡ other ∷ rest
+
+-- what a reference of a type leads to has a field of another one at a place: an object, or a record
+pub data IsFieldOf (p : Program) (t n u : ℕ) : Type 0 where
+  of_objects : HaveField p t n u → HasFixedSizes p u → IsFieldOf p t n u
+  of_record : (r : ℕ) (f : Field) → target_in (node_of p t) ≡ Some r → ParentsAreObjects p
+      → class_of p r ≡ OfRecords → slice_get (record_fields (node_of p r)) n ≡ Some f
+      → f.kind.0 ≡ u → HasFixedSizes p u → IsFieldOf p t n u
 
 -- what a new cell of a type holds is what its cells may hold
 abbrev pub HasFirstContent : Program → ℕ → Type 0
@@ -224,10 +244,10 @@ module _ (p : Program) (here : Here) (own : Scope) where
           → AreElementsOf e elements.now
           → count_fits is_filled size (elements_of p kind.0) (length elements.now) ≡ true
           → IsExpression (roll-CoreExpr (layer.ArrayOf at kind elements is_filled)) kind.0
-      -- NEW without sizes and bindings
+      -- NEW without sizes
       new_cell : (at : Pos) (kind made : TypeId) (sizes : Bor (List CoreExpr))
-          (bindings : Bor (List Binding)) → sizes.now ≡ [] → bindings.now ≡ []
-          → class_of p kind.0 ≡ OfReferences
+          (bindings : Bor (List Binding)) (us : List ℕ) → sizes.now ≡ []
+          → AreBindings kind.0 bindings.now us → class_of p kind.0 ≡ OfReferences
           → is_made_type p (kind_of p made.0) (unveiled p kind.0) (node_of p (unveiled p kind.0))
           ≡ true → HasFirstContent p made.0
           → IsExpression (roll-CoreExpr (layer.New at kind made sizes bindings)) kind.0
@@ -245,6 +265,13 @@ module _ (p : Program) (here : Here) (own : Scope) where
           → IsChain c.now (PlaceOf is_variable t) → class_of p t ≡ OfArrays
           → element p t ≡ Some e → is_ordinal p kind.0 ≡ true → HasLimit p noted.0 kind.0 l
           → IsExpression (roll-CoreExpr (layer.ArrayLimit at kind l c)) kind.0
+      -- an array is one of an open type with the same elements, and where its size is checked
+      -- one of a fixed type
+      opened : (e : CoreExpr) (t other : ℕ) (size : Option ℕ) → IsExpression e t
+          → HaveSameElements p t other size None → IsExpression e other
+      shaped : (at : Pos) (kind : TypeId) (e : Bor CoreExpr) (t : ℕ) (size wanted : Option ℕ)
+          → IsExpression e.now t → HaveSameElements p t kind.0 size wanted
+          → IsExpression (roll-CoreExpr (layer.Convert at kind conversion.Shape e)) kind.0
       -- a reference is a value of each type above its type
       above : (e : CoreExpr) (t other : ℕ) → IsExpression e t → class_of p t ≡ OfReferences
           → class_of p other ≡ OfReferences → IsBelow p t other → IsExpression e other
@@ -312,6 +339,16 @@ module _ (p : Program) (here : Here) (own : Scope) where
       no_operands : AreOperands [] []
       one_operand : (e : CoreExpr) (es : List CoreExpr) (t : ℕ) (ts : List ℕ) → IsExpression e t
           → AreOperands es ts → AreOperands (e ∷ es) (t ∷ ts)
+
+    -- the values of fields of a new cell, to which a reference of a type leads
+    pub data AreBindings : ℕ → List Binding → List ℕ → Type 0 where
+      no_bindings : (t : ℕ) → AreBindings t [] []
+      one_binding : (t : ℕ) (owner : Option TypeId) (n : ℕ) (e : Bor CoreExpr) (u : ℕ)
+          (bs : List Binding) (us : List ℕ)
+          → IsFieldOf p t (cell_field p (option_map (λ (o : TypeId). o.0) owner) n) u
+          → IsExpression e.now u → AreBindings t bs us
+          → AreBindings t (roll-Binding (record { owner = owner; field = n; value = e }) ∷ bs)
+          (u ∷ us)
 
     -- ---- chains
 
