@@ -10,4 +10,4 @@ mod rewriting;
 mod sharing;
 mod temps;
 
-pub use sharing::{Shared, share, try_share};
+pub use sharing::{share, try_share};

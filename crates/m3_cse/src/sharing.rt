@@ -11,20 +11,11 @@ use m3_available::Flow;
 use m3_base::{NoMemory, place_number};
 use m3_flow::{block_order, live_with};
 use m3_mid::{Block, Proc};
-use m3_same_forms::Pair;
-use m3_same_run::have_same_run;
+use m3_same_run::{Verdict, judged, unchanged};
 use std::alloc::Global;
 
 /// A block with more operations is left as it is, and its procedure with it.
 const LONGEST: usize = 2000;
-
-/// What became of a procedure.
-#[derive(Clone, Copy)]
-pub struct Shared<'a> {
-    pub proc: Proc<'a>,
-    /// Whether the check refused what was written, and the procedure is as it was.
-    pub is_refused: bool,
-}
 
 fn has_long_block(p: &Proc<'_>) -> bool {
     p.blocks.iter().any(|block| block.ops.len() > LONGEST)
@@ -71,43 +62,8 @@ fn common_of(
     Ok(common)
 }
 
-fn unchanged<'a>(p: &Proc<'a>) -> Shared<'a>
-    ensures follows { FollowsRun p.now result.proc }
-    ensures same { result.proc ≡ p.now }
-{
-    Shared {
-        proc: *p,
-        is_refused: false,
-    }
-}
-
-/// What was written, where the check finds that it follows the procedure; else the procedure stays
-/// as it is.
-fn judged<'a>(
-    alloc: Global,
-    p: &Proc<'a>,
-    written: Proc<'a>,
-    common: &[bool],
-    pairs: &[Pair],
-) -> Result<Shared<'a>, NoMemory>
-    ensures follows { IfOk result (λ s. FollowsRun p.now s.proc) }
-    ensures given_back { IfOk result (λ s. s.is_refused ≡ true → s.proc ≡ p.now) }
-{
-    if have_same_run(alloc, p, &written, common, pairs)? {
-        Ok(Shared {
-            proc: written,
-            is_refused: false,
-        })
-    } else {
-        Ok(Shared {
-            proc: *p,
-            is_refused: true,
-        })
-    }
-}
-
 /// Writes a procedure again, with a proof, and has it checked.
-fn written<'a>(alloc: Global, arena: &'a Bump, p: &Proc<'a>) -> Result<Shared<'a>, NoMemory>
+fn written<'a>(alloc: Global, arena: &'a Bump, p: &Proc<'a>) -> Result<Verdict<'a>, NoMemory>
     ensures follows { IfOk result (λ s. FollowsRun p.now s.proc) }
     ensures given_back { IfOk result (λ s. s.is_refused ≡ true → s.proc ≡ p.now) }
 {
@@ -130,13 +86,13 @@ fn written<'a>(alloc: Global, arena: &'a Bump, p: &Proc<'a>) -> Result<Shared<'a
         loops,
         ..*p
     };
-    judged(alloc, p, shared, &common, &pairs)
+    Ok(judged(alloc, p, shared, &common, &pairs)?)
 }
 
 /// The same procedure with computations and checks shared, which follows it: each defined run of
 /// the procedure is a run of the result. Where the check of that refuses what was written, which is
 /// a gap of this pass and no fault of the program, the procedure is given back.
-pub fn try_share<'a>(alloc: Global, arena: &'a Bump, p: &Proc<'a>) -> Result<Shared<'a>, NoMemory>
+pub fn try_share<'a>(alloc: Global, arena: &'a Bump, p: &Proc<'a>) -> Result<Verdict<'a>, NoMemory>
     ensures follows { IfOk result (λ s. FollowsRun p.now s.proc) }
     ensures given_back { IfOk result (λ s. s.is_refused ≡ true → s.proc ≡ p.now) }
 {

@@ -4,11 +4,12 @@ ghost use Rattle.m3_mid_meaning.specs.Runs.{FollowsRun};
 use bumpalo::Bump;
 use m3_base::NoMemory;
 use m3_cse::try_share;
+use m3_merge::try_merge;
 use m3_mid::Proc;
 use std::alloc::Global;
 
 /// How many passes there are.
-pub const PASSES: u32 = 1;
+pub const PASSES: u32 = 2;
 
 /// A procedure behind all passes.
 #[derive(Clone, Copy)]
@@ -27,8 +28,9 @@ pub fn improve<'a>(alloc: Global, arena: &'a Bump, p: &Proc<'a>) -> Result<Impro
     ensures unchanged { IfOk result (λ q. q.given_back ≡ PASSES → q.proc ≡ p.now) }
 {
     let shared = try_share(alloc, arena, p)?;
+    let merged = try_merge(alloc, arena, &shared.proc)?;
     Ok(Improved {
-        proc: shared.proc,
-        given_back: u32::from(shared.is_refused),
+        proc: merged.proc,
+        given_back: u32::from(shared.is_refused) + u32::from(merged.is_refused),
     })
 }

@@ -6,6 +6,8 @@ mod check;
 mod going;
 mod law;
 mod standing;
+mod verdicts;
 
 pub use check::have_same_run;
 pub use law::check_is_sound;
+pub use verdicts::{Verdict, judged, unchanged};

@@ -9,6 +9,7 @@ pub mod Places
 pub mod Referents
 pub mod Chains
 pub mod Calling
+pub mod Words
 pub mod Serving
 pub mod Above
 pub mod Rowing

@@ -86,7 +86,7 @@ found : (f : ℕ → Option Bounds) (o : Option ℕ) (b : Bounds) → option_and
 found f None b e = absurd (let bad : None ≡ Some b = e in cc)
 found f (Some m) b e = (m, refl)
 
-integer_node : (o : Option TypeNode) → is_integer_in o ≡ true → o ≡ Some node.Integer
+pub integer_node : (o : Option TypeNode) → is_integer_in o ≡ true → o ≡ Some node.Integer
 integer_node (Some node.Integer) h = refl
 integer_node None h = absurd (let bad : false ≡ true = h in cc)
 integer_node (Some n) h = absurd (let bad : false ≡ true = h in cc)

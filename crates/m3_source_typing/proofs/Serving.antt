@@ -6,6 +6,7 @@ use Rattle.std.specs.List.{list_any}
 use Rattle.std.proofs.lemmas.Bool.{eqb-true}
 use Rattle.m3_base.specs.declared.outcomes.FaultKind.TheVariants as fault_kind
 use Rattle.m3_base.specs.declared.places.Pos.{Pos}
+use Rattle.m3_base.specs.Integers.{is_integer}
 use Rattle.m3_core.specs.declared.calls.Routine.{Routine}
 use Rattle.m3_core.specs.declared.calls.Routine.TheVariants as routine
 use Rattle.m3_types.specs.declared.nodes.Secret.TheVariants as secret
@@ -39,9 +40,10 @@ use Rattle.m3_source_typing.specs.Routines.{routine_fits, is_any_in, is_thread_i
 use Rattle.m3_source_typing.specs.Expressions.{given_by, HasEachNumber}
 use Rattle.m3_source_typing.proofs.Staying.{and_later, type_stays}
 use Rattle.m3_source_typing.proofs.Combining.{given_sound, bind_sound, holding_all_sound, fault_sound, acting_sound, raising_sound}
-use Rattle.m3_source_typing.proofs.Operands.{left_true, right_true, both_true, number_of, numbers_is, part_typed, within_two, boolean_node}
+use Rattle.m3_source_typing.proofs.Operands.{left_true, right_true, both_true, integer_node, integer_typed, number_of, numbers_is, part_typed, within_two, boolean_node}
 use Rattle.m3_source_typing.proofs.Operating.{Typed, typed_given, truth_given, text_node}
 use Rattle.m3_source_typing.proofs.Rows.{range_sound}
+use Rattle.m3_source_typing.proofs.Words.{GivesIntegers, integer_within, sum_is, difference_is, product_is, quotient_is, rest_is, and_is, or_is, xor_is, not_is, shift_is, rotation_is}
 use Rattle.m3_source_typing.proofs.Places.{IsGiven, given_stays}
 
 -- ---- values by their numbers
@@ -444,6 +446,34 @@ module _ (p : Program) (own : Scope) where
       (subst (λ b. Gives p own s (Typed p k) (meaning.word_test p test at (value.Ordinal x.0) b)) (sym y.1)
       (passed_sound at (given (truth (test x.0 y.0))) k (λ later. truth_given p own later (test x.0 y.0) k (right_true (rule.is_number p t && rule.is_number p u) (rule.is_boolean p k) fits)) s))
 
+  -- the number of an operand is an integer
+  integer_operand : (s : Store) (v : Value) (t k : ℕ) → rule.is_number p t ≡ true → rule.is_integer p k ≡ true → rule.is_part p t k ≡ true → HasType p s v t → (z : ℤ) × (v ≡ value.Ordinal z) × (is_integer z ≡ true)
+  integer_operand s v t k n i part h =
+      let z = number_of p s v t (left_true (rule.is_ordinal p t) _ n) h in
+      (z.0, z.1, integer_within z.0 (subst (IsNumberOf z.0) (ap bounds_in (integer_node (node_of p k) i)) (within_two p z.0 (bounds p t) (bounds p k) part z.2)))
+
+  word_computed : (compute : ℤ → ℤ → ℤ) → GivesIntegers compute → (at : Pos) (t u k : ℕ) (s : Store) (v w : Value) → rules.words_fit p t u k ≡ true → HasType p s v t → HasType p s w u → Gives p own s (Typed p k) (meaning.word p compute at v w)
+  word_computed compute is at t u k s v w fits h g =
+      let numbers = left_true (rule.is_number p t && rule.is_number p u) _ fits in
+      let rest = right_true (rule.is_number p t && rule.is_number p u) _ fits in
+      let kind = left_true (rule.is_integer p k) _ rest in
+      let parts = right_true (rule.is_integer p k) (rule.is_part p t k && rule.is_part p u k) rest in
+      let x = integer_operand s v t k (left_true (rule.is_number p t) (rule.is_number p u) numbers) kind (left_true (rule.is_part p t k) (rule.is_part p u k) parts) h in
+      let y = integer_operand s w u k (right_true (rule.is_number p t) (rule.is_number p u) numbers) kind (right_true (rule.is_part p t k) (rule.is_part p u k) parts) g in
+      subst (λ a. Gives p own s (Typed p k) (meaning.word p compute at a w)) (sym x.1)
+      (subst (λ b. Gives p own s (Typed p k) (meaning.word p compute at (value.Ordinal x.0) b)) (sym y.1)
+      (passed_sound at (given (value.Ordinal (compute x.0 y.0))) k (λ later. typed_given p own later k (value.Ordinal (compute x.0 y.0)) (integer_typed p later (compute x.0 y.0) k kind (is x.0 y.0 x.2 y.2))) s))
+
+  word_complemented : (at : Pos) (t k : ℕ) (s : Store) (v : Value) → rules.words_fit p t t k ≡ true → HasType p s v t → Gives p own s (Typed p k) (meaning.word_complement p at v)
+  word_complemented at t k s v fits h =
+      let numbers = left_true (rule.is_number p t && rule.is_number p t) _ fits in
+      let rest = right_true (rule.is_number p t && rule.is_number p t) _ fits in
+      let kind = left_true (rule.is_integer p k) _ rest in
+      let parts = right_true (rule.is_integer p k) (rule.is_part p t k && rule.is_part p t k) rest in
+      let x = integer_operand s v t k (left_true (rule.is_number p t) (rule.is_number p t) numbers) kind (left_true (rule.is_part p t k) (rule.is_part p t k) parts) h in
+      subst (λ a. Gives p own s (Typed p k) (meaning.word_complement p at a)) (sym x.1)
+      (passed_sound at (given (value.Ordinal (integers.word_not x.0))) k (λ later. typed_given p own later k (value.Ordinal (integers.word_not x.0)) (integer_typed p later (integers.word_not x.0) k kind (not_is x.0 x.2))) s)
+
   -- ---- THE TABLE
 
   abbrev Routed : Routine → Pos → Pos → Option ℕ → Store → List Value → Type 0
@@ -484,6 +514,17 @@ module _ (p : Program) (own : Scope) where
   table_sound routine.WordLessEqual at i (t ∷ u ∷ []) (Some k) vs s fits h = on_two routine.WordLessEqual at i (Some k) s vs t u h (λ v w a b. word_tested integers.word_at_most at t u k s v w fits a b)
   table_sound routine.WordGreater at i (t ∷ u ∷ []) (Some k) vs s fits h = on_two routine.WordGreater at i (Some k) s vs t u h (λ v w a b. word_tested integers.word_less at u t k s w v (turned t u k fits) b a)
   table_sound routine.WordGreaterEqual at i (t ∷ u ∷ []) (Some k) vs s fits h = on_two routine.WordGreaterEqual at i (Some k) s vs t u h (λ v w a b. word_tested integers.word_at_most at u t k s w v (turned t u k fits) b a)
+  table_sound routine.WordPlus at i (t ∷ u ∷ []) (Some k) vs s fits h = on_two routine.WordPlus at i (Some k) s vs t u h (λ v w a b. word_computed integers.word_sum sum_is at t u k s v w fits a b)
+  table_sound routine.WordTimes at i (t ∷ u ∷ []) (Some k) vs s fits h = on_two routine.WordTimes at i (Some k) s vs t u h (λ v w a b. word_computed integers.word_product product_is at t u k s v w fits a b)
+  table_sound routine.WordMinus at i (t ∷ u ∷ []) (Some k) vs s fits h = on_two routine.WordMinus at i (Some k) s vs t u h (λ v w a b. word_computed integers.word_difference difference_is at t u k s v w fits a b)
+  table_sound routine.WordDivide at i (t ∷ u ∷ []) (Some k) vs s fits h = on_two routine.WordDivide at i (Some k) s vs t u h (λ v w a b. word_computed integers.word_quotient quotient_is at t u k s v w fits a b)
+  table_sound routine.WordMod at i (t ∷ u ∷ []) (Some k) vs s fits h = on_two routine.WordMod at i (Some k) s vs t u h (λ v w a b. word_computed integers.word_rest rest_is at t u k s v w fits a b)
+  table_sound routine.WordAnd at i (t ∷ u ∷ []) (Some k) vs s fits h = on_two routine.WordAnd at i (Some k) s vs t u h (λ v w a b. word_computed integers.word_and and_is at t u k s v w fits a b)
+  table_sound routine.WordOr at i (t ∷ u ∷ []) (Some k) vs s fits h = on_two routine.WordOr at i (Some k) s vs t u h (λ v w a b. word_computed integers.word_or or_is at t u k s v w fits a b)
+  table_sound routine.WordXor at i (t ∷ u ∷ []) (Some k) vs s fits h = on_two routine.WordXor at i (Some k) s vs t u h (λ v w a b. word_computed integers.word_xor xor_is at t u k s v w fits a b)
+  table_sound routine.WordShift at i (t ∷ u ∷ []) (Some k) vs s fits h = on_two routine.WordShift at i (Some k) s vs t u h (λ v w a b. word_computed integers.word_shift shift_is at t u k s v w fits a b)
+  table_sound routine.WordRotate at i (t ∷ u ∷ []) (Some k) vs s fits h = on_two routine.WordRotate at i (Some k) s vs t u h (λ v w a b. word_computed integers.word_rotate rotation_is at t u k s v w fits a b)
+  table_sound routine.WordNot at i (t ∷ []) (Some k) vs s fits h = on_one routine.WordNot at i (Some k) s vs t h (λ v g. word_complemented at t k s v fits g)
   table_sound routine.Join at i (t ∷ []) (Some k) vs s fits h = on_one routine.Join at i (Some k) s vs t h (λ v g. serving_sound at (asked.Join (Is v) false) (Some k) (join_served k (right_true (rules.is_cell p t) (is_any_in (node_of p k)) fits) (Is v) false) s)
   table_sound routine.AlertJoin at i (t ∷ []) (Some k) vs s fits h = on_one routine.AlertJoin at i (Some k) s vs t h (λ v g. serving_sound at (asked.Join (Is v) true) (Some k) (join_served k (right_true (rules.is_cell p t) (is_any_in (node_of p k)) fits) (Is v) true) s)
   table_sound routine.Wait at i (m ∷ c ∷ []) None vs s fits h = on_two routine.Wait at i None s vs m c h (λ v w a b. silent_sound at (asked.Wait (Is v) (Is w) false) (waits (Is v) (Is w) false) s)

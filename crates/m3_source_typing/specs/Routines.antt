@@ -9,7 +9,7 @@ use Rattle.m3_types.specs.declared.nodes.TypeNode.TheVariants as node
 use Rattle.m3_values.specs.Programs.{Program}
 use Rattle.m3_values.specs.Types.{Bounds, bounds, node_of}
 use Rattle.m3_source_typing.specs.ValueTypes.{class_of}
-use Rattle.m3_source_typing.specs.Operators.{is_ordinal, is_number, is_boolean, is_part, is_references, is_text_in, within_bounds}
+use Rattle.m3_source_typing.specs.Operators.{is_ordinal, is_number, is_integer, is_boolean, is_part, is_references, is_text_in, within_bounds}
 
 abbrev pub bytes : Bounds
 bytes = record { first = pos 0; last = pos 255 }
@@ -36,6 +36,11 @@ module _ (p : Program) where
   both_parts t u k =
       (is_ordinal p t && is_ordinal p u) && (is_ordinal p k && (is_part p t k && is_part p u k))
 
+  -- integers as words, and the integer of a word
+  abbrev pub words_fit : (t u k : ℕ) → Bool
+  words_fit t u k =
+      (is_number p t && is_number p u) && (is_integer p k && (is_part p t k && is_part p u k))
+
   abbrev pub routine_fits : Routine → (actuals : List ℕ) → (result : Option ℕ) → Bool
   routine_fits routine.Put (t ∷ []) None = is_text t
   routine_fits routine.PutInt (t ∷ []) None = is_number p t
@@ -46,6 +51,11 @@ module _ (p : Program) where
   routine_fits routine.TextSub (t ∷ n ∷ m ∷ []) (Some k) =
       (is_text t && (is_ordinal p n && is_ordinal p m)) && is_text k
   routine_fits routine.TextFromChar (t ∷ []) (Some k) = is_ordinal p t && is_text k
+  routine_fits routine.WordPlus (t ∷ u ∷ []) (Some k) = words_fit t u k
+  routine_fits routine.WordTimes (t ∷ u ∷ []) (Some k) = words_fit t u k
+  routine_fits routine.WordMinus (t ∷ u ∷ []) (Some k) = words_fit t u k
+  routine_fits routine.WordDivide (t ∷ u ∷ []) (Some k) = words_fit t u k
+  routine_fits routine.WordMod (t ∷ u ∷ []) (Some k) = words_fit t u k
   routine_fits routine.WordLess (t ∷ u ∷ []) (Some k) =
       (is_number p t && is_number p u) && is_boolean p k
   routine_fits routine.WordLessEqual (t ∷ u ∷ []) (Some k) =
@@ -54,6 +64,12 @@ module _ (p : Program) where
       (is_number p t && is_number p u) && is_boolean p k
   routine_fits routine.WordGreaterEqual (t ∷ u ∷ []) (Some k) =
       (is_number p t && is_number p u) && is_boolean p k
+  routine_fits routine.WordAnd (t ∷ u ∷ []) (Some k) = words_fit t u k
+  routine_fits routine.WordOr (t ∷ u ∷ []) (Some k) = words_fit t u k
+  routine_fits routine.WordXor (t ∷ u ∷ []) (Some k) = words_fit t u k
+  routine_fits routine.WordShift (t ∷ u ∷ []) (Some k) = words_fit t u k
+  routine_fits routine.WordRotate (t ∷ u ∷ []) (Some k) = words_fit t u k
+  routine_fits routine.WordNot (t ∷ []) (Some k) = words_fit t t k
   routine_fits routine.Join (t ∷ []) (Some k) = is_cell t && is_any_in (node_of p k)
   routine_fits routine.AlertJoin (t ∷ []) (Some k) = is_cell t && is_any_in (node_of p k)
   routine_fits routine.Wait (m ∷ c ∷ []) None = is_cell m && is_cell c

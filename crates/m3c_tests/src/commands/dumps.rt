@@ -15,6 +15,26 @@ PROCEDURE Sum(): INTEGER =
   END Sum;
 BEGIN IO.PutInt(Sum()) END Main.";
 
+/// One call passes an element of either of two arrays by reference.
+const ARMS: &[u8] = b"MODULE Main; IMPORT IO;
+TYPE A = REF ARRAY [0..3] OF INTEGER;
+VAR a := NEW(A); b := NEW(A);
+PROCEDURE P(VAR x: INTEGER) =
+  VAR d := NEW(A); BEGIN d[0] := 1; INC(x, d[0]) END P;
+PROCEDURE Q(c: BOOLEAN) =
+  VAR i := 2; BEGIN IF c THEN P(a[i]) ELSE P(b[i]) END END Q;
+BEGIN
+  Q(TRUE); Q(FALSE); Q(FALSE);
+  IO.PutInt(a[2]); IO.PutChar(' '); IO.PutInt(b[2])
+END Main.";
+
+/// Two fields of one element, and fields of elements of two arrays.
+const FIELDS: &[u8] = b"MODULE Main;
+TYPE A = REF ARRAY OF RECORD x, y, z: INTEGER END;
+PROCEDURE S(a, b: A; i: INTEGER): INTEGER = BEGIN RETURN a[i].x + a[i].y END S;
+PROCEDURE T(a, b: A; i: INTEGER): INTEGER = BEGIN RETURN a[i].x + b[i].y END T;
+BEGIN EVAL S(NIL, NIL, 0) + T(NIL, NIL, 0) END Main.";
+
 /// Tries what `dump` shows of the code that is built.
 pub fn try_dumps(rt: &(impl Print + AllocGlobal)) -> io::Result<()> {
     let mut tally = Tally::new();
@@ -27,6 +47,12 @@ pub fn try_dumps(rt: &(impl Print + AllocGlobal)) -> io::Result<()> {
     )?;
     let is_right = !keeps_a_register(dump.as_str(), "proc 0 ");
     tally.count(rt, "no turn where no loop is", is_right)?;
+    let dump = dumped(rt.alloc(), ARMS)?;
+    let is_right = has_two_ways(dump.as_str(), "proc 3 ");
+    tally.count(rt, "one call for both arms, with two origins", is_right)?;
+    let dump = dumped(rt.alloc(), FIELDS)?;
+    let is_right = length_of(dump.as_str(), "proc 2 ") < length_of(dump.as_str(), "proc 3 ");
+    tally.count(rt, "one address for two fields", is_right)?;
     tally.sum_up(rt, "dumps")
 }
 
@@ -54,4 +80,41 @@ fn keeps_a_register(dump: &str, head: &str) -> bool {
         is_behind_point = line.split(' ').nth(1) == Some("POINT");
     }
     false
+}
+
+/// Whether a row of a procedure has an entry with two ways, told apart by a path variable.
+fn has_two_ways(dump: &str, head: &str) -> bool {
+    let mut is_inside = false;
+    for line in dump.lines() {
+        if line.starts_with("proc ") {
+            is_inside = line.starts_with(head);
+        }
+        let is_row = is_inside && line.starts_with("point ");
+        if is_row && line.split(' ').any(is_entry_of_two_ways) {
+            return true;
+        }
+    }
+    false
+}
+
+fn is_entry_of_two_ways(entry: &str) -> bool {
+    match entry.split_once("?") {
+        Some((_, ways)) => ways.split_once("|").is_some(),
+        None => false,
+    }
+}
+
+/// How many lines of a dump a procedure has.
+fn length_of(dump: &str, head: &str) -> usize {
+    let mut is_inside = false;
+    let mut length = 0usize;
+    for line in dump.lines() {
+        if line.starts_with("proc ") {
+            is_inside = line.starts_with(head);
+        }
+        if is_inside {
+            length = length.saturating_add(1);
+        }
+    }
+    length
 }
