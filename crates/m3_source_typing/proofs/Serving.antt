@@ -448,9 +448,9 @@ module _ (p : Program) (own : Scope) where
 
   -- the number of an operand is an integer
   integer_operand : (s : Store) (v : Value) (t k : ℕ) → rule.is_number p t ≡ true → rule.is_integer p k ≡ true → rule.is_part p t k ≡ true → HasType p s v t → (z : ℤ) × (v ≡ value.Ordinal z) × (is_integer z ≡ true)
-  integer_operand s v t k n i part h =
+  integer_operand s v t k n i within h =
       let z = number_of p s v t (left_true (rule.is_ordinal p t) _ n) h in
-      (z.0, z.1, integer_within z.0 (subst (IsNumberOf z.0) (ap bounds_in (integer_node (node_of p k) i)) (within_two p z.0 (bounds p t) (bounds p k) part z.2)))
+      (z.0, z.1, integer_within z.0 (subst (IsNumberOf z.0) (ap bounds_in (integer_node (node_of p k) i)) (within_two p z.0 (bounds p t) (bounds p k) within z.2)))
 
   word_computed : (compute : ℤ → ℤ → ℤ) → GivesIntegers compute → (at : Pos) (t u k : ℕ) (s : Store) (v w : Value) → rules.words_fit p t u k ≡ true → HasType p s v t → HasType p s w u → Gives p own s (Typed p k) (meaning.word p compute at v w)
   word_computed compute is at t u k s v w fits h g =
