@@ -128,6 +128,8 @@ module _ (p : Program) (n : ℕ) (q : ProcDef) (around : Option ℕ) (actuals : 
   begun_typed : IsTyped p None s → IsTyped p None begun.store
   begun_typed typed = record {
     cells = λ c k v holder is new. content_stays p s begun.store (later_keeps p s begun.store begun_later) v k (node_of p k) (typed.cells c k v holder is new);
+    made = typed.made;
+    texts = typed.texts;
     globals = variables_stay p s begun.store (later_keeps p s begun.store begun_later) s.globals p.globals typed.globals;
   }
 

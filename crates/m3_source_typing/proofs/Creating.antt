@@ -1,5 +1,5 @@
 -- NEW is defined, and gives a reference to a cell that holds its defaults.
-use Rattle.std.proofs.Common.{◌≡◌, ◌⊎◌, inl, inr, ⊎_elim, ℕ, zero, suc, true, List, [], ◌∷◌, Option, Some, None, refl, sym, ap, ◌∙◌, subst, arith}
+use Rattle.std.proofs.Common.{◌≡◌, ◌⊎◌, inl, inr, ⊎_elim, ℕ, zero, suc, true, false, List, [], ◌∷◌, Option, Some, None, refl, sym, ap, ◌∙◌, subst, arith}
 use Rattle.std.specs.Prelude.{slice_get, slice_set}
 use Rattle.std.specs.Option.{option_map}
 use Rattle.m3_runs.specs.Languages as asked
@@ -17,7 +17,7 @@ use Rattle.m3_source_meaning.specs.Operators as operators
 use Rattle.m3_source_meaning.specs.Constructors as constructors
 use Rattle.m3_source_meaning.specs.Constructors.{first_content}
 use Rattle.m3_source_typing.specs.ValueTypes.{OfReferences, class_of, HasType}
-use Rattle.m3_source_typing.specs.Stores.{IsLater, IsTyped, IsContentOf}
+use Rattle.m3_source_typing.specs.Stores.{IsLater, IsTyped, IsContentOf, IsNoText}
 use Rattle.m3_source_typing.specs.Points as points
 use Rattle.m3_source_typing.specs.Points.{Fits, AnswerFits, IsMade}
 use Rattle.m3_source_typing.specs.Sound.{Scope, IsDefined, AllFit, IsSound, IsGood, AreSound, Gives}
@@ -26,7 +26,7 @@ use Rattle.m3_source_typing.proofs.Staying.{Keeps, and_later, place_stays, type_
 use Rattle.m3_source_typing.proofs.Combining.{same_sound}
 use Rattle.m3_source_typing.proofs.Operating.{Typed}
 use Rattle.m3_source_typing.proofs.Places.{content_stays, variables_stay}
-use Rattle.m3_source_typing.proofs.Referents.{kind_or, content_or, set_or}
+use Rattle.m3_source_typing.proofs.Referents.{kind_or, is_made, content_or, set_or}
 use Rattle.std.proofs.Common.{◌++◌, map}
 use Rattle.m3_values.specs.Places.{Place}
 use Rattle.m3_values.specs.Store.{has_type, write}
@@ -96,6 +96,14 @@ module _ (p : Program) where
             subst (λ x. IsContentOf p after w x (node_of p x)) same (subst (λ x. IsContentOf p after x k (node_of p k)) what (content after)))
             (λ q. content_stays p t after keeps w kind (node_of p kind) (typed.cells d kind w h q.1 (λ f. let one : c ≡ d = cc in q.0 one)))
             (was_elsewhere t.cells c (store.Made k v holder) d (store.Made kind w h) is);
+        made = λ d kind w h is. ⊎_elim
+            (λ q. subst (IsNoText p) (ap (kind_or k) q.1) (typed.made c k value.Nil holder e))
+            (λ q. typed.made d kind w h q.1)
+            (was_elsewhere t.cells c (store.Made k v holder) d (store.Made kind w h) is);
+        texts = λ d bytes is. ⊎_elim
+            (λ q. absurd (let bad : true ≡ false = ap is_made q.1 in cc))
+            (λ q. typed.texts d bytes q.1)
+            (was_elsewhere t.cells c (store.Made k v holder) d (store.Bytes bytes) is);
         globals = variables_stay p t after keeps t.globals p.globals typed.globals;
       }
 

@@ -10,6 +10,7 @@ pub mod Referents
 pub mod Chains
 pub mod Calling
 pub mod Words
+pub mod Texts
 pub mod Serving
 pub mod Above
 pub mod Rowing

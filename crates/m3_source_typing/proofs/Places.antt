@@ -160,6 +160,8 @@ module _ (p : Program) (known : Owned) where
       record {
         store = record {
           cells = λ c kind w holder is new. content_stays p m.store (with_global m n v).store (later_keeps p m.store (with_global m n v).store l) w kind (node_of p kind) (good.store.cells c kind w holder is new);
+          made = good.store.made;
+          texts = good.store.texts;
           globals = variable_set p (with_global m n v).store m.store.globals p.globals n x v (variables_stay p m.store (with_global m n v).store (later_keeps p m.store (with_global m n v).store l) m.store.globals p.globals good.store.globals) e (type_stays p m.store (with_global m n v).store l v (type_of_variable x.kind) h);
         };
         room = good.room;

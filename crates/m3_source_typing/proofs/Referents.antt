@@ -18,7 +18,7 @@ use Rattle.m3_values.specs.Store as store
 use Rattle.m3_values.specs.Store.{Cell, Store, Memory, cell_at, with_cell, content_in, content_of, with_content_in, with_store, cell_has_type, has_type, is_text_type, is_thread_type, is_made_type, read, write}
 use Rattle.m3_source_typing.specs.ValueTypes.{OfReferences, class_in, class_of, HasFixedSizes, HasType, AreFields}
 use Rattle.m3_source_typing.specs.Stores as stores
-use Rattle.m3_source_typing.specs.Stores.{Becomes as CellBecomes, HasStill, IsLater, IsContentOf}
+use Rattle.m3_source_typing.specs.Stores.{Becomes as CellBecomes, HasStill, IsLater, IsContentOf, IsNoText}
 use Rattle.m3_source_typing.specs.Sound.{Owned, IsFair, Becomes, IsPlaceOf}
 use Rattle.m3_source_typing.specs.Expressions.{ParentsAreObjects, HasField, HaveField}
 use Rattle.m3_source_typing.proofs.Staying.{later_keeps, becomes_itself, type_stays}
@@ -61,6 +61,10 @@ abbrev pub kind_or : ℕ → Cell → ℕ
 kind_or n (store.Made kind v holder) = kind
 kind_or n (store.Bytes bytes) = n
 kind_or n (store.Forked number result is_joined) = n
+
+abbrev pub is_made : Cell → Bool
+is_made (store.Made kind v holder) = true
+is_made _ = false
 
 abbrev pub content_or : Value → Cell → Value
 content_or w (store.Made kind v holder) = v
@@ -124,6 +128,14 @@ module _ (p : Program) where
               subst (λ x. IsContentOf p after.store w x (node_of p x)) same (subst (λ x. IsContentOf p after.store x kind (node_of p kind)) what (content_stays p m.store after.store (later_keeps p m.store after.store l) v kind (node_of p kind) content)))
               (λ q. content_stays p m.store after.store (later_keeps p m.store after.store l) w k (node_of p k) (fair.store.cells d k w holder q new))
               (was_or m.store.cells c (store.Made kind v h.holder) d (store.Made k w holder) is);
+          made = λ d k w holder is. ⊎_elim
+              (λ q. subst (IsNoText p) (ap (kind_or kind) q.1) (fair.store.made c kind h.content h.holder h.is))
+              (λ q. fair.store.made d k w holder q)
+              (was_or m.store.cells c (store.Made kind v h.holder) d (store.Made k w holder) is);
+          texts = λ d bytes is. ⊎_elim
+              (λ q. absurd (let bad : true ≡ false = ap is_made q.1 in cc))
+              (λ q. fair.store.texts d bytes q)
+              (was_or m.store.cells c (store.Made kind v h.holder) d (store.Bytes bytes) is);
           globals = variables_stay p m.store after.store (later_keeps p m.store after.store l) m.store.globals p.globals fair.store.globals;
         };
         room = fair.room;

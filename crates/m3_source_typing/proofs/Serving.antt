@@ -16,22 +16,22 @@ use Rattle.m3_types.specs.declared.nodes.TypeNode.TheVariants as node
 use Rattle.m3_runs.specs.Languages as asked
 use Rattle.m3_runs.specs.Languages.{Answer, Makes, Serves, Passes, Concatenated, Subtext, ByteText}
 use Rattle.m3_values.specs.Values as value
-use Rattle.m3_values.specs.Values.{Value, truth}
+use Rattle.m3_values.specs.Values.{Value, truth, number, same_list}
 use Rattle.m3_values.specs.Integers as integers
-use Rattle.m3_values.specs.Integers.{lesser, greater, is_between}
+use Rattle.m3_values.specs.Integers.{lesser, greater, is_between, count_of}
 use Rattle.m3_values.specs.Programs.{Program}
 use Rattle.m3_values.specs.Types.{bounds, bounds_in, node_of, unveiled, unveiled_in}
 use Rattle.m3_values.specs.Places.{Thing, Is, At}
 use Rattle.m3_values.specs.Store as store
-use Rattle.m3_values.specs.Store.{Cell, Store, cell_at, cell_has_type, is_text_type, is_thread_type, is_made_type}
+use Rattle.m3_values.specs.Store.{Cell, Store, cell_at, cell_has_type, is_text_type, is_thread_type, is_made_type, bytes_of}
 use Rattle.m3_source_meaning.specs.Meanings.{Evaluates, given, there, holding_all, ◌>>=◌}
 use Rattle.m3_source_meaning.specs.Phrases.{Expression}
 use Rattle.m3_source_meaning.specs.Operators.{not_nil}
 use Rattle.m3_source_meaning.specs.Constructors.{numbered, in_order_from, in_order}
 use Rattle.m3_source_meaning.specs.Routines as meaning
 use Rattle.m3_source_meaning.specs.Travelling.{argument_type, raised_by}
-use Rattle.m3_source_typing.specs.ValueTypes.{class_in, class_of, IsNumberOf, IsOfNil, HasType}
-use Rattle.m3_source_typing.specs.Stores.{IsLater}
+use Rattle.m3_source_typing.specs.ValueTypes.{class_in, class_of, IsNumberOf, IsOfNil, HasType, is_count}
+use Rattle.m3_source_typing.specs.Stores.{IsLater, are_bytes, is_byte}
 use Rattle.m3_source_typing.specs.Points.{IsTruth, IsThread, IsThreadCell, IsAnyReference, ServiceGives, IsMade, IsArgument, AnswerFits, new_cell}
 use Rattle.m3_source_typing.specs.Sound.{Scope, Gives, IsOfType}
 use Rattle.m3_source_typing.specs.Operators as rule
@@ -39,11 +39,12 @@ use Rattle.m3_source_typing.specs.Routines as rules
 use Rattle.m3_source_typing.specs.Routines.{routine_fits, is_any_in, is_thread_in}
 use Rattle.m3_source_typing.specs.Expressions.{given_by, HasEachNumber}
 use Rattle.m3_source_typing.proofs.Staying.{and_later, type_stays}
-use Rattle.m3_source_typing.proofs.Combining.{given_sound, bind_sound, holding_all_sound, fault_sound, acting_sound, raising_sound}
+use Rattle.m3_source_typing.proofs.Combining.{given_sound, bind_sound, holding_all_sound, fault_sound, acting_sound, raising_sound, seeing_sound}
 use Rattle.m3_source_typing.proofs.Operands.{left_true, right_true, both_true, integer_node, integer_typed, number_of, numbers_is, part_typed, within_two, boolean_node}
 use Rattle.m3_source_typing.proofs.Operating.{Typed, typed_given, truth_given, text_node}
 use Rattle.m3_source_typing.proofs.Rows.{range_sound}
-use Rattle.m3_source_typing.proofs.Words.{GivesIntegers, integer_within, sum_is, difference_is, product_is, quotient_is, rest_is, and_is, or_is, xor_is, not_is, shift_is, rotation_is}
+use Rattle.m3_source_typing.proofs.Texts.{text_there, byte_there}
+use Rattle.m3_source_typing.proofs.Words.{count_within, byte_within, GivesIntegers, integer_within, sum_is, difference_is, product_is, quotient_is, rest_is, and_is, or_is, xor_is, not_is, shift_is, rotation_is}
 use Rattle.m3_source_typing.proofs.Places.{IsGiven, given_stays}
 
 -- ---- values by their numbers
@@ -56,9 +57,22 @@ abbrev IsOf : Program → Store → Value → Option ℕ → Type 0
 IsOf p s v None = ⊥
 IsOf p s v (Some t) = HasType p s v t
 
-abbrev EachOf : Program → Store → List ℕ → List (ℕ × Value) → Type 0
-EachOf p s ts [] = Unit {0}
-EachOf p s ts (x ∷ xs) = IsOf p s x.1 (slice_get ts x.0) × EachOf p s ts xs
+-- an actual that may not be NIL isn't
+abbrev NoNil : Routine → ℕ → Value → Type 0
+NoNil r n v = meaning.wants_cell r n ≡ true → v ≡ value.Nil → ⊥
+
+abbrev IsFor : Program → Store → Routine → List ℕ → ℕ × Value → Type 0
+IsFor p s r ts x = IsOf p s x.1 (slice_get ts x.0) × NoNil r x.0 x.1
+
+abbrev EachFor : Program → Store → Routine → List ℕ → List (ℕ × Value) → Type 0
+EachFor p s r ts [] = Unit {0}
+EachFor p s r ts (x ∷ xs) = IsFor p s r ts x × EachFor p s r ts xs
+
+-- the actuals from a number on
+abbrev AreFor : Program → Store → Routine → (from : ℕ) → List Value → List ℕ → Type 0
+AreFor p s r n [] [] = Unit {0}
+AreFor p s r n (v ∷ vs) (t ∷ ts) = (HasType p s v t × NoNil r n v) × AreFor p s r (suc n) vs ts
+AreFor p s r n _ _ = ⊥
 
 abbrev pub AreOf : Program → Store → List Value → List ℕ → Type 0
 AreOf p s [] [] = Unit {0}
@@ -70,45 +84,47 @@ module _ (p : Program) where
   of_stays s u l v None h = h
   of_stays s u l v (Some t) h = type_stays p s u l v t h
 
-  each_stay : (s u : Store) → IsLater s u → (ts : List ℕ) (xs : List (ℕ × Value)) → EachOf p s ts xs → EachOf p u ts xs
-  each_stay s u l ts [] h = tt
-  each_stay s u l ts (x ∷ xs) h = (of_stays s u l x.1 (slice_get ts x.0) h.0, each_stay s u l ts xs h.1)
+  each_stay : (s u : Store) → IsLater s u → (r : Routine) (ts : List ℕ) (xs : List (ℕ × Value)) → EachFor p s r ts xs → EachFor p u r ts xs
+  each_stay s u l r ts [] h = tt
+  each_stay s u l r ts (x ∷ xs) h = ((of_stays s u l x.1 (slice_get ts x.0) h.0.0, h.0.1), each_stay s u l r ts xs h.1)
 
-  each_and : (s : Store) (ts : List ℕ) (xs : List (ℕ × Value)) (x : ℕ × Value) → EachOf p s ts xs → IsOf p s x.1 (slice_get ts x.0) → EachOf p s ts (xs ++ x ∷ [])
-  each_and s ts [] x h g = (g, tt)
-  each_and s ts (y ∷ xs) x h g = (h.0, each_and s ts xs x h.1 g)
+  each_and : (s : Store) (r : Routine) (ts : List ℕ) (xs : List (ℕ × Value)) (x : ℕ × Value) → EachFor p s r ts xs → IsFor p s r ts x → EachFor p s r ts (xs ++ x ∷ [])
+  each_and s r ts [] x h g = (g, tt)
+  each_and s r ts (y ∷ xs) x h g = (h.0, each_and s r ts xs x h.1 g)
 
   -- the value with a number
-  record There (s : Store) (n : ℕ) (xs : List (ℕ × Value)) (o : Option ℕ) : Type 0 where
+  record There (s : Store) (r : Routine) (n : ℕ) (xs : List (ℕ × Value)) (o : Option ℕ) : Type 0 where
     pub value : Value
     pub is : numbered n xs ≡ Some value
     pub typed : IsOf p s value o
+    pub some : NoNil r n value
 
-  there_or : (s : Store) (ts : List ℕ) (n : ℕ) (x : ℕ × Value) (xs : List (ℕ × Value)) (b : Bool) → (x.0 == n) ≡ b → IsOf p s x.1 (slice_get ts x.0) → (b ≡ false → There s n xs (slice_get ts n)) → There s n (x ∷ xs) (slice_get ts n)
-  there_or s ts n x xs true e h more = record {
+  there_or : (s : Store) (r : Routine) (ts : List ℕ) (n : ℕ) (x : ℕ × Value) (xs : List (ℕ × Value)) (b : Bool) → (x.0 == n) ≡ b → IsFor p s r ts x → (b ≡ false → There s r n xs (slice_get ts n)) → There s r n (x ∷ xs) (slice_get ts n)
+  there_or s r ts n x xs true e h more = record {
     value = x.1;
     is = ap (λ b. elim b as (λ c. Option Value) [ true ↦ Some x.1 | false ↦ numbered n xs ]) e;
-    typed = subst (λ m. IsOf p s x.1 (slice_get ts m)) (eqb-true x.0 n e) h;
+    typed = subst (λ m. IsOf p s x.1 (slice_get ts m)) (eqb-true x.0 n e) h.0;
+    some = subst (λ m. NoNil r m x.1) (eqb-true x.0 n e) h.1;
   }
-  there_or s ts n x xs false e h more =
+  there_or s r ts n x xs false e h more =
       let m = more refl in
-      record { value = m.value; is = ap (λ b. elim b as (λ c. Option Value) [ true ↦ Some x.1 | false ↦ numbered n xs ]) e ∙ m.is; typed = m.typed }
+      record { value = m.value; is = ap (λ b. elim b as (λ c. Option Value) [ true ↦ Some x.1 | false ↦ numbered n xs ]) e ∙ m.is; typed = m.typed; some = m.some }
 
   second_of : (a b : Bool) → (a || b) ≡ true → a ≡ false → b ≡ true
   second_of true b h e = absurd (let bad : true ≡ false = e in cc)
   second_of false b h e = h
 
-  found : (s : Store) (ts : List ℕ) (n : ℕ) (xs : List (ℕ × Value)) → EachOf p s ts xs → list_any (λ m. m == n) (map place_of xs) ≡ true → There s n xs (slice_get ts n)
-  found s ts n [] h e = absurd (let bad : false ≡ true = e in cc)
-  found s ts n (x ∷ xs) h e = there_or s ts n x xs (x.0 == n) refl h.0 (λ no. found s ts n xs h.1 (second_of (x.0 == n) _ e no))
+  found : (s : Store) (r : Routine) (ts : List ℕ) (n : ℕ) (xs : List (ℕ × Value)) → EachFor p s r ts xs → list_any (λ m. m == n) (map place_of xs) ≡ true → There s r n xs (slice_get ts n)
+  found s r ts n [] h e = absurd (let bad : false ≡ true = e in cc)
+  found s r ts n (x ∷ xs) h e = there_or s r ts n x xs (x.0 == n) refl h.0 (λ no. found s r ts n xs h.1 (second_of (x.0 == n) _ e no))
 
-  ordered_from : (s : Store) (at : ℕ) (ts : List ℕ) (xs : List (ℕ × Value)) → ((i t : ℕ) → slice_get ts i ≡ Some t → There s (at + i) xs (Some t)) → AreOf p s (in_order_from (length ts) at xs) ts
-  ordered_from s at [] xs h = tt
-  ordered_from s at (t ∷ ts) xs h =
+  ordered_from : (s : Store) (r : Routine) (at : ℕ) (ts : List ℕ) (xs : List (ℕ × Value)) → ((i t : ℕ) → slice_get ts i ≡ Some t → There s r (at + i) xs (Some t)) → AreFor p s r at (in_order_from (length ts) at xs) ts
+  ordered_from s r at [] xs h = tt
+  ordered_from s r at (t ∷ ts) xs h =
       let same : at + 0 ≡ at = omega arith in
-      let one : There s at xs (Some t) = subst (λ n. There s n xs (Some t)) same (h 0 t refl) in
-      subst (λ o. AreOf p s (option_to_list o ++ in_order_from (length ts) (suc at) xs) (t ∷ ts)) (sym one.is)
-      (one.typed, ordered_from s (suc at) ts xs (λ i u e. let next : at + suc i ≡ suc at + i = omega arith in subst (λ n. There s n xs (Some u)) next (h (suc i) u e)))
+      let one : There s r at xs (Some t) = subst (λ n. There s r n xs (Some t)) same (h 0 t refl) in
+      subst (λ o. AreFor p s r at (option_to_list o ++ in_order_from (length ts) (suc at) xs) (t ∷ ts)) (sym one.is)
+      ((one.typed, one.some), ordered_from s r (suc at) ts xs (λ i u e. let next : at + suc i ≡ suc at + i = omega arith in subst (λ n. There s r n xs (Some u)) next (h (suc i) u e)))
 
   within : (ts : List ℕ) (i t : ℕ) → slice_get ts i ≡ Some t → i < length ts
   within [] i t e = absurd (let bad : None ≡ Some t = e in cc)
@@ -119,13 +135,13 @@ module _ (p : Program) where
   length_map [] = refl
   length_map (x ∷ xs) = ap suc (length_map xs)
 
-  ordered : (s : Store) (ts order : List ℕ) (xs : List (ℕ × Value)) → HasEachNumber (length ts) order → map place_of xs ≡ order → EachOf p s ts xs → AreOf p s (in_order xs) ts
-  ordered s ts order xs each e h =
+  ordered : (s : Store) (r : Routine) (ts order : List ℕ) (xs : List (ℕ × Value)) → HasEachNumber (length ts) order → map place_of xs ≡ order → EachFor p s r ts xs → AreFor p s r 0 (in_order xs) ts
+  ordered s r ts order xs each e h =
       let size : length ts ≡ length xs = sym each.long ∙ sym (ap length e) ∙ length_map xs in
-      subst (λ n. AreOf p s (in_order_from n 0 xs) ts) size (ordered_from s 0 ts xs (λ i t is.
+      subst (λ n. AreFor p s r 0 (in_order_from n 0 xs) ts) size (ordered_from s r 0 ts xs (λ i t is.
       let named : list_any (λ m. m == i) (map place_of xs) ≡ true = ap (λ ns. list_any (λ m. m == i) ns) e ∙ each.each i (within ts i t is) in
       let same : 0 + i ≡ i = omega arith in
-      subst (λ n. There s n xs (Some t)) (sym same) (subst (There s i xs) is (found s ts i xs h named))))
+      subst (λ n. There s r n xs (Some t)) (sym same) (subst (There s r i xs) is (found s r ts i xs h named))))
 
 -- well typed actuals
 pub data TypedOperands (p : Program) (own : Scope) : List Expression → List ℕ → Type 0 where
@@ -140,43 +156,51 @@ module _ (p : Program) (own : Scope) where
   operand_at _ _ zero (one_operand e es t ts is more) less = (e, t, refl, refl, is)
   operand_at _ _ (suc n) (one_operand e es t ts is more) less = operand_at es ts n more (omega arith)
 
-  nil_checked : (at : Pos) (v : Value) (s : Store) → Gives p own s (λ u x. Unit {0}) (not_nil at v)
-  nil_checked at value.Nil s = fault_sound p own s _ fault_kind.Nil at
-  nil_checked at _ s = given_sound p own s _ tt (λ u l. tt)
+  nil_checked : (b : Bool) (at : Pos) (v : Value) (s : Store) → Gives p own s (λ u x. b ≡ true → v ≡ value.Nil → ⊥) (not_nil at v)
+  nil_checked b at value.Nil s = fault_sound p own s _ fault_kind.Nil at
+  nil_checked b at (value.Ordinal z) s = given_sound p own s _ tt (λ u l t e. let bad : value.Ordinal z ≡ value.Nil = e in absurd cc)
+  nil_checked b at (value.Pointer c) s = given_sound p own s _ tt (λ u l t e. let bad : value.Pointer c ≡ value.Nil = e in absurd cc)
+  nil_checked b at (value.Text n) s = given_sound p own s _ tt (λ u l t e. let bad : value.Text n ≡ value.Nil = e in absurd cc)
+  nil_checked b at value.MainThread s = given_sound p own s _ tt (λ u l t e. let bad : value.MainThread ≡ value.Nil = e in absurd cc)
+  nil_checked b at (value.Procedure q around) s = given_sound p own s _ tt (λ u l t e. let bad : value.Procedure q around ≡ value.Nil = e in absurd cc)
+  nil_checked b at (value.Members ms) s = given_sound p own s _ tt (λ u l t e. let bad : value.Members ms ≡ value.Nil = e in absurd cc)
+  nil_checked b at (value.Record vs) s = given_sound p own s _ tt (λ u l t e. let bad : value.Record vs ≡ value.Nil = e in absurd cc)
+  nil_checked b at (value.Array below vs) s = given_sound p own s _ tt (λ u l t e. let bad : value.Array below vs ≡ value.Nil = e in absurd cc)
 
-  cell_checked : (b : Bool) (at : Pos) (v : Value) (s : Store) → Gives p own s (λ u x. Unit {0}) (meaning.cell_check b at v)
-  cell_checked true at v s = nil_checked at v s
-  cell_checked false at v s = given_sound p own s _ tt (λ u l. tt)
+  cell_checked : (b : Bool) (at : Pos) (v : Value) (s : Store) → Gives p own s (λ u x. b ≡ true → v ≡ value.Nil → ⊥) (meaning.cell_check b at v)
+  cell_checked true at v s = nil_checked true at v s
+  cell_checked false at v s = given_sound p own s _ tt (λ u l t. absurd (let bad : false ≡ true = t in cc))
 
-  zero_checked : (at : Pos) (v : Value) (s : Store) → Gives p own s (λ u x. Unit {0}) (meaning.not_zero at v)
-  zero_checked at (value.Ordinal (pos zero)) s = fault_sound p own s _ fault_kind.DivZero at
-  zero_checked at (value.Ordinal (pos (suc n))) s = given_sound p own s _ tt (λ u l. tt)
-  zero_checked at (value.Ordinal (negsuc n)) s = given_sound p own s _ tt (λ u l. tt)
-  zero_checked at _ s = given_sound p own s _ tt (λ u l. tt)
+  -- what is known goes on to be
+  zero_checked : (known : Type 0) → known → (at : Pos) (v : Value) (s : Store) → Gives p own s (λ u x. known) (meaning.not_zero at v)
+  zero_checked known q at (value.Ordinal (pos zero)) s = fault_sound p own s _ fault_kind.DivZero at
+  zero_checked known q at (value.Ordinal (pos (suc n))) s = given_sound p own s _ tt (λ u l. q)
+  zero_checked known q at (value.Ordinal (negsuc n)) s = given_sound p own s _ tt (λ u l. q)
+  zero_checked known q at _ s = given_sound p own s _ tt (λ u l. q)
 
-  divisor_checked : (at : Pos) (r : Routine) (n : ℕ) (v : Value) (s : Store) → Gives p own s (λ u x. Unit {0}) (meaning.divisor_check at r n v)
-  divisor_checked at routine.WordDivide (suc n) v s = zero_checked at v s
-  divisor_checked at routine.WordMod (suc n) v s = zero_checked at v s
-  divisor_checked at _ n v s = given_sound p own s _ tt (λ u l. tt)
+  divisor_checked : (known : Type 0) → known → (at : Pos) (r : Routine) (n : ℕ) (v : Value) (s : Store) → Gives p own s (λ u x. known) (meaning.divisor_check at r n v)
+  divisor_checked known q at routine.WordDivide (suc n) v s = zero_checked known q at v s
+  divisor_checked known q at routine.WordMod (suc n) v s = zero_checked known q at v s
+  divisor_checked known q at _ n v s = given_sound p own s _ tt (λ u l. q)
 
   abbrev forks : Routine → Bool
   forks routine.Fork = true
   forks _ = false
 
-  closure_checked : (r : Routine) (at : Pos) (v : Value) (s : Store) → forks r ≡ false → Gives p own s (λ u x. Unit {0}) (meaning.apply_check p r at v)
-  closure_checked routine.Fork at v s h = absurd (let bad : true ≡ false = h in cc)
-  closure_checked _ at v s h = given_sound p own s _ tt (λ u l. tt)
+  closure_checked : (known : Type 0) → known → (r : Routine) (at : Pos) (v : Value) (s : Store) → forks r ≡ false → Gives p own s (λ u x. known) (meaning.apply_check p r at v)
+  closure_checked known q routine.Fork at v s h = absurd (let bad : true ≡ false = h in cc)
+  closure_checked known q _ at v s h = given_sound p own s _ tt (λ u l. q)
 
-  one_sound : (call : Pos) (r : Routine) (n : ℕ) (e : Expression) (t : ℕ) (ts : List ℕ) → forks r ≡ false → slice_get ts n ≡ Some t → IsOfType p own e t → (s : Store) → Gives p own s (λ u x. (x.0 ≡ n) × IsOf p u x.1 (slice_get ts x.0)) (meaning.one_actual p call r n e)
+  one_sound : (call : Pos) (r : Routine) (n : ℕ) (e : Expression) (t : ℕ) (ts : List ℕ) → forks r ≡ false → slice_get ts n ≡ Some t → IsOfType p own e t → (s : Store) → Gives p own s (λ u x. (x.0 ≡ n) × IsFor p u r ts x) (meaning.one_actual p call r n e)
   one_sound call r n e t ts never at_place is s =
       bind_sound p own s (Typed p t) _ _ _ (is.value s)
-      (λ v u l q. bind_sound p own u (λ w x. Unit {0}) _ _ _ (checked call r n e.pos v never u)
-      (λ x w k f. given_sound p own w _ (n, v) (λ y m. (refl, subst (IsOf p y v) (sym at_place) (type_stays p u y (and_later u w y k m) v t q)))))
+      (λ v u l q. bind_sound p own u (λ w x. NoNil r n v) _ _ _ (checked call r n e.pos v never u)
+      (λ x w k f. given_sound p own w _ (n, v) (λ y m. (refl, (subst (IsOf p y v) (sym at_place) (type_stays p u y (and_later u w y k m) v t q), f)))))
     where
-      checked : (call : Pos) (r : Routine) (n : ℕ) (at : Pos) (v : Value) → forks r ≡ false → (s : Store) → Gives p own s (λ u x. Unit {0}) (meaning.checked_actual p call r n at v)
+      checked : (call : Pos) (r : Routine) (n : ℕ) (at : Pos) (v : Value) → forks r ≡ false → (s : Store) → Gives p own s (λ u x. NoNil r n v) (meaning.checked_actual p call r n at v)
       checked call r n at v never s =
-          bind_sound p own s (λ u x. Unit {0}) _ _ _ (bind_sound p own s (λ u x. Unit {0}) (λ u x. Unit {0}) _ _ (cell_checked (meaning.wants_cell r n) at v s) (λ x u l q. divisor_checked call r n v u))
-          (λ x u l q. closure_checked r at v u never)
+          bind_sound p own s (λ u x. NoNil r n v) _ _ _ (bind_sound p own s (λ u x. NoNil r n v) (λ u x. NoNil r n v) _ _ (cell_checked (meaning.wants_cell r n) at v s) (λ x u l q. divisor_checked (NoNil r n v) q call r n v u))
+          (λ x u l q. closure_checked (NoNil r n v) q r at v u never)
 
   behind : (xs : List (ℕ × Value)) (x : ℕ × Value) (n : ℕ) (ns : List ℕ) → x.0 ≡ n → map place_of (xs ++ x ∷ []) ++ ns ≡ map place_of xs ++ n ∷ ns
   behind [] x n ns e = ap (λ m. m ∷ ns) e
@@ -186,18 +210,18 @@ module _ (p : Program) (own : Scope) where
   none_behind [] = refl
   none_behind (x ∷ xs) = ap (λ ms. x.0 ∷ ms) (none_behind xs)
 
-  abbrev Evaluated : List ℕ → List ℕ → Store → List (ℕ × Value) → Type 0
-  Evaluated ts ns s xs = EachOf p s ts xs × (map place_of xs ≡ ns)
+  abbrev Evaluated : Routine → List ℕ → List ℕ → Store → List (ℕ × Value) → Type 0
+  Evaluated r ts ns s xs = EachFor p s r ts xs × (map place_of xs ≡ ns)
 
-  each_sound : (call : Pos) (r : Routine) (es : List Expression) (ts : List ℕ) → forks r ≡ false → TypedOperands p own es ts → (ns : List ℕ) → ((n i : ℕ) → slice_get ns i ≡ Some n → n < length ts) → (before : List (ℕ × Value)) (s : Store) → EachOf p s ts before → Gives p own s (Evaluated ts (map place_of before ++ ns)) (meaning.each_operand p call r es before ns)
-  each_sound call r es ts never typed [] below before s h = given_sound p own s _ before (λ u l. (each_stay p s u l ts before h, none_behind before))
+  each_sound : (call : Pos) (r : Routine) (es : List Expression) (ts : List ℕ) → forks r ≡ false → TypedOperands p own es ts → (ns : List ℕ) → ((n i : ℕ) → slice_get ns i ≡ Some n → n < length ts) → (before : List (ℕ × Value)) (s : Store) → EachFor p s r ts before → Gives p own s (Evaluated r ts (map place_of before ++ ns)) (meaning.each_operand p call r es before ns)
+  each_sound call r es ts never typed [] below before s h = given_sound p own s _ before (λ u l. (each_stay p s u l r ts before h, none_behind before))
   each_sound call r es ts never typed (n ∷ ns) below before s h =
       let o = operand_at es ts n typed (below n 0 refl) in
-      subst (λ q. Gives p own s (Evaluated ts (map place_of before ++ n ∷ ns)) (there q >>= (λ e. holding_all (map (λ b. Is b.1) before) (meaning.one_actual p call r n e) >>= (λ v. meaning.each_operand p call r es (before ++ v ∷ []) ns)))) (sym o.2)
-      (bind_sound p own s (λ u x. (x.0 ≡ n) × IsOf p u x.1 (slice_get ts x.0)) (Evaluated ts (map place_of before ++ n ∷ ns)) _ _
+      subst (λ q. Gives p own s (Evaluated r ts (map place_of before ++ n ∷ ns)) (there q >>= (λ e. holding_all (map (λ b. Is b.1) before) (meaning.one_actual p call r n e) >>= (λ v. meaning.each_operand p call r es (before ++ v ∷ []) ns)))) (sym o.2)
+      (bind_sound p own s (λ u x. (x.0 ≡ n) × IsFor p u r ts x) (Evaluated r ts (map place_of before ++ n ∷ ns)) _ _
       (holding_all_sound p own s _ (map (λ b. Is b.1) before) (meaning.one_actual p call r n o.0) (one_sound call r n o.0 o.1 ts never o.3 o.4 s))
-      (λ x u l q. subst (λ ms. Gives p own u (Evaluated ts ms) (meaning.each_operand p call r es (before ++ x ∷ []) ns)) (behind before x n ns q.0)
-      (each_sound call r es ts never typed ns (λ m i e. below m (suc i) e) (before ++ x ∷ []) u (each_and p u ts before x (each_stay p s u l ts before h) q.1))))
+      (λ x u l q. subst (λ ms. Gives p own u (Evaluated r ts ms) (meaning.each_operand p call r es (before ++ x ∷ []) ns)) (behind before x n ns q.0)
+      (each_sound call r es ts never typed ns (λ m i e. below m (suc i) e) (before ++ x ∷ []) u (each_and p u r ts before x (each_stay p s u l r ts before h) q.1))))
 
   -- ---- answers
 
@@ -226,17 +250,21 @@ module _ (p : Program) (own : Scope) where
   serving_sound : (at : Pos) (x : asked.Service Thing) (k : Option ℕ) → ((s : Store) (o : Option Thing) → ServiceGives p s x o → ServedFor k s o) → (s : Store) → Gives p own s (IsServed k) (meaning.serving p at x)
   serving_sound at x k h s = bind_sound p own s (λ u a. AnswerFits p u (Serves x) a) (IsServed k) _ _ (acting_sound p own s (Serves x) (λ a. refl)) (λ a u l fits. answered_sound at x k h a u fits)
 
-  passed_sound : (at : Pos) (next : Evaluates Value) (k : ℕ) → ((s : Store) → Gives p own s (Typed p k) next) → (s : Store) → Gives p own s (Typed p k) (meaning.behind_point p at next)
-  passed_sound at next k h s =
+  -- what is computed behind a point
+  passed_from : (at : Pos) (next : Evaluates Value) (k : ℕ) (s : Store) → ((u : Store) → IsLater s u → Gives p own u (Typed p k) next) → Gives p own s (Typed p k) (meaning.behind_point p at next)
+  passed_from at next k s h =
       bind_sound p own s (λ u x. Unit {0}) (Typed p k) _ _
       (bind_sound p own s (λ u a. AnswerFits p u Passes a) (λ u x. Unit {0}) _ _ (acting_sound p own s Passes (λ a. refl)) (λ a u l fits. pass a u fits))
-      (λ x u l q. h u)
+      (λ x u l q. h u l)
     where
       pass : (a : Answer Thing) (s : Store) → AnswerFits p s Passes a → Gives p own s (λ u x. Unit {0}) (meaning.answer_of p at a)
       pass (asked.Gives None) s fits = given_sound p own s _ value.Nil (λ u l. tt)
       pass (asked.Gives (Some x)) s fits = absurd fits
       pass (asked.Raises e n t) s fits = absurd fits
       pass (asked.Fails kind) s fits = absurd fits
+
+  passed_sound : (at : Pos) (next : Evaluates Value) (k : ℕ) → ((s : Store) → Gives p own s (Typed p k) next) → (s : Store) → Gives p own s (Typed p k) (meaning.behind_point p at next)
+  passed_sound at next k h s = passed_from at next k s (λ u l. h u)
 
   -- a text that is made
   text_cell : (s : Store) (c k : ℕ) (bytes : List ℕ) → rules.is_text p k ≡ true → cell_at s c ≡ Some (store.Bytes bytes) → HasType p s (value.Pointer c) k
@@ -474,40 +502,99 @@ module _ (p : Program) (own : Scope) where
       subst (λ a. Gives p own s (Typed p k) (meaning.word_complement p at a)) (sym x.1)
       (passed_sound at (given (value.Ordinal (integers.word_not x.0))) k (λ later. typed_given p own later k (value.Ordinal (integers.word_not x.0)) (integer_typed p later (integers.word_not x.0) k kind (not_is x.0 x.2))) s)
 
+  -- ---- texts that are read
+
+  text_read : (s : Store) (v : Value) (t : ℕ) → rules.reads_text p t ≡ true → HasType p s v t → (v ≡ value.Nil → ⊥) → Gives p own s (λ u bytes. are_bytes bytes ≡ true) (meaning.text p v)
+  text_read s v t fits h some = seeing_sound p own s _ (λ m. bytes_of p m.store v) (λ m l good.
+      let b = text_there p m.store v t (left_true (rules.are_texts p) (rules.is_text p t) fits) good.fair.store (text_node p own (node_of p t) (right_true (rules.are_texts p) (rules.is_text p t) fits)) (type_stays p s m.store l v t h) some in
+      (b.bytes, b.is, b.good))
+
+  equality_sound : (s : Store) (v w : Value) (t u k : ℕ) → ((rules.reads_text p t && rules.reads_text p u) && rule.is_boolean p k) ≡ true → HasType p s v t → (v ≡ value.Nil → ⊥) → HasType p s w u → (w ≡ value.Nil → ⊥) → Gives p own s (Typed p k) (meaning.equal_texts p v w)
+  equality_sound s v w t u k fits h some g other =
+      let both = left_true (rules.reads_text p t && rules.reads_text p u) (rule.is_boolean p k) fits in
+      let truth_is = right_true (rules.reads_text p t && rules.reads_text p u) (rule.is_boolean p k) fits in
+      bind_sound p own s (λ x bytes. are_bytes bytes ≡ true) (Typed p k) _ _ (text_read s v t (left_true (rules.reads_text p t) (rules.reads_text p u) both) h some)
+      (λ bytes x l q. bind_sound p own x (λ y others. are_bytes others ≡ true) (Typed p k) _ _ (text_read x w u (right_true (rules.reads_text p t) (rules.reads_text p u) both) (type_stays p s x l w u g) other)
+      (λ others y m f. truth_given p own y (same_list ◌==◌ bytes others) k truth_is))
+
+  length_sound : (s : Store) (v : Value) (t k : ℕ) → (rules.reads_text p t && rules.takes_length p k) ≡ true → HasType p s v t → (v ≡ value.Nil → ⊥) → Gives p own s (Typed p k) (meaning.length_of p v)
+  length_sound s v t k fits h some =
+      let takes = right_true (rules.reads_text p t) (rules.takes_length p k) fits in
+      bind_sound p own s (λ x bytes. are_bytes bytes ≡ true) (Typed p k) _ _ (text_read s v t (left_true (rules.reads_text p t) (rules.takes_length p k) fits) h some)
+      (λ bytes u l q. typed_given p own u k (number (length bytes))
+      (numbers_is (class_of p k) (left_true (rule.is_ordinal p k) _ takes),
+      within_two p (pos (length bytes)) (Some rules.lengths) (bounds p k) (right_true (rule.is_ordinal p k) _ takes) (count_within (length bytes) (left_true (is_count (length bytes)) _ q))))
+
+  empty_sound : (s : Store) (v : Value) (t k : ℕ) → (rules.reads_text p t && rule.is_boolean p k) ≡ true → HasType p s v t → (v ≡ value.Nil → ⊥) → Gives p own s (Typed p k) (meaning.is_empty p v)
+  empty_sound s v t k fits h some =
+      bind_sound p own s (λ x bytes. are_bytes bytes ≡ true) (Typed p k) _ _ (text_read s v t (left_true (rules.reads_text p t) (rule.is_boolean p k) fits) h some)
+      (λ bytes u l q. truth_given p own u (length bytes == 0) k (right_true (rules.reads_text p t) (rule.is_boolean p k) fits))
+
+  byte_typed : (s : Store) (b k : ℕ) → rules.takes_byte p k ≡ true → is_byte b ≡ true → HasType p s (number b) k
+  byte_typed s b k h is = (numbers_is (class_of p k) (left_true (rule.is_ordinal p k) _ h), within_two p (pos b) (Some rules.bytes) (bounds p k) (right_true (rule.is_ordinal p k) _ h) (byte_within b is))
+
+  given_byte : (s : Store) (at : Pos) (bytes : List ℕ) (i k : ℕ) (o : Option ℕ) → rules.takes_byte p k ≡ true → are_bytes bytes ≡ true → slice_get bytes i ≡ o → Gives p own s (Typed p k) (meaning.or_fault p at (option_map number o))
+  given_byte s at bytes i k None h q e = fault_sound p own s _ fault_kind.Index at
+  given_byte s at bytes i k (Some b) h q e = typed_given p own s k (number b) (byte_typed s b k h (byte_there bytes i b (right_true (is_count (length bytes)) _ q) e))
+
+  byte_taken : (s : Store) (at : Pos) (bytes : List ℕ) (k : ℕ) (o : Option ℕ) → rules.takes_byte p k ≡ true → are_bytes bytes ≡ true → Gives p own s (Typed p k) (meaning.or_fault p at (meaning.byte_at p bytes o))
+  byte_taken s at bytes k None h q = fault_sound p own s _ fault_kind.Index at
+  byte_taken s at bytes k (Some i) h q = given_byte s at bytes i k (slice_get bytes i) h q refl
+
+  byte_sound : (call index : Pos) (s : Store) (v w : Value) (t n k : ℕ) → ((rules.reads_text p t && rule.is_ordinal p n) && rules.takes_byte p k) ≡ true → HasType p s v t → (v ≡ value.Nil → ⊥) → HasType p s w n → Gives p own s (Typed p k) (meaning.byte_in p call index v w)
+  byte_sound call index s v w t n k fits h some g =
+      let both = left_true (rules.reads_text p t && rule.is_ordinal p n) (rules.takes_byte p k) fits in
+      let takes = right_true (rules.reads_text p t && rule.is_ordinal p n) (rules.takes_byte p k) fits in
+      let z = number_of p s w n (right_true (rules.reads_text p t) (rule.is_ordinal p n) both) g in
+      subst (λ x. Gives p own s (Typed p k) (meaning.byte_in p call index v x)) (sym z.1)
+      (bind_sound p own s (λ x bytes. are_bytes bytes ≡ true) (Typed p k) _ _ (text_read s v t (left_true (rules.reads_text p t) (rule.is_ordinal p n) both) h some)
+      (λ bytes u l q. bind_sound p own u (Typed p k) (Typed p k) _ _ (byte_taken u index bytes k (count_of z.0) takes q)
+      (λ b x m f. passed_from call (given b) k x (λ y d. typed_given p own y k b (type_stays p x y d b k f)))))
+
   -- ---- THE TABLE
 
   abbrev Routed : Routine → Pos → Pos → Option ℕ → Store → List Value → Type 0
   Routed r at i k s vs = Gives p own s (IsServed k) (meaning.routine_of p r at i k vs)
 
-  on_none : (r : Routine) (at i : Pos) (k : Option ℕ) (s : Store) (vs : List Value) → AreOf p s vs [] → Routed r at i k s [] → Routed r at i k s vs
+  on_none : (r : Routine) (at i : Pos) (k : Option ℕ) (s : Store) (vs : List Value) → AreFor p s r 0 vs [] → Routed r at i k s [] → Routed r at i k s vs
   on_none r at i k s [] h g = g
   on_none r at i k s (v ∷ vs) h g = absurd h
 
-  on_one : (r : Routine) (at i : Pos) (k : Option ℕ) (s : Store) (vs : List Value) (t : ℕ) → AreOf p s vs (t ∷ []) → ((v : Value) → HasType p s v t → Routed r at i k s (v ∷ [])) → Routed r at i k s vs
-  on_one r at i k s [] t h g = absurd h
-  on_one r at i k s (v ∷ []) t h g = g v h.0
-  on_one r at i k s (v ∷ w ∷ vs) t h g = absurd h.1
+  on_cell : (r : Routine) (at i : Pos) (k : Option ℕ) (s : Store) (vs : List Value) (t : ℕ) → AreFor p s r 0 vs (t ∷ []) → ((v : Value) → HasType p s v t → NoNil r 0 v → Routed r at i k s (v ∷ [])) → Routed r at i k s vs
+  on_cell r at i k s [] t h g = absurd h
+  on_cell r at i k s (v ∷ []) t h g = g v h.0.0 h.0.1
+  on_cell r at i k s (v ∷ w ∷ vs) t h g = absurd h.1
 
-  on_two : (r : Routine) (at i : Pos) (k : Option ℕ) (s : Store) (vs : List Value) (t u : ℕ) → AreOf p s vs (t ∷ u ∷ []) → ((v w : Value) → HasType p s v t → HasType p s w u → Routed r at i k s (v ∷ w ∷ [])) → Routed r at i k s vs
-  on_two r at i k s [] t u h g = absurd h
-  on_two r at i k s (v ∷ []) t u h g = absurd h.1
-  on_two r at i k s (v ∷ w ∷ []) t u h g = g v w h.0 h.1.0
-  on_two r at i k s (v ∷ w ∷ x ∷ vs) t u h g = absurd h.1.1
+  on_one : (r : Routine) (at i : Pos) (k : Option ℕ) (s : Store) (vs : List Value) (t : ℕ) → AreFor p s r 0 vs (t ∷ []) → ((v : Value) → HasType p s v t → Routed r at i k s (v ∷ [])) → Routed r at i k s vs
+  on_one r at i k s vs t h g = on_cell r at i k s vs t h (λ v f some. g v f)
 
-  on_three : (r : Routine) (at i : Pos) (k : Option ℕ) (s : Store) (vs : List Value) (t u m : ℕ) → AreOf p s vs (t ∷ u ∷ m ∷ []) → ((v w x : Value) → Routed r at i k s (v ∷ w ∷ x ∷ [])) → Routed r at i k s vs
+  on_cells : (r : Routine) (at i : Pos) (k : Option ℕ) (s : Store) (vs : List Value) (t u : ℕ) → AreFor p s r 0 vs (t ∷ u ∷ []) → ((v w : Value) → HasType p s v t → NoNil r 0 v → HasType p s w u → NoNil r 1 w → Routed r at i k s (v ∷ w ∷ [])) → Routed r at i k s vs
+  on_cells r at i k s [] t u h g = absurd h
+  on_cells r at i k s (v ∷ []) t u h g = absurd h.1
+  on_cells r at i k s (v ∷ w ∷ []) t u h g = g v w h.0.0 h.0.1 h.1.0.0 h.1.0.1
+  on_cells r at i k s (v ∷ w ∷ x ∷ vs) t u h g = absurd h.1.1
+
+  on_two : (r : Routine) (at i : Pos) (k : Option ℕ) (s : Store) (vs : List Value) (t u : ℕ) → AreFor p s r 0 vs (t ∷ u ∷ []) → ((v w : Value) → HasType p s v t → HasType p s w u → Routed r at i k s (v ∷ w ∷ [])) → Routed r at i k s vs
+  on_two r at i k s vs t u h g = on_cells r at i k s vs t u h (λ v w f some e other. g v w f e)
+
+  on_three : (r : Routine) (at i : Pos) (k : Option ℕ) (s : Store) (vs : List Value) (t u m : ℕ) → AreFor p s r 0 vs (t ∷ u ∷ m ∷ []) → ((v w x : Value) → Routed r at i k s (v ∷ w ∷ x ∷ [])) → Routed r at i k s vs
   on_three r at i k s [] t u m h g = absurd h
   on_three r at i k s (v ∷ []) t u m h g = absurd h.1
   on_three r at i k s (v ∷ w ∷ []) t u m h g = absurd h.1.1
   on_three r at i k s (v ∷ w ∷ x ∷ []) t u m h g = g v w x
   on_three r at i k s (v ∷ w ∷ x ∷ y ∷ vs) t u m h g = absurd h.1.1.1
 
-  table_sound : (r : Routine) (at i : Pos) (ts : List ℕ) (k : Option ℕ) (vs : List Value) (s : Store) → routine_fits p r ts k ≡ true → AreOf p s vs ts → Routed r at i k s vs
+  table_sound : (r : Routine) (at i : Pos) (ts : List ℕ) (k : Option ℕ) (vs : List Value) (s : Store) → routine_fits p r ts k ≡ true → AreFor p s r 0 vs ts → Routed r at i k s vs
   table_sound routine.Put at i (t ∷ []) None vs s fits h = on_one routine.Put at i None s vs t h (λ v g. silent_sound at (asked.Put asked.Text (Is v)) (puts asked.Text (Is v)) s)
   table_sound routine.PutInt at i (t ∷ []) None vs s fits h = on_one routine.PutInt at i None s vs t h (λ v g. silent_sound at (asked.Put asked.Decimal (Is v)) (puts asked.Decimal (Is v)) s)
   table_sound routine.PutChar at i (t ∷ []) None vs s fits h = on_one routine.PutChar at i None s vs t h (λ v g. silent_sound at (asked.Put asked.Byte (Is v)) (puts asked.Byte (Is v)) s)
   table_sound routine.GetChar at i [] (Some k) vs s fits h = on_none routine.GetChar at i (Some k) s vs h (serving_sound at asked.GetByte (Some k) (byte_served k fits) s)
   table_sound routine.EndOfInput at i [] (Some k) vs s fits h = on_none routine.EndOfInput at i (Some k) s vs h (serving_sound at asked.EndOfInput (Some k) (end_served k fits) s)
   table_sound routine.TextCat at i (t ∷ u ∷ []) (Some k) vs s fits h = on_two routine.TextCat at i (Some k) s vs t u h (λ v w a b. text_sound at (Concatenated (Is v) (Is w)) k (joined (Is v) (Is w)) (right_true (rules.is_text p t && rules.is_text p u) (rules.is_text p k) fits) s)
+  table_sound routine.TextEqual at i (t ∷ u ∷ []) (Some k) vs s fits h = on_cells routine.TextEqual at i (Some k) s vs t u h (λ v w a some b other. passed_from at (meaning.equal_texts p v w) k s (λ x l. equality_sound x v w t u k fits (type_stays p s x l v t a) (some refl) (type_stays p s x l w u b) (other refl)))
+  table_sound routine.TextGetChar at i (t ∷ n ∷ []) (Some k) vs s fits h = on_cells routine.TextGetChar at i (Some k) s vs t n h (λ v w a some b other. byte_sound at i s v w t n k fits a (some refl) b)
+  table_sound routine.TextLength at i (t ∷ []) (Some k) vs s fits h = on_cell routine.TextLength at i (Some k) s vs t h (λ v a some. passed_from at (meaning.length_of p v) k s (λ x l. length_sound x v t k fits (type_stays p s x l v t a) (some refl)))
+  table_sound routine.TextEmpty at i (t ∷ []) (Some k) vs s fits h = on_cell routine.TextEmpty at i (Some k) s vs t h (λ v a some. passed_from at (meaning.is_empty p v) k s (λ x l. empty_sound x v t k fits (type_stays p s x l v t a) (some refl)))
   table_sound routine.TextSub at i (t ∷ n ∷ m ∷ []) (Some k) vs s fits h = on_three routine.TextSub at i (Some k) s vs t n m h (λ v w x. text_sound at (Subtext (Is v) (Is w) (Is x)) k (part (Is v) (Is w) (Is x)) (right_true (rules.is_text p t && (rule.is_ordinal p n && rule.is_ordinal p m)) (rules.is_text p k) fits) s)
   table_sound routine.TextFromChar at i (t ∷ []) (Some k) vs s fits h = on_one routine.TextFromChar at i (Some k) s vs t h (λ v g. text_sound at (ByteText (Is v)) k (of_byte (Is v)) (right_true (rule.is_ordinal p t) (rules.is_text p k) fits) s)
   table_sound routine.WordLess at i (t ∷ u ∷ []) (Some k) vs s fits h = on_two routine.WordLess at i (Some k) s vs t u h (λ v w a b. word_tested integers.word_less at t u k s v w fits a b)
@@ -550,5 +637,5 @@ module _ (p : Program) (own : Scope) where
 
   pub routine_sound : (r : Routine) (at : Pos) (es : List Expression) (order ts : List ℕ) (k : Option ℕ) → TypedOperands p own es ts → HasEachNumber (length ts) order → routine_fits p r ts k ≡ true → (s : Store) → Gives p own s (IsServed k) (meaning.routine_call p r at es order k)
   routine_sound r at es order ts k typed each fits s =
-      bind_sound p own s (Evaluated ts order) (IsServed k) _ _ (each_sound at r es ts (no_fork r ts k fits) typed order each.no_other [] s tt)
-      (λ xs u l q. table_sound r at (meaning.second_place p es at) ts k (in_order xs) u fits (ordered p u ts order xs each q.1 q.0))
+      bind_sound p own s (Evaluated r ts order) (IsServed k) _ _ (each_sound at r es ts (no_fork r ts k fits) typed order each.no_other [] s tt)
+      (λ xs u l q. table_sound r at (meaning.second_place p es at) ts k (in_order xs) u fits (ordered p u r ts order xs each q.1 q.0))

@@ -1,6 +1,6 @@
 -- The operations on words give integers.
-use Rattle.std.proofs.Common.{◌≡◌, ◌<◌, ◌≤◌, ◌*◌, ◌+◌, ◌-◌, ◌^◌, ◌/◌, ◌%◌, ℕ, ℤ, zero, suc, pos, negsuc, Bool, true, false, refl, sym, ap, ◌∙◌, subst, arith, pow_pos}
-use Rattle.std.specs.Prelude.{◌&&◌, int_le, bit_and, bit_or, bit_xor}
+use Rattle.std.proofs.Common.{◌≡◌, ◌<◌, ◌*◌, ◌+◌, ◌-◌, ◌^◌, ◌/◌, ◌%◌, ℕ, ℤ, suc, pos, negsuc, true, arith, pow_pos}
+use Rattle.std.specs.Prelude.{bit_and, bit_or, bit_xor}
 use Rattle.std.specs.Int.{rotate_left, bit_not, w64}
 use Rattle.std.proofs.lemmas.Bool.Decides.{nat_tests}
 use Rattle.std.proofs.lemmas.Nat.{and_le_l, or_lt, xor_lt}
@@ -9,6 +9,8 @@ use Rattle.m3_base.specs.Integers.{is_integer, is_integer-exactly}
 use Rattle.m3_base.specs.Words.{signed_of, word_of, add_words, sub_words, mul_words}
 use Rattle.m3_values.specs.Integers as integers
 use Rattle.m3_values.specs.Integers.{shifted, is_between}
+use Rattle.m3_source_typing.specs.ValueTypes.{is_count}
+use Rattle.m3_source_typing.specs.Stores.{is_byte}
 use mir.Facts.{sfits_to_z, Fits-of_lt}
 
 -- the word of an integer is below 2 ^ 64
@@ -30,6 +32,12 @@ divided_below m n h = let most = div-le_self m n in omega arith
 pub integer_within : (z : ℤ) → is_between (negsuc 9223372036854775807) (pos 9223372036854775807) z ≡ true → is_integer z ≡ true
 integer_within (pos n) h = grind (arith, nat_tests)
 integer_within (negsuc n) h = grind (arith, nat_tests)
+
+pub count_within : (n : ℕ) → is_count n ≡ true → is_between (pos 0) (pos 9223372036854775807) (pos n) ≡ true
+count_within n h = grind (arith, nat_tests)
+
+pub byte_within : (n : ℕ) → is_byte n ≡ true → is_between (pos 0) (pos 255) (pos n) ≡ true
+byte_within n h = grind (arith, nat_tests)
 
 -- AN OPERATION OF TWO WORDS gives an integer, of integers
 abbrev pub GivesIntegers : (ℤ → ℤ → ℤ) → Type 0

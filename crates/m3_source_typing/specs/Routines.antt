@@ -1,18 +1,23 @@
--- WHICH ACTUALS FIT A ROUTINE, and the type of what it gives. Those of Text that read bytes, those
--- of Word that give a number, and Fork have no rule yet.
+-- WHICH ACTUALS FIT A ROUTINE, and the type of what it gives. Fork has no rule yet.
 use Rattle.std.specs.Prelude.{ℕ, pos, ◌&&◌, Bool, true, false, List, [], ◌∷◌, Option, Some, None}
+use Rattle.std.specs.List.{list_all}
 use Rattle.m3_core.specs.declared.calls.Routine.{Routine}
 use Rattle.m3_core.specs.declared.calls.Routine.TheVariants as routine
 use Rattle.m3_types.specs.declared.nodes.Secret.TheVariants as secret
 use Rattle.m3_types.specs.declared.nodes.TypeNode.{TypeNode}
 use Rattle.m3_types.specs.declared.nodes.TypeNode.TheVariants as node
+use Rattle.m3_values.specs.Constants.{texts_of}
 use Rattle.m3_values.specs.Programs.{Program}
 use Rattle.m3_values.specs.Types.{Bounds, bounds, node_of}
 use Rattle.m3_source_typing.specs.ValueTypes.{class_of}
+use Rattle.m3_source_typing.specs.Stores.{are_bytes}
 use Rattle.m3_source_typing.specs.Operators.{is_ordinal, is_number, is_integer, is_boolean, is_part, is_references, is_text_in, within_bounds}
 
 abbrev pub bytes : Bounds
 bytes = record { first = pos 0; last = pos 255 }
+
+abbrev pub lengths : Bounds
+lengths = record { first = pos 0; last = pos 9223372036854775807 }
 
 abbrev pub is_any_in : Option TypeNode → Bool
 is_any_in (Some node.RefAny) = true
@@ -25,6 +30,18 @@ is_thread_in _ = false
 module _ (p : Program) where
   abbrev pub is_text : ℕ → Bool
   is_text t = is_text_in (node_of p t)
+
+  -- the texts of the program are texts
+  abbrev pub are_texts : Bool
+  are_texts = list_all are_bytes (texts_of p.texts)
+
+  -- a text whose bytes are read
+  abbrev pub reads_text : ℕ → Bool
+  reads_text t = are_texts && is_text t
+
+  -- how many bytes a text has
+  abbrev pub takes_length : ℕ → Bool
+  takes_length t = is_ordinal p t && within_bounds (Some lengths) (bounds p t)
 
   abbrev pub is_cell : ℕ → Bool
   is_cell t = is_references (class_of p t)
@@ -48,6 +65,12 @@ module _ (p : Program) where
   routine_fits routine.GetChar [] (Some k) = takes_byte k
   routine_fits routine.EndOfInput [] (Some k) = is_boolean p k
   routine_fits routine.TextCat (t ∷ u ∷ []) (Some k) = (is_text t && is_text u) && is_text k
+  routine_fits routine.TextEqual (t ∷ u ∷ []) (Some k) =
+      (reads_text t && reads_text u) && is_boolean p k
+  routine_fits routine.TextGetChar (t ∷ n ∷ []) (Some k) =
+      (reads_text t && is_ordinal p n) && takes_byte k
+  routine_fits routine.TextLength (t ∷ []) (Some k) = reads_text t && takes_length k
+  routine_fits routine.TextEmpty (t ∷ []) (Some k) = reads_text t && is_boolean p k
   routine_fits routine.TextSub (t ∷ n ∷ m ∷ []) (Some k) =
       (is_text t && (is_ordinal p n && is_ordinal p m)) && is_text k
   routine_fits routine.TextFromChar (t ∷ []) (Some k) = is_ordinal p t && is_text k
