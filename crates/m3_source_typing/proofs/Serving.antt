@@ -521,9 +521,10 @@ module _ (p : Program) (own : Scope) where
   length_sound s v t k fits h some =
       let takes = right_true (rules.reads_text p t) (rules.takes_length p k) fits in
       bind_sound p own s (λ x bytes. are_bytes bytes ≡ true) (Typed p k) _ _ (text_read s v t (left_true (rules.reads_text p t) (rules.takes_length p k) fits) h some)
-      (λ bytes u l q. typed_given p own u k (number (length bytes))
-      (numbers_is (class_of p k) (left_true (rule.is_ordinal p k) _ takes),
-      within_two p (pos (length bytes)) (Some rules.lengths) (bounds p k) (right_true (rule.is_ordinal p k) _ takes) (count_within (length bytes) (left_true (is_count (length bytes)) _ q))))
+      (λ bytes u l q. typed_given p own u k (number (length bytes)) (
+        numbers_is (class_of p k) (left_true (rule.is_ordinal p k) _ takes),
+        within_two p (pos (length bytes)) (Some rules.lengths) (bounds p k) (right_true (rule.is_ordinal p k) _ takes) (count_within (length bytes) (left_true (is_count (length bytes)) _ q)),
+      ))
 
   empty_sound : (s : Store) (v : Value) (t k : ℕ) → (rules.reads_text p t && rule.is_boolean p k) ≡ true → HasType p s v t → (v ≡ value.Nil → ⊥) → Gives p own s (Typed p k) (meaning.is_empty p v)
   empty_sound s v t k fits h some =
