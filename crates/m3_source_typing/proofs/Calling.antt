@@ -15,11 +15,10 @@ use Rattle.m3_values.specs.Values as value
 use Rattle.m3_values.specs.Values.{Value}
 use Rattle.m3_values.specs.Arrays.{shape, fits}
 use Rattle.m3_values.specs.Programs.{Program, procedure_at}
-use Rattle.m3_values.specs.Types.{node_of, formals_in, is_open, type_sizes, unveiled}
+use Rattle.m3_values.specs.Types.{node_of, formals_in, is_open, type_sizes}
 use Rattle.m3_values.specs.Methods.{method_place, procedure_of}
 use Rattle.m3_values.specs.Places.{Thing, Is, At}
-use Rattle.m3_values.specs.Store as store
-use Rattle.m3_values.specs.Store.{Cell, Store, cell_at, cell_has_type, has_type, is_text_type, is_thread_type, is_made_type, kind_in, kind_of_object}
+use Rattle.m3_values.specs.Store.{Store, cell_at, has_type, kind_of_object}
 use Rattle.m3_source_meaning.specs.Meanings.{given}
 use Rattle.m3_source_meaning.specs.Phrases.{Here, Expression, Chained, Passing, By_value, By_place, Before}
 use Rattle.m3_source_meaning.specs.Constructors.{numbered, in_order_from, in_order}
@@ -39,7 +38,8 @@ use Rattle.m3_source_typing.proofs.Operands.{right_true}
 use Rattle.m3_source_typing.proofs.Operating.{Typed}
 use Rattle.m3_source_typing.proofs.Places.{IsGiven, given_stays, readable, thing_given}
 use Rattle.m3_source_typing.proofs.Sameness.{share_values}
-use Rattle.m3_source_typing.proofs.Chains.{TypedChain, by_value_sound, references}
+use Rattle.m3_source_typing.proofs.Chains.{TypedChain, by_value_sound}
+use Rattle.m3_source_typing.proofs.Cells.{references, IsKind, kind_there}
 
 -- an actual that is passed as it is
 abbrev pub IsPassed : Passed → Type 0
@@ -182,22 +182,13 @@ module _ (p : Program) (own : Scope) (here : Here) where
 
   -- ---- methods
 
-  abbrev IsKind : ℕ → Store → ℕ → Type 0
-  IsKind t s kind = is_made_type p kind (unveiled p t) (node_of p (unveiled p t)) ≡ true
-
-  kind_there : (t : ℕ) (s : Store) → is_text_type p (node_of p (unveiled p t)) ≡ false → is_thread_type p (node_of p (unveiled p t)) ≡ false → (o : Option Cell) → option_map (cell_has_type p (unveiled p t)) o ≡ Some true → (kind : ℕ) × (option_and_then (kind_in p) o ≡ Some kind) × IsKind t s kind
-  kind_there t s no_text no_thread None h = absurd (let bad : None ≡ Some true = h in cc)
-  kind_there t s no_text no_thread (Some (store.Made kind v holder)) h = let made : Some (is_made_type p kind (unveiled p t) (node_of p (unveiled p t))) ≡ Some true = h in (kind, refl, cc)
-  kind_there t s no_text no_thread (Some (store.Bytes bytes)) h = let bad : Some false ≡ Some true = ap Some (sym no_text) ∙ h in absurd cc
-  kind_there t s no_text no_thread (Some (store.Forked number result is_joined)) h = let bad : Some false ≡ Some true = ap Some (sym no_thread) ∙ h in absurd cc
-
   bound_sound : (at : Pos) (formals : List Formal) (xs : List Passing) (object : Value) (o r : Option ℕ) → TypedPassings p own here xs → ((n : ℕ) → o ≡ Some n → same_result p (result_type p n) r ≡ true) → (s : Store) → Gives p own s (IsGiven p own.holds (given_by r)) (meaning.bound_call p at formals xs object o)
   bound_sound at formals xs object None r typed h s = fault_sound p own s _ fault_kind.Nil at
   bound_sound at formals xs object (Some n) r typed h s = call_with_sound formals (Is object ∷ []) n None xs r typed (h n refl) s
 
   method_of_sound : (at : Pos) (owner m : ℕ) (xs : List Passing) (t c : ℕ) (r : Option ℕ) → HaveMethod p t (method_place p owner m) r → TypedPassings p own here xs → (s : Store) → has_type p s t (value.Pointer c) ≡ Some true → Gives p own s (IsGiven p own.holds (given_by r)) (meaning.method_of p at owner m xs (value.Pointer c))
   method_of_sound at owner m xs t c r have typed s h =
-      bind_sound p own s (IsKind t) _ _ _ (seeing_sound p own s (IsKind t) (λ mem. kind_of_object p mem.store (value.Pointer c)) (λ mem l good. kind_there t mem.store have.no_text have.no_thread (cell_at mem.store c) (reference_stays p s mem.store l c t h)))
+      bind_sound p own s (IsKind p t) _ _ _ (seeing_sound p own s (IsKind p t) (λ mem. kind_of_object p mem.store (value.Pointer c)) (λ mem l good. kind_there p t mem.store have.no_text have.no_thread (cell_at mem.store c) (reference_stays p s mem.store l c t h)))
       (λ kind u l q. bound_sound at _ xs (value.Pointer c) (procedure_of p kind (method_place p owner m)) r typed (λ n e. have.each kind q n e) u)
 
   pub method_call_sound : (at : Pos) (owner m : ℕ) (xs : List Passing) (t : ℕ) (r : Option ℕ) → class_of p t ≡ OfReferences → HaveMethod p t (method_place p owner m) r → TypedPassings p own here xs → (s : Store) (thing : Thing) → IsGiven p own.holds (ValueOf t) s thing → Gives p own s (IsGiven p own.holds (given_by r)) (designators.by_value p here (meaning.method_call p at owner m xs) thing)
@@ -207,4 +198,4 @@ module _ (p : Program) (own : Scope) (here : Here) where
       go v s h = ⊎_elim
           (λ (is : v ≡ value.Nil). subst (λ x. Gives p own s (IsGiven p own.holds (given_by r)) (meaning.method_call p at owner m xs x)) (sym is) (fault_sound p own s _ fault_kind.Nil at))
           (λ w. subst (λ x. Gives p own s (IsGiven p own.holds (given_by r)) (meaning.method_call p at owner m xs x)) (sym w.1) (method_of_sound at owner m xs t w.0 r have typed s w.2))
-          (references p own here s v t c have.no_text have.no_thread h)
+          (references p s v t c have.no_text have.no_thread h)

@@ -1,5 +1,5 @@
 -- The steps of chains, and chains.
-use Rattle.std.proofs.Common.{◌≡◌, ◌⊎◌, inl, inr, ⊎_elim, ◌≤◌, ◌+◌, ℕ, zero, suc, pos, ◌+ℤ◌, ◌<◌, Bool, true, false, List, [], ◌∷◌, length, Option, Some, None, refl, sym, ap, ◌∙◌, subst, arith}
+use Rattle.std.proofs.Common.{◌≡◌, ⊎_elim, ◌≤◌, ◌+◌, ℕ, zero, suc, pos, ◌+ℤ◌, ◌<◌, Bool, true, false, List, [], ◌∷◌, length, Option, Some, None, refl, sym, ap, ◌∙◌, subst, arith}
 use Rattle.std.specs.Prelude.{◌-ℤ◌, nat_le, slice_get}
 use Rattle.std.specs.Option.{option_map, option_map_or, option_and_then}
 use Rattle.std.proofs.lemmas.Bool.Decides.{nat_tests}
@@ -11,10 +11,10 @@ use Rattle.m3_values.specs.Values.{Value}
 use Rattle.m3_values.specs.Integers.{count_of}
 use Rattle.m3_values.specs.Arrays.{shape, count}
 use Rattle.m3_values.specs.Programs.{Program}
-use Rattle.m3_values.specs.Types.{node_of, element, first_index, target_in, object_field, unveiled}
+use Rattle.m3_values.specs.Types.{node_of, element, first_index, target_in, object_field}
 use Rattle.m3_values.specs.Places as place
 use Rattle.m3_values.specs.Places.{Place, Thing, Is, At, whole}
-use Rattle.m3_values.specs.Store.{Store, thing_in, has_type, is_text_type, is_thread_type, read, value_now}
+use Rattle.m3_values.specs.Store.{Store, thing_in, read, value_now}
 use Rattle.m3_source_meaning.specs.Meanings.{Evaluates, given, ◌>>=◌}
 use Rattle.m3_source_meaning.specs.Phrases.{Here, Expression, Chained, Based, Before, Stepped}
 use Rattle.m3_source_meaning.specs.Designators as designators
@@ -24,6 +24,7 @@ use Rattle.m3_source_typing.specs.Sound.{Knows, Alias, Scope, IsPlaceOf, Gives, 
 use Rattle.m3_source_typing.specs.Operators as rule
 use Rattle.m3_source_typing.specs.Expressions.{Given, PlaceOf, ValueOf, ParentsAreObjects, HaveField}
 use Rattle.m3_source_typing.proofs.Staying.{place_stays, and_later}
+use Rattle.m3_source_typing.proofs.Cells.{references}
 use Rattle.m3_source_typing.proofs.Combining.{given_sound, bind_sound, holding_sound, fault_sound, unless_sound, seeing_sound}
 use Rattle.m3_source_typing.proofs.Operands.{number_of}
 use Rattle.m3_source_typing.proofs.Operating.{Typed, typed_given}
@@ -83,18 +84,6 @@ module _ (p : Program) (own : Scope) where
     by_value_sound t g go h s (Is v) q = h v s q
     by_value_sound t g go h s (At to) q = absurd q
 
-    -- the values of a reference type that holds no texts and no threads
-    pub references : (s : Store) (v : Value) (t : ℕ) → class_of p t ≡ OfReferences → is_text_type p (node_of p (unveiled p t)) ≡ false → is_thread_type p (node_of p (unveiled p t)) ≡ false → HasType p s v t → (v ≡ value.Nil) ⊎ ((c : ℕ) × (v ≡ value.Pointer c) × (has_type p s t (value.Pointer c) ≡ Some true))
-    references s value.Nil t c no_text no_thread h = inl refl
-    references s (value.Pointer n) t c no_text no_thread h = inr (n, refl, h.1)
-    references s (value.Text n) t c no_text no_thread h = let bad : Some false ≡ Some true = ap Some (sym no_text) ∙ h.1 in absurd cc
-    references s value.MainThread t c no_text no_thread h = let bad : Some false ≡ Some true = ap Some (sym no_thread) ∙ h.1 in absurd cc
-    references s (value.Ordinal z) t c no_text no_thread h = let bad : true ≡ false = sym (ap rule.is_references c) ∙ ap rule.is_references h.0 in absurd cc
-    references s (value.Procedure q a) t c no_text no_thread h = let bad : true ≡ false = sym (ap rule.is_references c) ∙ ap rule.is_references h.0 in absurd cc
-    references s (value.Members ms) t c no_text no_thread h = let bad : true ≡ false = sym (ap rule.is_references c) ∙ ap rule.is_references h.0 in absurd cc
-    references s (value.Record vs) t c no_text no_thread h = let bad : true ≡ false = sym (ap rule.is_references c) ∙ ap rule.is_references h.0 in absurd cc
-    references s (value.Array below vs) t c no_text no_thread h = let bad : true ≡ false = sym (ap rule.is_references c) ∙ ap rule.is_references h.0 in absurd cc
-
     pub dereference_sound : (at : Pos) (t k : ℕ) → target_in (node_of p t) ≡ Some k → ParentsAreObjects p → (s : Store) (thing : Thing) → IsGiven p own.holds (ValueOf t) s thing → Gives p own s (IsGiven p own.holds (PlaceOf true k)) (designators.by_value p here (designators.dereferenced p here at) thing)
     dereference_sound at t k e objects s thing q = by_value_sound t (PlaceOf true k) (designators.dereferenced p here at) go s thing q
       where
@@ -102,7 +91,7 @@ module _ (p : Program) (own : Scope) where
         go v s h = ⊎_elim
             (λ (is : v ≡ value.Nil). subst (λ x. Gives p own s (IsGiven p own.holds (PlaceOf true k)) (designators.dereferenced p here at x)) (sym is) (fault_sound p own s _ fault_kind.Nil at))
             (λ r. subst (λ x. Gives p own s (IsGiven p own.holds (PlaceOf true k)) (designators.dereferenced p here at x)) (sym r.1) (thing_given p own (PlaceOf true k) s (At (whole (place.Referent r.0))) (referent_place p own.holds objects s r.0 t k e r.2)))
-            (references s v t (ref_class p t k e) (ref_no_text p t k e) (ref_no_thread p t k e) h)
+            (references p s v t (ref_class p t k e) (ref_no_text p t k e) (ref_no_thread p t k e) h)
 
     pub object_field_sound : (at : Pos) (owner n t k : ℕ) → class_of p t ≡ OfReferences → HaveField p t (object_field p owner n) k → HasFixedSizes p k → (s : Store) (thing : Thing) → IsGiven p own.holds (ValueOf t) s thing → Gives p own s (IsGiven p own.holds (PlaceOf true k)) (designators.by_value p here (designators.object_field_of p here at owner n) thing)
     object_field_sound at owner n t k c have fixed s thing q = by_value_sound t (PlaceOf true k) (designators.object_field_of p here at owner n) go s thing q
@@ -111,7 +100,7 @@ module _ (p : Program) (own : Scope) where
         go v s h = ⊎_elim
             (λ (is : v ≡ value.Nil). subst (λ x. Gives p own s (IsGiven p own.holds (PlaceOf true k)) (designators.object_field_of p here at owner n x)) (sym is) (fault_sound p own s _ fault_kind.Nil at))
             (λ r. subst (λ x. Gives p own s (IsGiven p own.holds (PlaceOf true k)) (designators.object_field_of p here at owner n x)) (sym r.1) (thing_given p own (PlaceOf true k) s (At (place.further (whole (place.Referent r.0)) (place.Field (object_field p owner n)))) (object_place p own.holds s r.0 t (object_field p owner n) k have fixed r.2)))
-            (references s v t c have.no_text have.no_thread h)
+            (references p s v t c have.no_text have.no_thread h)
 
     -- ---- elements
 

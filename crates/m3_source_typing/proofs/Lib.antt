@@ -7,6 +7,7 @@ pub mod Constructing
 pub mod Parts
 pub mod Places
 pub mod Referents
+pub mod Cells
 pub mod Chains
 pub mod Calling
 pub mod Words

@@ -1,6 +1,6 @@
 -- Routines and predeclared functions are defined.
 use Rattle.std.proofs.Common.{◌≡◌, ◌⊎◌, inl, inr, ⊎_elim, ◌+◌, ◌<◌, ℕ, ℤ, zero, suc, pos, negsuc, Bool, true, false, List, [], ◌∷◌, ◌++◌, length, map, Option, Some, None, refl, sym, ap, ◌∙◌, subst, arith}
-use Rattle.std.specs.Prelude.{◌==◌, ◌||◌, ◌&&◌, slice_get, int_le, if◌then◌else◌}
+use Rattle.std.specs.Prelude.{◌==◌, ◌||◌, ◌&&◌, not, slice_get, int_le, if◌then◌else◌}
 use Rattle.std.specs.Option.{option_map, option_to_list}
 use Rattle.std.specs.List.{list_any}
 use Rattle.std.proofs.lemmas.Bool.{eqb-true}
@@ -14,7 +14,7 @@ use Rattle.m3_types.specs.declared.nodes.TypeId.{TypeId}
 use Rattle.m3_types.specs.declared.nodes.TypeNode.{TypeNode}
 use Rattle.m3_types.specs.declared.nodes.TypeNode.TheVariants as node
 use Rattle.m3_runs.specs.Languages as asked
-use Rattle.m3_runs.specs.Languages.{Answer, Makes, Serves, Passes, Concatenated, Subtext, ByteText}
+use Rattle.m3_runs.specs.Languages.{Answer, Makes, Forks, Serves, Passes, Concatenated, Subtext, ByteText}
 use Rattle.m3_values.specs.Values as value
 use Rattle.m3_values.specs.Values.{Value, truth, number, same_list}
 use Rattle.m3_values.specs.Integers as integers
@@ -23,22 +23,25 @@ use Rattle.m3_values.specs.Programs.{Program}
 use Rattle.m3_values.specs.Types.{bounds, bounds_in, node_of, unveiled, unveiled_in}
 use Rattle.m3_values.specs.Places.{Thing, Is, At}
 use Rattle.m3_values.specs.Store as store
-use Rattle.m3_values.specs.Store.{Cell, Store, cell_at, cell_has_type, is_text_type, is_thread_type, is_made_type, bytes_of}
+use Rattle.m3_values.specs.Store.{Cell, Store, cell_at, cell_has_type, is_text_type, is_thread_type, is_made_type, bytes_of, kind_of_object}
+use Rattle.m3_values.specs.Methods.{procedure_of}
 use Rattle.m3_source_meaning.specs.Meanings.{Evaluates, given, there, holding_all, ◌>>=◌}
 use Rattle.m3_source_meaning.specs.Phrases.{Expression}
 use Rattle.m3_source_meaning.specs.Operators.{not_nil}
 use Rattle.m3_source_meaning.specs.Constructors.{numbered, in_order_from, in_order}
 use Rattle.m3_source_meaning.specs.Routines as meaning
 use Rattle.m3_source_meaning.specs.Travelling.{argument_type, raised_by}
-use Rattle.m3_source_typing.specs.ValueTypes.{class_in, class_of, IsNumberOf, IsOfNil, HasType, is_count}
+use Rattle.m3_source_typing.specs.ValueTypes.{Class, OfNumbers, OfReferences, OfProcedures, OfSets, OfRecords, OfArrays, NoType, class_in, class_of, IsNumberOf, IsOfNil, HasType, is_count}
 use Rattle.m3_source_typing.specs.Stores.{IsLater, are_bytes, is_byte}
 use Rattle.m3_source_typing.specs.Points.{IsTruth, IsThread, IsThreadCell, IsAnyReference, ServiceGives, IsMade, IsArgument, AnswerFits, new_cell}
 use Rattle.m3_source_typing.specs.Sound.{Scope, Gives, IsOfType}
 use Rattle.m3_source_typing.specs.Operators as rule
+use Rattle.m3_source_typing.specs.Operators.{is_references}
 use Rattle.m3_source_typing.specs.Routines as rules
 use Rattle.m3_source_typing.specs.Routines.{routine_fits, is_any_in, is_thread_in}
 use Rattle.m3_source_typing.specs.Expressions.{given_by, HasEachNumber}
-use Rattle.m3_source_typing.proofs.Staying.{and_later, type_stays}
+use Rattle.m3_source_typing.proofs.Staying.{and_later, type_stays, reference_stays}
+use Rattle.m3_source_typing.proofs.Cells.{references, kind_there}
 use Rattle.m3_source_typing.proofs.Combining.{given_sound, bind_sound, holding_all_sound, fault_sound, acting_sound, raising_sound, seeing_sound}
 use Rattle.m3_source_typing.proofs.Operands.{left_true, right_true, both_true, integer_node, integer_typed, number_of, numbers_is, part_typed, within_two, boolean_node}
 use Rattle.m3_source_typing.proofs.Operating.{Typed, typed_given, truth_given, text_node}
@@ -183,24 +186,54 @@ module _ (p : Program) (own : Scope) where
   divisor_checked known q at routine.WordMod (suc n) v s = zero_checked known q at v s
   divisor_checked known q at _ n v s = given_sound p own s _ tt (λ u l. q)
 
+  -- what is known of the closure of Fork
   abbrev forks : Routine → Bool
   forks routine.Fork = true
   forks _ = false
 
-  closure_checked : (known : Type 0) → known → (r : Routine) (at : Pos) (v : Value) (s : Store) → forks r ≡ false → Gives p own s (λ u x. known) (meaning.apply_check p r at v)
-  closure_checked known q routine.Fork at v s h = absurd (let bad : true ≡ false = h in cc)
+  pub record IsClosureType (t : ℕ) : Type 0 where
+    pub kind : class_of p t ≡ OfReferences
+    pub no_text : is_text_type p (node_of p (unveiled p t)) ≡ false
+    pub no_thread : is_thread_type p (node_of p (unveiled p t)) ≡ false
+
+  -- each actual of Fork is a closure
+  abbrev AreClosures : Routine → List ℕ → Type 0
+  AreClosures r ts = (n t : ℕ) → forks r ≡ true → slice_get ts n ≡ Some t → (n ≡ 0) × IsClosureType t
+
+  apply_sound : (known : Type 0) → known → (at : Pos) (o : Option ℕ) (s : Store) → Gives p own s (λ u x. known) (meaning.bound_method p at o)
+  apply_sound known q at None s = fault_sound p own s _ fault_kind.Nil at
+  apply_sound known q at (Some n) s = given_sound p own s _ tt (λ u l. q)
+
+  object_checked : (known : Type 0) → known → (at : Pos) (v : Value) (t : ℕ) (s : Store) → IsClosureType t → HasType p s v t → (v ≡ value.Nil → ⊥) → Gives p own s (λ u x. known) (meaning.apply_check p routine.Fork at v)
+  object_checked known q at v t s is h some = ⊎_elim
+      (λ (e : v ≡ value.Nil). absurd (some e))
+      (λ w. subst (λ x. Gives p own s (λ u y. known) (meaning.apply_check p routine.Fork at x)) (sym w.1)
+      (bind_sound p own s (λ u kind. Unit {0}) _ _ _ (seeing_sound p own s (λ u kind. Unit {0}) (λ m. kind_of_object p m.store (value.Pointer w.0))
+      (λ m l good. let k = kind_there p t m.store is.no_text is.no_thread (cell_at m.store w.0) (reference_stays p s m.store l w.0 t w.2) in (k.0, k.1, tt)))
+      (λ kind u l f. apply_sound known q at (procedure_of p kind 0) u)))
+      (references p s v t is.kind is.no_text is.no_thread h)
+
+  closure_checked : (known : Type 0) → known → (r : Routine) (at : Pos) (v : Value) (s : Store) → (forks r ≡ true → (t : ℕ) × IsClosureType t × HasType p s v t × (v ≡ value.Nil → ⊥)) → Gives p own s (λ u x. known) (meaning.apply_check p r at v)
+  closure_checked known q routine.Fork at v s h = let f = h refl in object_checked known q at v f.0 s f.1 f.2 f.3
   closure_checked known q _ at v s h = given_sound p own s _ tt (λ u l. q)
 
-  one_sound : (call : Pos) (r : Routine) (n : ℕ) (e : Expression) (t : ℕ) (ts : List ℕ) → forks r ≡ false → slice_get ts n ≡ Some t → IsOfType p own e t → (s : Store) → Gives p own s (λ u x. (x.0 ≡ n) × IsFor p u r ts x) (meaning.one_actual p call r n e)
-  one_sound call r n e t ts never at_place is s =
+  fork_wants : (r : Routine) (n : ℕ) → forks r ≡ true → n ≡ 0 → meaning.wants_cell r n ≡ true
+  fork_wants routine.Fork n h e = ap (λ m. m == 0) e
+  fork_wants _ n h e = absurd (let bad : false ≡ true = h in cc)
+
+  one_sound : (call : Pos) (r : Routine) (n : ℕ) (e : Expression) (t : ℕ) (ts : List ℕ) → AreClosures r ts → slice_get ts n ≡ Some t → IsOfType p own e t → (s : Store) → Gives p own s (λ u x. (x.0 ≡ n) × IsFor p u r ts x) (meaning.one_actual p call r n e)
+  one_sound call r n e t ts closures at_place is s =
       bind_sound p own s (Typed p t) _ _ _ (is.value s)
-      (λ v u l q. bind_sound p own u (λ w x. NoNil r n v) _ _ _ (checked call r n e.pos v never u)
+      (λ v u l q. bind_sound p own u (λ w x. NoNil r n v) _ _ _ (checked e.pos v u q)
       (λ x w k f. given_sound p own w _ (n, v) (λ y m. (refl, (subst (IsOf p y v) (sym at_place) (type_stays p u y (and_later u w y k m) v t q), f)))))
     where
-      checked : (call : Pos) (r : Routine) (n : ℕ) (at : Pos) (v : Value) → forks r ≡ false → (s : Store) → Gives p own s (λ u x. NoNil r n v) (meaning.checked_actual p call r n at v)
-      checked call r n at v never s =
-          bind_sound p own s (λ u x. NoNil r n v) _ _ _ (bind_sound p own s (λ u x. NoNil r n v) (λ u x. NoNil r n v) _ _ (cell_checked (meaning.wants_cell r n) at v s) (λ x u l q. divisor_checked (NoNil r n v) q call r n v u))
-          (λ x u l q. closure_checked (NoNil r n v) q r at v u never)
+      closure : (v : Value) (s : Store) → HasType p s v t → NoNil r n v → forks r ≡ true → (t : ℕ) × IsClosureType t × HasType p s v t × (v ≡ value.Nil → ⊥)
+      closure v s q f h = let c = closures n t h at_place in (t, c.1, q, f (fork_wants r n h c.0))
+
+      checked : (at : Pos) (v : Value) (s : Store) → HasType p s v t → Gives p own s (λ u x. NoNil r n v) (meaning.checked_actual p call r n at v)
+      checked at v s q =
+          bind_sound p own s (λ u x. NoNil r n v) _ _ _ (bind_sound p own s (λ u x. NoNil r n v) (λ u x. NoNil r n v) _ _ (cell_checked (meaning.wants_cell r n) at v s) (λ x u l f. divisor_checked (NoNil r n v) f call r n v u))
+          (λ x u l f. closure_checked (NoNil r n v) f r at v u (closure v u (type_stays p s u l v t q) f))
 
   behind : (xs : List (ℕ × Value)) (x : ℕ × Value) (n : ℕ) (ns : List ℕ) → x.0 ≡ n → map place_of (xs ++ x ∷ []) ++ ns ≡ map place_of xs ++ n ∷ ns
   behind [] x n ns e = ap (λ m. m ∷ ns) e
@@ -213,15 +246,15 @@ module _ (p : Program) (own : Scope) where
   abbrev Evaluated : Routine → List ℕ → List ℕ → Store → List (ℕ × Value) → Type 0
   Evaluated r ts ns s xs = EachFor p s r ts xs × (map place_of xs ≡ ns)
 
-  each_sound : (call : Pos) (r : Routine) (es : List Expression) (ts : List ℕ) → forks r ≡ false → TypedOperands p own es ts → (ns : List ℕ) → ((n i : ℕ) → slice_get ns i ≡ Some n → n < length ts) → (before : List (ℕ × Value)) (s : Store) → EachFor p s r ts before → Gives p own s (Evaluated r ts (map place_of before ++ ns)) (meaning.each_operand p call r es before ns)
-  each_sound call r es ts never typed [] below before s h = given_sound p own s _ before (λ u l. (each_stay p s u l r ts before h, none_behind before))
-  each_sound call r es ts never typed (n ∷ ns) below before s h =
+  each_sound : (call : Pos) (r : Routine) (es : List Expression) (ts : List ℕ) → AreClosures r ts → TypedOperands p own es ts → (ns : List ℕ) → ((n i : ℕ) → slice_get ns i ≡ Some n → n < length ts) → (before : List (ℕ × Value)) (s : Store) → EachFor p s r ts before → Gives p own s (Evaluated r ts (map place_of before ++ ns)) (meaning.each_operand p call r es before ns)
+  each_sound call r es ts closures typed [] below before s h = given_sound p own s _ before (λ u l. (each_stay p s u l r ts before h, none_behind before))
+  each_sound call r es ts closures typed (n ∷ ns) below before s h =
       let o = operand_at es ts n typed (below n 0 refl) in
       subst (λ q. Gives p own s (Evaluated r ts (map place_of before ++ n ∷ ns)) (there q >>= (λ e. holding_all (map (λ b. Is b.1) before) (meaning.one_actual p call r n e) >>= (λ v. meaning.each_operand p call r es (before ++ v ∷ []) ns)))) (sym o.2)
       (bind_sound p own s (λ u x. (x.0 ≡ n) × IsFor p u r ts x) (Evaluated r ts (map place_of before ++ n ∷ ns)) _ _
-      (holding_all_sound p own s _ (map (λ b. Is b.1) before) (meaning.one_actual p call r n o.0) (one_sound call r n o.0 o.1 ts never o.3 o.4 s))
+      (holding_all_sound p own s _ (map (λ b. Is b.1) before) (meaning.one_actual p call r n o.0) (one_sound call r n o.0 o.1 ts closures o.3 o.4 s))
       (λ x u l q. subst (λ ms. Gives p own u (Evaluated r ts ms) (meaning.each_operand p call r es (before ++ x ∷ []) ns)) (behind before x n ns q.0)
-      (each_sound call r es ts never typed ns (λ m i e. below m (suc i) e) (before ++ x ∷ []) u (each_and p u r ts before x (each_stay p s u l r ts before h) q.1))))
+      (each_sound call r es ts closures typed ns (λ m i e. below m (suc i) e) (before ++ x ∷ []) u (each_and p u r ts before x (each_stay p s u l r ts before h) q.1))))
 
   -- ---- answers
 
@@ -406,6 +439,16 @@ module _ (p : Program) (own : Scope) where
       thread_value k bound is bare s (value.Members ms) g = absurd g
       thread_value k bound is bare s (value.Record vs) g = absurd g
       thread_value k bound is bare s (value.Array below vs) g = absurd g
+
+  fork_answer : (at : Pos) (closure : Thing) (k : ℕ) → is_thread_in (node_of p k) ≡ true → (a : Answer Thing) (s : Store) → AnswerFits p s (Forks closure) a → Gives p own s (Typed p k) (meaning.answer_of p at a)
+  fork_answer at closure k h (asked.Gives (Some (Is v))) s fits = typed_given p own s k v (thread_typed k h s v fits)
+  fork_answer at closure k h (asked.Gives None) s fits = absurd fits
+  fork_answer at closure k h (asked.Gives (Some (At place))) s fits = absurd fits
+  fork_answer at closure k h (asked.Raises e n t) s fits = absurd fits
+  fork_answer at closure k h (asked.Fails kind) s fits = absurd fits
+
+  forks_sound : (at : Pos) (closure : Thing) (k : ℕ) → is_thread_in (node_of p k) ≡ true → (s : Store) → Gives p own s (Typed p k) (meaning.asking p at (Forks closure))
+  forks_sound at closure k h s = bind_sound p own s (λ u a. AnswerFits p u (Forks closure) a) (Typed p k) _ _ (acting_sound p own s (Forks closure) (λ a. refl)) (λ a u l fits. fork_answer at closure k h a u fits)
 
   self_served : (k : ℕ) → is_thread_in (node_of p k) ≡ true → (s : Store) (o : Option Thing) → ServiceGives p s asked.MySelf o → ServedFor (Some k) s o
   self_served k h s None g = absurd g
@@ -613,6 +656,7 @@ module _ (p : Program) (own : Scope) where
   table_sound routine.WordShift at i (t ∷ u ∷ []) (Some k) vs s fits h = on_two routine.WordShift at i (Some k) s vs t u h (λ v w a b. word_computed integers.word_shift shift_is at t u k s v w fits a b)
   table_sound routine.WordRotate at i (t ∷ u ∷ []) (Some k) vs s fits h = on_two routine.WordRotate at i (Some k) s vs t u h (λ v w a b. word_computed integers.word_rotate rotation_is at t u k s v w fits a b)
   table_sound routine.WordNot at i (t ∷ []) (Some k) vs s fits h = on_one routine.WordNot at i (Some k) s vs t h (λ v g. word_complemented at t k s v fits g)
+  table_sound routine.Fork at i (t ∷ []) (Some k) vs s fits h = on_one routine.Fork at i (Some k) s vs t h (λ v g. forks_sound at (Is v) k (right_true (rules.is_object p t) (is_thread_in (node_of p k)) fits) s)
   table_sound routine.Join at i (t ∷ []) (Some k) vs s fits h = on_one routine.Join at i (Some k) s vs t h (λ v g. serving_sound at (asked.Join (Is v) false) (Some k) (join_served k (right_true (rules.is_cell p t) (is_any_in (node_of p k)) fits) (Is v) false) s)
   table_sound routine.AlertJoin at i (t ∷ []) (Some k) vs s fits h = on_one routine.AlertJoin at i (Some k) s vs t h (λ v g. serving_sound at (asked.Join (Is v) true) (Some k) (join_served k (right_true (rules.is_cell p t) (is_any_in (node_of p k)) fits) (Is v) true) s)
   table_sound routine.Wait at i (m ∷ c ∷ []) None vs s fits h = on_two routine.Wait at i None s vs m c h (λ v w a b. silent_sound at (asked.Wait (Is v) (Is w) false) (waits (Is v) (Is w) false) s)
@@ -632,11 +676,42 @@ module _ (p : Program) (own : Scope) where
       subst (λ x. Routed routine.Val at i (Some k) s (x ∷ [])) (sym z.1) (range_sound p own at k z.0 s (right_true (rule.is_ordinal p t) (rule.is_ordinal p k) fits)))
   table_sound r at i ts k vs s fits h = absurd (let bad : false ≡ true = fits in cc)
 
-  no_fork : (r : Routine) (ts : List ℕ) (k : Option ℕ) → routine_fits p r ts k ≡ true → forks r ≡ false
-  no_fork routine.Fork ts k h = absurd (let bad : false ≡ true = h in cc)
-  no_fork _ ts k h = refl
+  not_true : (b : Bool) → not b ≡ true → b ≡ false
+  not_true false h = refl
+  not_true true h = absurd (let bad : false ≡ true = h in cc)
+
+  references_is : (c : Class) → is_references c ≡ true → c ≡ OfReferences
+  references_is OfReferences h = refl
+  references_is OfNumbers h = absurd (let bad : false ≡ true = h in cc)
+  references_is OfProcedures h = absurd (let bad : false ≡ true = h in cc)
+  references_is OfSets h = absurd (let bad : false ≡ true = h in cc)
+  references_is OfRecords h = absurd (let bad : false ≡ true = h in cc)
+  references_is OfArrays h = absurd (let bad : false ≡ true = h in cc)
+  references_is NoType h = absurd (let bad : false ≡ true = h in cc)
+
+  closure_type : (t : ℕ) → rules.is_object p t ≡ true → IsClosureType t
+  closure_type t h =
+      let rest = right_true (rules.is_cell p t) (not (is_text_type p (node_of p (unveiled p t))) && not (is_thread_type p (node_of p (unveiled p t)))) h in
+      record {
+        kind = references_is (class_of p t) (left_true (rules.is_cell p t) _ h);
+        no_text = not_true (is_text_type p (node_of p (unveiled p t))) (left_true (not (is_text_type p (node_of p (unveiled p t)))) (not (is_thread_type p (node_of p (unveiled p t)))) rest);
+        no_thread = not_true (is_thread_type p (node_of p (unveiled p t))) (right_true (not (is_text_type p (node_of p (unveiled p t)))) (not (is_thread_type p (node_of p (unveiled p t)))) rest);
+      }
+
+  first_alone : (t : ℕ) (ts : List ℕ) (n u : ℕ) → slice_get (t ∷ []) n ≡ Some u → (n ≡ 0) × (t ≡ u)
+  first_alone t ts zero u e = (refl, cc)
+  first_alone t ts (suc n) u e = absurd (let bad : None ≡ Some u = e in cc)
+
+  are_closures : (r : Routine) (ts : List ℕ) (k : Option ℕ) → routine_fits p r ts k ≡ true → AreClosures r ts
+  are_closures routine.Fork (t ∷ []) (Some k) fits n u h e =
+      let one = first_alone t [] n u e in
+      (one.0, subst IsClosureType one.1 (closure_type t (left_true (rules.is_object p t) _ fits)))
+  are_closures routine.Fork [] k fits n u h e = absurd (let bad : false ≡ true = fits in cc)
+  are_closures routine.Fork (t ∷ []) None fits n u h e = absurd (let bad : false ≡ true = fits in cc)
+  are_closures routine.Fork (t ∷ v ∷ ts) k fits n u h e = absurd (let bad : false ≡ true = fits in cc)
+  are_closures _ ts k fits n u h e = absurd (let bad : false ≡ true = h in cc)
 
   pub routine_sound : (r : Routine) (at : Pos) (es : List Expression) (order ts : List ℕ) (k : Option ℕ) → TypedOperands p own es ts → HasEachNumber (length ts) order → routine_fits p r ts k ≡ true → (s : Store) → Gives p own s (IsServed k) (meaning.routine_call p r at es order k)
   routine_sound r at es order ts k typed each fits s =
-      bind_sound p own s (Evaluated r ts order) (IsServed k) _ _ (each_sound at r es ts (no_fork r ts k fits) typed order each.no_other [] s tt)
+      bind_sound p own s (Evaluated r ts order) (IsServed k) _ _ (each_sound at r es ts (are_closures r ts k fits) typed order each.no_other [] s tt)
       (λ xs u l q. table_sound r at (meaning.second_place p es at) ts k (in_order xs) u fits (ordered p u r ts order xs each q.1 q.0))

@@ -1,5 +1,5 @@
--- WHICH ACTUALS FIT A ROUTINE, and the type of what it gives. Fork has no rule yet.
-use Rattle.std.specs.Prelude.{ℕ, pos, ◌&&◌, Bool, true, false, List, [], ◌∷◌, Option, Some, None}
+-- WHICH ACTUALS FIT A ROUTINE, and the type of what it gives.
+use Rattle.std.specs.Prelude.{ℕ, pos, ◌&&◌, not, Bool, true, false, List, [], ◌∷◌, Option, Some, None}
 use Rattle.std.specs.List.{list_all}
 use Rattle.m3_core.specs.declared.calls.Routine.{Routine}
 use Rattle.m3_core.specs.declared.calls.Routine.TheVariants as routine
@@ -8,7 +8,8 @@ use Rattle.m3_types.specs.declared.nodes.TypeNode.{TypeNode}
 use Rattle.m3_types.specs.declared.nodes.TypeNode.TheVariants as node
 use Rattle.m3_values.specs.Constants.{texts_of}
 use Rattle.m3_values.specs.Programs.{Program}
-use Rattle.m3_values.specs.Types.{Bounds, bounds, node_of}
+use Rattle.m3_values.specs.Types.{Bounds, bounds, node_of, unveiled}
+use Rattle.m3_values.specs.Store.{is_text_type, is_thread_type}
 use Rattle.m3_source_typing.specs.ValueTypes.{class_of}
 use Rattle.m3_source_typing.specs.Stores.{are_bytes}
 use Rattle.m3_source_typing.specs.Operators.{is_ordinal, is_number, is_integer, is_boolean, is_part, is_references, is_text_in, within_bounds}
@@ -45,6 +46,12 @@ module _ (p : Program) where
 
   abbrev pub is_cell : ℕ → Bool
   is_cell t = is_references (class_of p t)
+
+  -- an object: no cell that is a value of the type is a text or a thread
+  abbrev pub is_object : ℕ → Bool
+  is_object t =
+      is_cell t && (not (is_text_type p (node_of p (unveiled p t)))
+      && not (is_thread_type p (node_of p (unveiled p t))))
 
   abbrev pub takes_byte : ℕ → Bool
   takes_byte t = is_ordinal p t && within_bounds (Some bytes) (bounds p t)
@@ -93,6 +100,7 @@ module _ (p : Program) where
   routine_fits routine.WordShift (t ∷ u ∷ []) (Some k) = words_fit t u k
   routine_fits routine.WordRotate (t ∷ u ∷ []) (Some k) = words_fit t u k
   routine_fits routine.WordNot (t ∷ []) (Some k) = words_fit t t k
+  routine_fits routine.Fork (t ∷ []) (Some k) = is_object t && is_thread_in (node_of p k)
   routine_fits routine.Join (t ∷ []) (Some k) = is_cell t && is_any_in (node_of p k)
   routine_fits routine.AlertJoin (t ∷ []) (Some k) = is_cell t && is_any_in (node_of p k)
   routine_fits routine.Wait (m ∷ c ∷ []) None = is_cell m && is_cell c
