@@ -73,7 +73,7 @@ use Rattle.m3_values.specs.Types.{elements as elements_of}
 use Rattle.m3_source_meaning.specs.Constructors as constructors
 use Rattle.m3_source_typing.specs.Expressions.{AreElementsOf, count_fits}
 use Rattle.m3_source_typing.proofs.Rowing as rowing
-use Rattle.m3_source_typing.proofs.Rowing.{TypedRowOf, array_form}
+use Rattle.m3_source_typing.proofs.Rowing.{TypedRowOf, array_form, empty_form}
 use Rattle.std.proofs.Common.{◌-◌, arith}
 use Rattle.m3_core.specs.declared.program.ProcDef.{ProcDef}
 use Rattle.m3_source_meaning.specs.Designators.{activation_at, outwards}
@@ -279,6 +279,10 @@ module _ (p : Program) (own : Scope) (here : Here) where
         subst (λ e. IsOfType p own e kind.0) (sym (trees.expression_is p here (layer.ArrayOf at kind elements is_filled)))
         (plain_typed at kind _ (λ s. subst (λ xs. Gives p own s (Typed p kind.0) (constructors.array_value p kind.0 (map (expression p here) xs) is_filled)) (sym row)
         (array_form p own kind.0 e size is_filled (expression p here first) (map (expression p here) rest) arrays of sizes (subst (λ xs. TypedRowOf p own e (map (expression p here) xs)) row (row_of_typed e elements.now all)) (subst (λ n. count_fits is_filled size (elements_of p kind.0) (suc n) ≡ true) (sym (length-map rest (expression p here))) (subst (λ (xs : List CoreExpr). count_fits is_filled size (elements_of p kind.0) (length xs) ≡ true) row fits)) s)))
+    expression_sound _ _ (typed.empty_array at kind elements e size row arrays of sizes said fits) =
+        subst (λ e. IsOfType p own e kind.0) (sym (trees.expression_is p here (layer.ArrayOf at kind elements false)))
+        (plain_typed at kind _ (λ s. subst (λ xs. Gives p own s (Typed p kind.0) (constructors.array_value p kind.0 (map (expression p here) xs) false)) (sym row)
+        (empty_form p own kind.0 e size arrays of sizes said fits s)))
     expression_sound _ _ (typed.new_cell at kind made sizes bindings us no_sizes bound class is content) =
         subst (λ e. IsOfType p own e kind.0) (sym (trees.expression_is p here (layer.New at kind made sizes bindings)))
         (plain_typed at kind _ (λ s. subst (λ xs. Gives p own s (Typed p kind.0) (constructors.new_cell p made.0 (map (expression p here) xs) (map (trees.binding p here) bindings.now))) (sym no_sizes)

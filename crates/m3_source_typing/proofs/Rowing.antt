@@ -6,6 +6,7 @@ use Rattle.std.proofs.lemmas.Bool.Decides.{nat_tests}
 use Rattle.std.proofs.lemmas.List.{length-append, length-replicate, length-take-le}
 use Rattle.m3_base.specs.declared.outcomes.FaultKind.TheVariants as fault_kind
 use Rattle.m3_base.specs.declared.places.Pos.{Pos}
+use Rattle.m3_values.specs.Values as value
 use Rattle.m3_values.specs.Values.{Value, items, row_of}
 use Rattle.m3_values.specs.Arrays.{shape, last_of, up_to, same_shape, array_of as array_of_values}
 use Rattle.m3_values.specs.Programs.{Program}
@@ -152,3 +153,16 @@ module _ (p : Program) (own : Scope) where
   array_form kind e o is_filled x xs c is sizes typed fits s =
       bind_sound p own s (RowOf e (length (x ∷ xs))) (Typed p kind) _ _ (each_sound e (x ∷ xs) typed [] (length (x ∷ xs)) s tt (omega arith))
       (λ vs u l q. typed_given p own u kind (array_of_values (below_type p (element p kind)) (meaning.filled is_filled (elements p kind) vs)) (finished u kind e o is_filled (length xs) vs c is sizes fits q.1 q.0))
+
+  -- an array without elements
+  pub empty_form : (kind e : ℕ) (o : Option ℕ) → class_of p kind ≡ OfArrays → element p kind ≡ Some e → type_sizes p kind ≡ o ∷ type_sizes p e → has_sizes (type_sizes p e) (below_type p (Some e)) ≡ true → count_fits false o (elements p kind) 0 ≡ true → (s : Store) → Gives p own s (Typed p kind) (meaning.array_value p kind [] false)
+  empty_form kind e o c is sizes said fits s =
+      bind_sound p own s (λ u vs. vs ≡ []) (Typed p kind) _ _ (given_sound p own s _ [] (λ u l. refl))
+      (λ vs u l q. subst (λ xs. Gives p own u (Typed p kind) (given (array_of_values (below_type p (element p kind)) (meaning.filled false (elements p kind) xs)))) (sym q)
+      (typed_given p own u kind (array_of_values (below_type p (element p kind)) []) (c, subst (AreElements p u value.End (below_type p (element p kind))) (sym is) tt, shaped)))
+    where
+      whole_shape : has_sizes (o ∷ type_sizes p e) (0 ∷ below_type p (Some e)) ≡ true
+      whole_shape = size_fits p o (elements p kind) 0 (type_sizes p e) (below_type p (Some e)) said fits
+
+      shaped : has_sizes (type_sizes p kind) (0 ∷ below_type p (element p kind)) ≡ true
+      shaped = subst (λ b. has_sizes (type_sizes p kind) (0 ∷ below_type p b) ≡ true) (sym is) (subst (λ xs. has_sizes xs (0 ∷ below_type p (Some e)) ≡ true) (sym sizes) whole_shape)

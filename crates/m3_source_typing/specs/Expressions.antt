@@ -38,8 +38,8 @@ use Rattle.m3_values.specs.Store.{Store, is_text_type, is_thread_type, is_made_t
 use Rattle.m3_source_meaning.specs.Phrases.{Here}
 use Rattle.m3_source_meaning.specs.Designators.{is_own}
 use Rattle.m3_source_meaning.specs.Assignment.{type_of_variable}
-use Rattle.m3_values.specs.Types.{Bounds, bounds, node_of, index_in, type_sizes, element, elements as elements_of, target_in, formals_in, is_open, parent, is_object_in, unveiled, kind_of, object_fields, object_field as field_of_object, is_same}
-use Rattle.m3_source_typing.specs.ValueTypes.{OfReferences, OfProcedures, OfRecords, OfArrays, HasType, HasFixedSizes, class_of, member_in, record_fields, result_in, same_result, called_alike, is_count, IsOfNil, IsNumberOf, IsProcedureOf}
+use Rattle.m3_values.specs.Types.{Bounds, bounds, node_of, index_in, type_sizes, below_type, element, elements as elements_of, target_in, formals_in, is_open, parent, is_object_in, unveiled, kind_of, object_fields, object_field as field_of_object, is_same}
+use Rattle.m3_source_typing.specs.ValueTypes.{has_sizes, OfReferences, OfProcedures, OfRecords, OfArrays, HasType, HasFixedSizes, class_of, member_in, record_fields, result_in, same_result, called_alike, is_count, IsOfNil, IsNumberOf, IsProcedureOf}
 use Rattle.m3_source_meaning.specs.Constructors.{first_content, cell_field}
 use Rattle.m3_source_typing.specs.Stores.{IsContentOf}
 use Rattle.m3_source_typing.specs.Routines.{routine_fits}
@@ -244,6 +244,13 @@ module _ (p : Program) (here : Here) (own : Scope) where
           → AreElementsOf e elements.now
           → count_fits is_filled size (elements_of p kind.0) (length elements.now) ≡ true
           → IsExpression (roll-CoreExpr (layer.ArrayOf at kind elements is_filled)) kind.0
+      -- an array without elements, where the type says which shape they would have
+      empty_array : (at : Pos) (kind : TypeId) (elements : Bor (List CoreExpr)) (e : ℕ)
+          (size : Option ℕ) → elements.now ≡ [] → class_of p kind.0 ≡ OfArrays
+          → element p kind.0 ≡ Some e → type_sizes p kind.0 ≡ size ∷ type_sizes p e
+          → has_sizes (type_sizes p e) (below_type p (Some e)) ≡ true
+          → count_fits false size (elements_of p kind.0) 0 ≡ true
+          → IsExpression (roll-CoreExpr (layer.ArrayOf at kind elements false)) kind.0
       -- NEW without sizes
       new_cell : (at : Pos) (kind made : TypeId) (sizes : Bor (List CoreExpr))
           (bindings : Bor (List Binding)) (us : List ℕ) → sizes.now ≡ []
