@@ -37,7 +37,7 @@ pub fn judged<'a>(
 ) -> Result<Verdict<'a>, AllocError>
     ensures follows { IfOk result (λ v. FollowsRun p.now v.proc) }
     ensures given_back { IfOk result (λ v. v.is_refused ≡ true → v.proc ≡ p.now) }
-    ensures accepted { IfOk result (λ v. v.is_refused ≡ false → v.proc ≡ written) }
+    ensures accepted { IfOk result (λ v. v.is_refused ≡ false → v.proc ≡ written.entry) }
 {
     if have_same_run(alloc, p, &written, common, proof)? {
         Ok(Verdict {
