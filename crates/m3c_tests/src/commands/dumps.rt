@@ -39,14 +39,17 @@ BEGIN EVAL S(NIL, NIL, 0) + T(NIL, NIL, 0) END Main.";
 pub fn try_dumps(rt: &(impl Print + AllocGlobal)) -> io::Result<()> {
     let mut tally = Tally::new();
     let dump = dumped(rt.alloc(), SUM)?;
-    let is_right = keeps_a_register(dump.as_str(), "proc 2 ");
+    let rows = turns(rt.alloc(), dump.as_str(), "proc 2 ")?;
+    let is_right = rows.iter().any(|row| row.split_once(" r").is_some());
     tally.count(
         rt,
         "a reference in a register at the end of a turn",
         is_right,
     )?;
-    let is_right = !keeps_a_register(dump.as_str(), "proc 0 ");
-    tally.count(rt, "no turn where no loop is", is_right)?;
+    let is_right = rows.iter().any(|row| moves_along(row));
+    tally.count(rt, "an address that moves along", is_right)?;
+    let rows = turns(rt.alloc(), dump.as_str(), "proc 0 ")?;
+    tally.count(rt, "no turn where no loop is", rows.is_empty())?;
     let dump = dumped(rt.alloc(), ARMS)?;
     let is_right = has_two_ways(dump.as_str(), "proc 3 ");
     tally.count(rt, "one call for both arms, with two origins", is_right)?;
@@ -64,22 +67,29 @@ fn dumped(alloc: Global, text: &[u8]) -> io::Result<String> {
     Ok(text_of(alloc, answer.out.bytes())?)
 }
 
-/// Whether the row of a POINT of a procedure names a register, by the lines of a dump from the
-/// procedure's own on.
-fn keeps_a_register(dump: &str, head: &str) -> bool {
+/// Whether a row lists a derived word with a base that is added.
+fn moves_along(row: &str) -> bool {
+    match row.split_once(" D ") {
+        Some((_, derived)) => derived.split_once("=+").is_some(),
+        None => false,
+    }
+}
+
+/// The rows of the POINTs of a procedure, by the lines of a dump from the procedure's own on.
+fn turns<'d>(alloc: Global, dump: &'d str, head: &str) -> io::Result<Vec<&'d str>> {
+    let mut rows = Vec::new(alloc);
     let mut is_inside = false;
     let mut is_behind_point = false;
     for line in dump.lines() {
         if line.starts_with("proc ") {
             is_inside = line.starts_with(head);
         }
-        let is_row = is_inside && is_behind_point && line.starts_with("point ");
-        if is_row && line.split_once(" r").is_some() {
-            return true;
+        if is_inside && is_behind_point && line.starts_with("point ") {
+            rows.push(line)?;
         }
         is_behind_point = line.split(' ').nth(1) == Some("POINT");
     }
-    false
+    Ok(rows)
 }
 
 /// Whether a row of a procedure has an entry with two ways, told apart by a path variable.

@@ -1,0 +1,14 @@
+//! Addresses that move along: where a loop counts a variable, the address of an element that goes
+//! with it stands in a temporary, to which each turn adds a number.
+#![tactic(auto)]
+
+mod accesses;
+mod loops;
+mod pairs;
+mod pointers;
+mod reducing;
+mod sums;
+mod temps;
+mod writing;
+
+pub use reducing::try_reduce;
