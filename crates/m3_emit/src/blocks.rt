@@ -3,6 +3,7 @@ use crate::writer::Writer;
 use m3_alloc::Idle;
 use m3_base::NoMemory;
 use m3_gen_instructions::{Fork, Places};
+use m3_gen_layout::next_of;
 use m3_isa::Op;
 use m3_mid::{End, MidOp};
 
@@ -238,7 +239,7 @@ impl<'a> Writer<'a> {
         places: &mut Places,
     ) -> Result<(), NoMemory> {
         match end {
-            End::Goto(to) => self.put_next(target(targets, to), next),
+            End::Goto(to) => self.put_next(next_of(targets, to), next),
             End::If {
                 relation,
                 left,
@@ -250,8 +251,8 @@ impl<'a> Writer<'a> {
                 left,
                 right,
                 Fork {
-                    yes: target(targets, yes),
-                    no: target(targets, no),
+                    yes: next_of(targets, yes),
+                    no: next_of(targets, no),
                     next,
                 },
             ),
@@ -264,8 +265,4 @@ impl<'a> Writer<'a> {
             } => self.put_raise(exception, number, tidy),
         }
     }
-}
-
-pub(crate) fn target(targets: &[u32], block: u32) -> u32 {
-    targets.get(block as usize).copied().unwrap_or(block)
 }
