@@ -165,6 +165,23 @@ fn compile(
     })
 }
 
+impl Code {
+    /// Adds the procedures of a program in their order.
+    fn add_procs(
+        &mut self,
+        alloc: Global,
+        program: &Program,
+        places: &mut Places,
+    ) -> Result<(), NoMemory> {
+        for number in 0..program.core.procs.len() {
+            let number = place_number(number)?;
+            let proc = compile(alloc, program, places, number)?;
+            self.add_proc(proc)?;
+        }
+        Ok(())
+    }
+}
+
 /// The code of all procedures of a program.
 pub fn code_of<'s>(
     alloc: Global,
@@ -183,9 +200,6 @@ pub fn code_of<'s>(
         constants,
         quiet: quiet.as_slice(),
     };
-    for number in 0..core.procs.len() {
-        let number = place_number(number)?;
-        code.add_proc(compile(alloc, &program, places, number)?)?;
-    }
+    code.add_procs(alloc, &program, places)?;
     Ok(code)
 }
