@@ -418,6 +418,36 @@ pub fn stride<S: Store>(
         (further k (pace.old.points - pace.new.points) result.1) stack
         pace.new.limit pace.new.left pace.new.points r.new at.new memory.new result.0 }
 {
+    memory.threads.bring(stack.base);
+    stride_on(image, r, at, memory, stack, pace)
+}
+
+/// The same, wherever the thread's stack stands.
+#[inline(always)]
+fn stride_on<S: Store>(
+    image: &Decoded<'_>,
+    r: &mut [u64; 16],
+    at: &mut Place,
+    memory: &mut Memory<S>,
+    stack: Stack,
+    pace: &mut Pace,
+) -> (Halt, u64)
+    requires { pace.old.left ≤ 4611686018427387904 }
+    ensures limit { pace.new.limit ≡ pace.old.limit }
+    ensures points { pace.new.points ≤ pace.old.points }
+    ensures left { pace.new.points ≡ pace.old.points → pace.new.left ≤ pace.old.left }
+    ensures few { result.1 ≤ 4611686018427387904 }
+    ensures keeps { KeepsWhole memory.old memory.new }
+    ensures ends { result.0 ≡ Used → ⊥ }
+    ensures past { result.0 ≡ Left → length (image_of image.now).program.code ≤ at.new.pc }
+    ensures other { result.0 ≡ Other → 1 ≤ pace.new.left → (i : Instruction)
+        → slice_get (image_of image.now).program.code at.new.pc ≡ Some i → plain i.op ≡ false }
+    ensures strides { (k : Track) → Stands_in (image_of image.now).program k stack pace.old.limit
+        pace.old.left pace.old.points r.old at.old memory.old
+        → Halts_in (image_of image.now).program
+        (further k (pace.old.points - pace.new.points) result.1) stack
+        pace.new.limit pace.new.left pace.new.points r.new at.new memory.new result.0 }
+{
     let mut now = *at;
     let mut fuel = Fuel::of(pace);
     let turn = Turn { image, stack };
