@@ -132,54 +132,36 @@ struct Compiled {
     frame: u32,
 }
 
-/// A program, and what the code of its procedures has to know of it.
+/// A procedure by its number, and whether nobody looks for an exception behind its calls.
 #[derive(Clone, Copy)]
-struct Program<'a, 's> {
-    core: &'a Core<'a>,
-    storage: &'s Storage<'s>,
-    constants: &'a Constants,
-    /// By procedure, whether nobody looks for an exception behind its calls.
-    quiet: &'a [bool],
+struct Numbered {
+    number: u32,
+    is_quiet: bool,
 }
 
-fn compile(
+fn compile<'s>(
     alloc: Global,
-    program: &Program,
+    core: &Core,
+    storage: &'s Storage<'s>,
+    constants: &Constants,
     places: &mut Places,
-    number: u32,
+    proc: Numbered,
 ) -> Result<Compiled, NoMemory> {
     let arena = Bump::new(alloc);
-    let lowered = lower_proc(alloc, &arena, program.core, program.storage, number)?;
+    let lowered = lower_proc(alloc, &arena, core, storage, proc.number)?;
     let improved = improve(alloc, &arena, &lowered)?;
     let derived = derive(alloc, &arena, &improved.proc)?;
     let placed = allocate(alloc, &derived)?;
     let links = Links {
-        constants: program.constants.values.as_slice(),
-        texts: program.constants.texts.as_slice(),
-        is_quiet: program.quiet.get(number as usize).copied().unwrap_or(false),
+        constants: constants.values.as_slice(),
+        texts: constants.texts.as_slice(),
+        is_quiet: proc.is_quiet,
     };
     Ok(Compiled {
         part: emit(alloc, &placed, links, places)?,
         body: placed.body,
         frame: placed.frame,
     })
-}
-
-impl Code {
-    /// Adds the procedures of a program in their order.
-    fn add_procs(
-        &mut self,
-        alloc: Global,
-        program: &Program,
-        places: &mut Places,
-    ) -> Result<(), NoMemory> {
-        for number in 0..program.core.procs.len() {
-            let number = place_number(number)?;
-            let proc = compile(alloc, program, places, number)?;
-            self.add_proc(proc)?;
-        }
-        Ok(())
-    }
 }
 
 /// The code of all procedures of a program.
@@ -194,12 +176,12 @@ pub fn code_of<'s>(
     code.add_start(alloc, core.order)?;
     code.add_thread(alloc)?;
     let quiet = quiet_procs(alloc, core)?;
-    let program = Program {
-        core,
-        storage,
-        constants,
-        quiet: quiet.as_slice(),
-    };
-    code.add_procs(alloc, &program, places)?;
+    for (number, is_quiet) in quiet.iter().enumerate() {
+        let proc = Numbered {
+            number: place_number(number)?,
+            is_quiet: *is_quiet,
+        };
+        code.add_proc(compile(alloc, core, storage, constants, places, proc)?)?;
+    }
     Ok(code)
 }
