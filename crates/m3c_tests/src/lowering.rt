@@ -5,6 +5,7 @@ mod frames;
 mod images;
 mod improved;
 mod lowered;
+mod meant;
 mod orders;
 mod programs;
 mod running;

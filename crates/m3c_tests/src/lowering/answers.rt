@@ -2,6 +2,7 @@ use crate::lowering::frames::first_large;
 use crate::lowering::images::too_large;
 use crate::lowering::improved::Improved;
 use crate::lowering::lowered::Lowered;
+use crate::lowering::meant::run_meant;
 use crate::lowering::orders::tested;
 use crate::lowering::running::run_lowered;
 use crate::lowering::validity::first_broken;
@@ -61,10 +62,14 @@ fn answer_of<'a>(
         Question::Run { input, expected } => {
             let answer = run_lowered(alloc, arena, program, input, expected)?;
             let improved = improved_answer(alloc, arena, program, input, expected)?;
-            if improved.as_str() == answer.as_str() {
+            if improved.as_str() != answer.as_str() {
+                return Ok(format!(in alloc; "{answer}; behind the passes: {improved}")?);
+            }
+            let meant = run_meant(alloc, arena, program.core, input, expected)?;
+            if meant.as_str() == answer.as_str() {
                 Ok(answer)
             } else {
-                Ok(format!(in alloc; "{answer}; behind the passes: {improved}")?)
+                Ok(format!(in alloc; "{answer}; by the meaning: {meant}")?)
             }
         }
         Question::Text { name, expected } => match program.procedure(name) {
