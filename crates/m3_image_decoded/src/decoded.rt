@@ -31,6 +31,7 @@ use std::alloc::Global;
 pub struct Decoded<'a> {
     image: ImageView<'a>,
     code: Vec<Instr>,
+    ways: Vec<crate::ways::Way>,
     homes: Vec<ProcPart>,
     procs: Vec<ProcPart>,
     types: Vec<ReadyType<'a>>,
@@ -65,6 +66,12 @@ impl<'a> Decoded<'a> {
     {
         image.keeps_its_form();
         let code = instructions(alloc, &image)?;
+        let mut ways = Vec::new(alloc);
+        for k in 0..code.len() {
+            let two = if k + 1 < code.len() { code[k + 1].op } else { m3_isa::Op::Endp };
+            let three = if k + 2 < code.len() { code[k + 2].op } else { m3_isa::Op::Endp };
+            ways.push(crate::ways::way_of(code[k].op, two, three))?;
+        }
         let homes = homes(alloc, &image)?;
         let procs = procedures(alloc, &image)?;
         let types = ready_types(alloc, &image)?;
@@ -73,6 +80,7 @@ impl<'a> Decoded<'a> {
         Ok(Decoded {
             image,
             code,
+            ways,
             homes,
             procs,
             types,
@@ -95,6 +103,10 @@ impl<'a> Decoded<'a> {
             → IsInstruction i }
     {
         &self.code
+    }
+
+    pub fn ways(&self) -> &[crate::ways::Way] {
+        &self.ways
     }
 
     /// The instruction of a number, from 0. None exactly past the code.

@@ -9,5 +9,7 @@ mod rows;
 mod span;
 mod table;
 mod types;
+mod ways;
 
 pub use decoded::Decoded;
+pub use ways::Way;

@@ -2,6 +2,7 @@
 //! each that it carries out is a step of the machine by its definitions (`m3_run_meaning`).
 #![tactic(auto)]
 
+mod acts;
 mod halts;
 mod steps;
 mod strides;

@@ -16,7 +16,8 @@ ghost use Rattle.m3_run_loop.specs.declared.halts.Halt.TheVariants.{Used, Left, 
 use crate::halts::Halt;
 use crate::turns::Turn;
 use m3_heap::Store;
-use m3_image_decoded::Decoded;
+use m3_image_decoded::{Decoded, Way};
+use crate::acts::{Act, Lds, Sts, Ld, St, Move, Li, Glb, Add, Mul, Addi, Addo, Subo, Mulo, Modf, Jmp, Bz, Blt, Bltu};
 use m3_isa::{Instr, Op, Step, carry_out};
 use m3_run_meaning::near::{Place, Stack, before, called_method, register};
 use m3_run_memory::Memory;
@@ -358,6 +359,11 @@ impl Turn<'_> {
         }
     }
 
+    #[inline(never)]
+    fn go_far<S: Store>(self, i: &Instr, r: &mut [u64; 16], at: &mut Place, memory: &mut Memory<S>, fuel: &mut Fuel) -> Option<Halt> {
+        self.go_on(i, r, at, memory, fuel)
+    }
+
     /// Goes on as long as instructions are plain, or nothing has to be chosen or done before or
     /// after them.
     #[inline(always)]
@@ -379,13 +385,604 @@ impl Turn<'_> {
             fuel.new r.new at.new memory.new result }
     {
         let code = self.image.code();
+        let ways = self.image.ways();
         'steps: while fuel.left > fuel.floor {
             if at.pc as usize >= code.len() {
                 return Halt::Left;
             }
-            if let Some(halt) = self.go_on(&code[at.pc as usize], r, at, memory, fuel) {
-                return halt;
+            let pc = at.pc as usize;
+            match ways[pc] {
+                Way::Lds => {
+                    if !Lds::act(&code[pc], r, &mut at.pc, at.fp, memory) {
+                        fuel.left -= 1;
+                        return Halt::Trapped(2);
+                    }
+                }
+                Way::Sts => {
+                    if !Sts::act(&code[pc], r, &mut at.pc, at.fp, memory) {
+                        fuel.left -= 1;
+                        return Halt::Trapped(2);
+                    }
+                }
+                Way::Ld => {
+                    if !Ld::act(&code[pc], r, &mut at.pc, at.fp, memory) {
+                        fuel.left -= 1;
+                        return Halt::Trapped(2);
+                    }
+                }
+                Way::St => {
+                    if !St::act(&code[pc], r, &mut at.pc, at.fp, memory) {
+                        fuel.left -= 1;
+                        return Halt::Trapped(2);
+                    }
+                }
+                Way::Move => {
+                    if !Move::act(&code[pc], r, &mut at.pc, at.fp, memory) {
+                        fuel.left -= 1;
+                        return Halt::Trapped(2);
+                    }
+                }
+                Way::Li => {
+                    if !Li::act(&code[pc], r, &mut at.pc, at.fp, memory) {
+                        fuel.left -= 1;
+                        return Halt::Trapped(2);
+                    }
+                }
+                Way::Glb => {
+                    if !Glb::act(&code[pc], r, &mut at.pc, at.fp, memory) {
+                        fuel.left -= 1;
+                        return Halt::Trapped(2);
+                    }
+                }
+                Way::Add => {
+                    if !Add::act(&code[pc], r, &mut at.pc, at.fp, memory) {
+                        fuel.left -= 1;
+                        return Halt::Trapped(2);
+                    }
+                }
+                Way::Mul => {
+                    if !Mul::act(&code[pc], r, &mut at.pc, at.fp, memory) {
+                        fuel.left -= 1;
+                        return Halt::Trapped(2);
+                    }
+                }
+                Way::Addi => {
+                    if !Addi::act(&code[pc], r, &mut at.pc, at.fp, memory) {
+                        fuel.left -= 1;
+                        return Halt::Trapped(2);
+                    }
+                }
+                Way::Addo => {
+                    if !Addo::act(&code[pc], r, &mut at.pc, at.fp, memory) {
+                        fuel.left -= 1;
+                        return Halt::Trapped(2);
+                    }
+                }
+                Way::Subo => {
+                    if !Subo::act(&code[pc], r, &mut at.pc, at.fp, memory) {
+                        fuel.left -= 1;
+                        return Halt::Trapped(2);
+                    }
+                }
+                Way::Mulo => {
+                    if !Mulo::act(&code[pc], r, &mut at.pc, at.fp, memory) {
+                        fuel.left -= 1;
+                        return Halt::Trapped(2);
+                    }
+                }
+                Way::Modf => {
+                    if !Modf::act(&code[pc], r, &mut at.pc, at.fp, memory) {
+                        fuel.left -= 1;
+                        return Halt::Trapped(2);
+                    }
+                }
+                Way::Jmp => {
+                    if !Jmp::act(&code[pc], r, &mut at.pc, at.fp, memory) {
+                        fuel.left -= 1;
+                        return Halt::Trapped(2);
+                    }
+                }
+                Way::Bz => {
+                    if !Bz::act(&code[pc], r, &mut at.pc, at.fp, memory) {
+                        fuel.left -= 1;
+                        return Halt::Trapped(2);
+                    }
+                }
+                Way::Blt => {
+                    if !Blt::act(&code[pc], r, &mut at.pc, at.fp, memory) {
+                        fuel.left -= 1;
+                        return Halt::Trapped(2);
+                    }
+                }
+                Way::Bltu => {
+                    if !Bltu::act(&code[pc], r, &mut at.pc, at.fp, memory) {
+                        fuel.left -= 1;
+                        return Halt::Trapped(2);
+                    }
+                }
+                Way::LdsLiBlt => {
+                    if !Lds::act(&code[pc + 0], r, &mut at.pc, at.fp, memory) {
+                        fuel.left -= 1;
+                        return Halt::Trapped(2);
+                    }
+                    if at.pc as usize == pc + 1 {
+                        fuel.left -= 1;
+                        if fuel.left <= fuel.floor {
+                            continue 'steps;
+                        }
+                    if !Li::act(&code[pc + 1], r, &mut at.pc, at.fp, memory) {
+                        fuel.left -= 1;
+                        return Halt::Trapped(2);
+                    }
+                    if at.pc as usize == pc + 2 {
+                        fuel.left -= 1;
+                        if fuel.left <= fuel.floor {
+                            continue 'steps;
+                        }
+                    if !Blt::act(&code[pc + 2], r, &mut at.pc, at.fp, memory) {
+                        fuel.left -= 1;
+                        return Halt::Trapped(2);
+                    }
+                    }
+                    }
+                }
+                Way::LdsLiSubo => {
+                    if !Lds::act(&code[pc + 0], r, &mut at.pc, at.fp, memory) {
+                        fuel.left -= 1;
+                        return Halt::Trapped(2);
+                    }
+                    if at.pc as usize == pc + 1 {
+                        fuel.left -= 1;
+                        if fuel.left <= fuel.floor {
+                            continue 'steps;
+                        }
+                    if !Li::act(&code[pc + 1], r, &mut at.pc, at.fp, memory) {
+                        fuel.left -= 1;
+                        return Halt::Trapped(2);
+                    }
+                    if at.pc as usize == pc + 2 {
+                        fuel.left -= 1;
+                        if fuel.left <= fuel.floor {
+                            continue 'steps;
+                        }
+                    if !Subo::act(&code[pc + 2], r, &mut at.pc, at.fp, memory) {
+                        fuel.left -= 1;
+                        return Halt::Trapped(2);
+                    }
+                    }
+                    }
+                }
+                Way::LdsAddiSts => {
+                    if !Lds::act(&code[pc + 0], r, &mut at.pc, at.fp, memory) {
+                        fuel.left -= 1;
+                        return Halt::Trapped(2);
+                    }
+                    if at.pc as usize == pc + 1 {
+                        fuel.left -= 1;
+                        if fuel.left <= fuel.floor {
+                            continue 'steps;
+                        }
+                    if !Addi::act(&code[pc + 1], r, &mut at.pc, at.fp, memory) {
+                        fuel.left -= 1;
+                        return Halt::Trapped(2);
+                    }
+                    if at.pc as usize == pc + 2 {
+                        fuel.left -= 1;
+                        if fuel.left <= fuel.floor {
+                            continue 'steps;
+                        }
+                    if !Sts::act(&code[pc + 2], r, &mut at.pc, at.fp, memory) {
+                        fuel.left -= 1;
+                        return Halt::Trapped(2);
+                    }
+                    }
+                    }
+                }
+                Way::LdsAddo => {
+                    if !Lds::act(&code[pc + 0], r, &mut at.pc, at.fp, memory) {
+                        fuel.left -= 1;
+                        return Halt::Trapped(2);
+                    }
+                    if at.pc as usize == pc + 1 {
+                        fuel.left -= 1;
+                        if fuel.left <= fuel.floor {
+                            continue 'steps;
+                        }
+                    if !Addo::act(&code[pc + 1], r, &mut at.pc, at.fp, memory) {
+                        fuel.left -= 1;
+                        return Halt::Trapped(2);
+                    }
+                    }
+                }
+                Way::LdsBz => {
+                    if !Lds::act(&code[pc + 0], r, &mut at.pc, at.fp, memory) {
+                        fuel.left -= 1;
+                        return Halt::Trapped(2);
+                    }
+                    if at.pc as usize == pc + 1 {
+                        fuel.left -= 1;
+                        if fuel.left <= fuel.floor {
+                            continue 'steps;
+                        }
+                    if !Bz::act(&code[pc + 1], r, &mut at.pc, at.fp, memory) {
+                        fuel.left -= 1;
+                        return Halt::Trapped(2);
+                    }
+                    }
+                }
+                Way::LdsLds => {
+                    if !Lds::act(&code[pc + 0], r, &mut at.pc, at.fp, memory) {
+                        fuel.left -= 1;
+                        return Halt::Trapped(2);
+                    }
+                    if at.pc as usize == pc + 1 {
+                        fuel.left -= 1;
+                        if fuel.left <= fuel.floor {
+                            continue 'steps;
+                        }
+                    if !Lds::act(&code[pc + 1], r, &mut at.pc, at.fp, memory) {
+                        fuel.left -= 1;
+                        return Halt::Trapped(2);
+                    }
+                    }
+                }
+                Way::LdsSts => {
+                    if !Lds::act(&code[pc + 0], r, &mut at.pc, at.fp, memory) {
+                        fuel.left -= 1;
+                        return Halt::Trapped(2);
+                    }
+                    if at.pc as usize == pc + 1 {
+                        fuel.left -= 1;
+                        if fuel.left <= fuel.floor {
+                            continue 'steps;
+                        }
+                    if !Sts::act(&code[pc + 1], r, &mut at.pc, at.fp, memory) {
+                        fuel.left -= 1;
+                        return Halt::Trapped(2);
+                    }
+                    }
+                }
+                Way::LdsLi => {
+                    if !Lds::act(&code[pc + 0], r, &mut at.pc, at.fp, memory) {
+                        fuel.left -= 1;
+                        return Halt::Trapped(2);
+                    }
+                    if at.pc as usize == pc + 1 {
+                        fuel.left -= 1;
+                        if fuel.left <= fuel.floor {
+                            continue 'steps;
+                        }
+                    if !Li::act(&code[pc + 1], r, &mut at.pc, at.fp, memory) {
+                        fuel.left -= 1;
+                        return Halt::Trapped(2);
+                    }
+                    }
+                }
+                Way::LiBlt => {
+                    if !Li::act(&code[pc + 0], r, &mut at.pc, at.fp, memory) {
+                        fuel.left -= 1;
+                        return Halt::Trapped(2);
+                    }
+                    if at.pc as usize == pc + 1 {
+                        fuel.left -= 1;
+                        if fuel.left <= fuel.floor {
+                            continue 'steps;
+                        }
+                    if !Blt::act(&code[pc + 1], r, &mut at.pc, at.fp, memory) {
+                        fuel.left -= 1;
+                        return Halt::Trapped(2);
+                    }
+                    }
+                }
+                Way::LiSts => {
+                    if !Li::act(&code[pc + 0], r, &mut at.pc, at.fp, memory) {
+                        fuel.left -= 1;
+                        return Halt::Trapped(2);
+                    }
+                    if at.pc as usize == pc + 1 {
+                        fuel.left -= 1;
+                        if fuel.left <= fuel.floor {
+                            continue 'steps;
+                        }
+                    if !Sts::act(&code[pc + 1], r, &mut at.pc, at.fp, memory) {
+                        fuel.left -= 1;
+                        return Halt::Trapped(2);
+                    }
+                    }
+                }
+                Way::LiAddo => {
+                    if !Li::act(&code[pc + 0], r, &mut at.pc, at.fp, memory) {
+                        fuel.left -= 1;
+                        return Halt::Trapped(2);
+                    }
+                    if at.pc as usize == pc + 1 {
+                        fuel.left -= 1;
+                        if fuel.left <= fuel.floor {
+                            continue 'steps;
+                        }
+                    if !Addo::act(&code[pc + 1], r, &mut at.pc, at.fp, memory) {
+                        fuel.left -= 1;
+                        return Halt::Trapped(2);
+                    }
+                    }
+                }
+                Way::LiModf => {
+                    if !Li::act(&code[pc + 0], r, &mut at.pc, at.fp, memory) {
+                        fuel.left -= 1;
+                        return Halt::Trapped(2);
+                    }
+                    if at.pc as usize == pc + 1 {
+                        fuel.left -= 1;
+                        if fuel.left <= fuel.floor {
+                            continue 'steps;
+                        }
+                    if !Modf::act(&code[pc + 1], r, &mut at.pc, at.fp, memory) {
+                        fuel.left -= 1;
+                        return Halt::Trapped(2);
+                    }
+                    }
+                }
+                Way::BltuAdd => {
+                    if !Bltu::act(&code[pc + 0], r, &mut at.pc, at.fp, memory) {
+                        fuel.left -= 1;
+                        return Halt::Trapped(2);
+                    }
+                    if at.pc as usize == pc + 1 {
+                        fuel.left -= 1;
+                        if fuel.left <= fuel.floor {
+                            continue 'steps;
+                        }
+                    if !Add::act(&code[pc + 1], r, &mut at.pc, at.fp, memory) {
+                        fuel.left -= 1;
+                        return Halt::Trapped(2);
+                    }
+                    }
+                }
+                Way::AddLd => {
+                    if !Add::act(&code[pc + 0], r, &mut at.pc, at.fp, memory) {
+                        fuel.left -= 1;
+                        return Halt::Trapped(2);
+                    }
+                    if at.pc as usize == pc + 1 {
+                        fuel.left -= 1;
+                        if fuel.left <= fuel.floor {
+                            continue 'steps;
+                        }
+                    if !Ld::act(&code[pc + 1], r, &mut at.pc, at.fp, memory) {
+                        fuel.left -= 1;
+                        return Halt::Trapped(2);
+                    }
+                    }
+                }
+                Way::AddAddi => {
+                    if !Add::act(&code[pc + 0], r, &mut at.pc, at.fp, memory) {
+                        fuel.left -= 1;
+                        return Halt::Trapped(2);
+                    }
+                    if at.pc as usize == pc + 1 {
+                        fuel.left -= 1;
+                        if fuel.left <= fuel.floor {
+                            continue 'steps;
+                        }
+                    if !Addi::act(&code[pc + 1], r, &mut at.pc, at.fp, memory) {
+                        fuel.left -= 1;
+                        return Halt::Trapped(2);
+                    }
+                    }
+                }
+                Way::AddiBlt => {
+                    if !Addi::act(&code[pc + 0], r, &mut at.pc, at.fp, memory) {
+                        fuel.left -= 1;
+                        return Halt::Trapped(2);
+                    }
+                    if at.pc as usize == pc + 1 {
+                        fuel.left -= 1;
+                        if fuel.left <= fuel.floor {
+                            continue 'steps;
+                        }
+                    if !Blt::act(&code[pc + 1], r, &mut at.pc, at.fp, memory) {
+                        fuel.left -= 1;
+                        return Halt::Trapped(2);
+                    }
+                    }
+                }
+                Way::LdBz => {
+                    if !Ld::act(&code[pc + 0], r, &mut at.pc, at.fp, memory) {
+                        fuel.left -= 1;
+                        return Halt::Trapped(2);
+                    }
+                    if at.pc as usize == pc + 1 {
+                        fuel.left -= 1;
+                        if fuel.left <= fuel.floor {
+                            continue 'steps;
+                        }
+                    if !Bz::act(&code[pc + 1], r, &mut at.pc, at.fp, memory) {
+                        fuel.left -= 1;
+                        return Halt::Trapped(2);
+                    }
+                    }
+                }
+                Way::LdLd => {
+                    if !Ld::act(&code[pc + 0], r, &mut at.pc, at.fp, memory) {
+                        fuel.left -= 1;
+                        return Halt::Trapped(2);
+                    }
+                    if at.pc as usize == pc + 1 {
+                        fuel.left -= 1;
+                        if fuel.left <= fuel.floor {
+                            continue 'steps;
+                        }
+                    if !Ld::act(&code[pc + 1], r, &mut at.pc, at.fp, memory) {
+                        fuel.left -= 1;
+                        return Halt::Trapped(2);
+                    }
+                    }
+                }
+                Way::LdSts => {
+                    if !Ld::act(&code[pc + 0], r, &mut at.pc, at.fp, memory) {
+                        fuel.left -= 1;
+                        return Halt::Trapped(2);
+                    }
+                    if at.pc as usize == pc + 1 {
+                        fuel.left -= 1;
+                        if fuel.left <= fuel.floor {
+                            continue 'steps;
+                        }
+                    if !Sts::act(&code[pc + 1], r, &mut at.pc, at.fp, memory) {
+                        fuel.left -= 1;
+                        return Halt::Trapped(2);
+                    }
+                    }
+                }
+                Way::LdAddo => {
+                    if !Ld::act(&code[pc + 0], r, &mut at.pc, at.fp, memory) {
+                        fuel.left -= 1;
+                        return Halt::Trapped(2);
+                    }
+                    if at.pc as usize == pc + 1 {
+                        fuel.left -= 1;
+                        if fuel.left <= fuel.floor {
+                            continue 'steps;
+                        }
+                    if !Addo::act(&code[pc + 1], r, &mut at.pc, at.fp, memory) {
+                        fuel.left -= 1;
+                        return Halt::Trapped(2);
+                    }
+                    }
+                }
+                Way::LdBltu => {
+                    if !Ld::act(&code[pc + 0], r, &mut at.pc, at.fp, memory) {
+                        fuel.left -= 1;
+                        return Halt::Trapped(2);
+                    }
+                    if at.pc as usize == pc + 1 {
+                        fuel.left -= 1;
+                        if fuel.left <= fuel.floor {
+                            continue 'steps;
+                        }
+                    if !Bltu::act(&code[pc + 1], r, &mut at.pc, at.fp, memory) {
+                        fuel.left -= 1;
+                        return Halt::Trapped(2);
+                    }
+                    }
+                }
+                Way::SuboSts => {
+                    if !Subo::act(&code[pc + 0], r, &mut at.pc, at.fp, memory) {
+                        fuel.left -= 1;
+                        return Halt::Trapped(2);
+                    }
+                    if at.pc as usize == pc + 1 {
+                        fuel.left -= 1;
+                        if fuel.left <= fuel.floor {
+                            continue 'steps;
+                        }
+                    if !Sts::act(&code[pc + 1], r, &mut at.pc, at.fp, memory) {
+                        fuel.left -= 1;
+                        return Halt::Trapped(2);
+                    }
+                    }
+                }
+                Way::AddoSt => {
+                    if !Addo::act(&code[pc + 0], r, &mut at.pc, at.fp, memory) {
+                        fuel.left -= 1;
+                        return Halt::Trapped(2);
+                    }
+                    if at.pc as usize == pc + 1 {
+                        fuel.left -= 1;
+                        if fuel.left <= fuel.floor {
+                            continue 'steps;
+                        }
+                    if !St::act(&code[pc + 1], r, &mut at.pc, at.fp, memory) {
+                        fuel.left -= 1;
+                        return Halt::Trapped(2);
+                    }
+                    }
+                }
+                Way::AddiLd => {
+                    if !Addi::act(&code[pc + 0], r, &mut at.pc, at.fp, memory) {
+                        fuel.left -= 1;
+                        return Halt::Trapped(2);
+                    }
+                    if at.pc as usize == pc + 1 {
+                        fuel.left -= 1;
+                        if fuel.left <= fuel.floor {
+                            continue 'steps;
+                        }
+                    if !Ld::act(&code[pc + 1], r, &mut at.pc, at.fp, memory) {
+                        fuel.left -= 1;
+                        return Halt::Trapped(2);
+                    }
+                    }
+                }
+                Way::MulAdd => {
+                    if !Mul::act(&code[pc + 0], r, &mut at.pc, at.fp, memory) {
+                        fuel.left -= 1;
+                        return Halt::Trapped(2);
+                    }
+                    if at.pc as usize == pc + 1 {
+                        fuel.left -= 1;
+                        if fuel.left <= fuel.floor {
+                            continue 'steps;
+                        }
+                    if !Add::act(&code[pc + 1], r, &mut at.pc, at.fp, memory) {
+                        fuel.left -= 1;
+                        return Halt::Trapped(2);
+                    }
+                    }
+                }
+                Way::GlbLd => {
+                    if !Glb::act(&code[pc + 0], r, &mut at.pc, at.fp, memory) {
+                        fuel.left -= 1;
+                        return Halt::Trapped(2);
+                    }
+                    if at.pc as usize == pc + 1 {
+                        fuel.left -= 1;
+                        if fuel.left <= fuel.floor {
+                            continue 'steps;
+                        }
+                    if !Ld::act(&code[pc + 1], r, &mut at.pc, at.fp, memory) {
+                        fuel.left -= 1;
+                        return Halt::Trapped(2);
+                    }
+                    }
+                }
+                Way::Point => {
+                    if !fuel.may_pass() {
+                        return Halt::Other;
+                    }
+                    fuel.pass();
+                    at.pc = at.pc.wrapping_add(1);
+                }
+                Way::Call => {
+                    if !fuel.may_pass() {
+                        return Halt::Other;
+                    }
+                    let i = code[pc];
+                    match self.call_near(i, Ok(i.imm.cast_unsigned()), r, *at, memory) {
+                        Some(to) => {
+                            fuel.pass();
+                            *at = to;
+                        }
+                        None => return Halt::Other,
+                    }
+                }
+                Way::Ret => match self.return_near(code[pc], r, *at, memory) {
+                    Some(to) => *at = to,
+                    None => return Halt::Other,
+                },
+                Way::Other => {
+                    let mut there = *at;
+                    let mut more = *fuel;
+                    let halt = self.go_far(&code[pc], r, &mut there, memory, &mut more);
+                    *at = there;
+                    *fuel = more;
+                    if let Some(halt) = halt {
+                        return halt;
+                    }
+                    fuel.left += 1;
+                }
             }
+            fuel.left -= 1;
         }
         Halt::Other
     }
@@ -395,6 +992,36 @@ impl Turn<'_> {
 /// before or after them. Says why the row ended, and how many were executed.
 #[inline(never)]
 pub fn stride<S: Store>(
+    image: &Decoded<'_>,
+    r: &mut [u64; 16],
+    at: &mut Place,
+    memory: &mut Memory<S>,
+    stack: Stack,
+    pace: &mut Pace,
+) -> (Halt, u64)
+    requires { pace.old.left ≤ 4611686018427387904 }
+    ensures limit { pace.new.limit ≡ pace.old.limit }
+    ensures points { pace.new.points ≤ pace.old.points }
+    ensures left { pace.new.points ≡ pace.old.points → pace.new.left ≤ pace.old.left }
+    ensures few { result.1 ≤ 4611686018427387904 }
+    ensures keeps { KeepsWhole memory.old memory.new }
+    ensures ends { result.0 ≡ Used → ⊥ }
+    ensures past { result.0 ≡ Left → length (image_of image.now).program.code ≤ at.new.pc }
+    ensures other { result.0 ≡ Other → 1 ≤ pace.new.left → (i : Instruction)
+        → slice_get (image_of image.now).program.code at.new.pc ≡ Some i → plain i.op ≡ false }
+    ensures strides { (k : Track) → Stands_in (image_of image.now).program k stack pace.old.limit
+        pace.old.left pace.old.points r.old at.old memory.old
+        → Halts_in (image_of image.now).program
+        (further k (pace.old.points - pace.new.points) result.1) stack
+        pace.new.limit pace.new.left pace.new.points r.new at.new memory.new result.0 }
+{
+    memory.threads.bring(stack.base);
+    stride_on(image, r, at, memory, stack, pace)
+}
+
+/// The same, wherever the thread's stack stands.
+#[inline(always)]
+fn stride_on<S: Store>(
     image: &Decoded<'_>,
     r: &mut [u64; 16],
     at: &mut Place,

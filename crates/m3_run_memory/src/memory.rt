@@ -62,12 +62,12 @@ impl<S: Store> Words for Memory<S> {
           (p.1 shapes f),
     ) };
 
-    #[inline]
+    #[inline(always)]
     fn load(&self, at: u64) -> Option<u64> {
         self.threads.load(at, &self.outside)
     }
 
-    #[inline]
+    #[inline(always)]
     fn store(&mut self, at: u64, word: u64) -> bool {
         self.threads.store(at, word, &mut self.outside)
     }

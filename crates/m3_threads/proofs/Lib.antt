@@ -8,3 +8,4 @@ pub mod Lends
 pub mod Sleeping
 pub mod Choosing
 pub mod StackWords
+pub mod Hand

@@ -4,3 +4,5 @@ pub mod Going
 pub mod Actions
 pub mod Lending
 pub mod PlacesInside
+pub mod Stacked
+pub mod LendingStacks

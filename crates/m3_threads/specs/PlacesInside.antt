@@ -1,5 +1,5 @@
 -- For the code alone: the place of a thread in a list, what it may become there, and the room of its stack.
-use Rattle.std.specs.Prelude.{◌≡◌, ℕ, ◌<◌, ◌≤◌, true, false, Option, List, length, find, slice_get, slice_set, remove, Some, None, vec_capacity}
+use Rattle.std.specs.Prelude.{◌≡◌, ℕ, ◌<◌, ◌≤◌, true, false, Option, List, length, map, find, slice_get, slice_set, remove, Some, None, vec_capacity}
 use Rattle.m3_threads.specs.declared.status.Thread.{Thread}
 use Rattle.m3_threads.specs.All.{is_named, updated, is_asleep, queue_place, NamesRegisters}
 use Rattle.m3_threads.specs.Actions.{without, sleeps_on, SleepsLongest}
@@ -24,9 +24,14 @@ pub record MayBecome (old new : Thread) : Type 0 where
   pub asleep : is_asleep new ≡ true → (is_asleep old ≡ true) × (queue_place new ≡ queue_place old)
   pub registers : NamesRegisters old.status → NamesRegisters new.status
 
--- each stack has room for as many words as a stack has
+-- the words of each stack
+abbrev pub contents : List (Vec ℕ Global) → List (List ℕ)
+contents stacks = map (λ v. v.items) stacks
+
+-- each stack has room for as many words as a stack has, and no more words
 abbrev pub HaveRoom : ℕ → List (Vec ℕ Global) → Type 0
-HaveRoom stack stacks = (slot : ℕ) (words : Vec ℕ Global) → slice_get stacks slot ≡ Some words → stack ≤ vec_capacity words
+HaveRoom stack stacks =
+    (slot : ℕ) (words : Vec ℕ Global) → slice_get stacks slot ≡ Some words → (stack ≤ vec_capacity words) × (length words.items ≤ stack)
 
 -- the thread at a place sleeps longest on a condition
 abbrev pub IsLongestAt : ℕ → List Thread → ℕ → Type 0

@@ -1,6 +1,6 @@
 use crate::answers::ThreadsFull;
 use crate::list::lowest_slot;
-use crate::stacks::{blank_stacks, lay_out, lay_out_fork};
+use crate::stacks::Stacks;
 use crate::status::Thread;
 use crate::threads::Threads;
 use m3_base::NoMemory;
@@ -20,12 +20,11 @@ impl Threads {
         ensures { IfOk result (λ all. all ≡ at_start threads stack) }
     {
         let mut list = Vec::with_capacity(alloc, threads as usize)?;
-        let mut stacks = blank_stacks(alloc, threads as usize, stack as usize)?;
-        lay_out(&mut stacks[0], stack as usize, 1 << 32);
+        let mut stacks = Stacks::new(alloc, threads as usize, stack as usize)?;
+        stacks.lay_out(0, 1 << 32);
         list.push_reserved(Thread::started(0, 0, 0));
         Ok(Threads {
             allowed: threads,
-            stack,
             forks: 0,
             waits: 0,
             list,
@@ -45,12 +44,7 @@ impl Threads {
             return Err(ThreadsFull);
         }
         let slot = lowest_slot(&self.list, self.allowed);
-        lay_out_fork(
-            &mut self.stacks[slot as usize],
-            self.stack as usize,
-            closure,
-            cell,
-        );
+        self.stacks.lay_out_fork(slot as usize, closure, cell);
         self.forks += 1;
         self.list
             .push_reserved(Thread::started(self.forks, slot, first));

@@ -1,4 +1,5 @@
 use crate::list::{base_of_slot, place_of};
+use crate::stacks::SLOT;
 use crate::status::Status;
 use crate::threads::Threads;
 use m3_isa::Regs;
@@ -59,7 +60,7 @@ impl Threads {
         ensures { option_copied result ≡ of_thread (words_of self.now) (thread_named self.now thread) }
     {
         match self.find(thread) {
-            Some(t) => Some(&self.stacks[t.slot as usize]),
+            Some(t) => Some(self.stacks.words(t.slot as usize)),
             None => None,
         }
     }
@@ -99,6 +100,16 @@ impl Threads {
         ensures* writes_back { sem 𝓛 (LendsStack self.entry slot result) }
         ensures value { result.now ≡ stack_in self.old slot }
     {
-        &mut self.stacks[slot as usize]
+        self.stacks.words_mut(slot as usize)
+    }
+
+    /// Takes the stack that begins at an address in hand, so that its words are found at once.
+    pub fn bring(&mut self, base: u64)
+        ensures { self.new ≡ self.old }
+    {
+        let slot = (base / SLOT).wrapping_sub(1);
+        if slot < u64::from(self.allowed) {
+            self.stacks.bring(slot as usize);
+        }
     }
 }

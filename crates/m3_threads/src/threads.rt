@@ -1,32 +1,28 @@
 use crate::list::{longest_asleep, place_of, wake_sleepers};
+use crate::stacks::Stacks;
 use crate::status::Thread;
 use m3_isa::{Instr, Words};
 use std::marker::Model;
-
-// How far the stacks of two slots are apart.
-const SLOT: u64 = 1 << 40;
 
 /// The threads that have not ended, with their stacks.
 #[derive(Drop)]
 pub struct Threads {
     pub(crate) allowed: u32,
-    pub(crate) stack: u64,
     pub(crate) forks: u64,
     pub(crate) waits: u64,
     pub(crate) list: Vec<Thread>,
-    pub(crate) stacks: Vec<Vec<u64>>,
+    pub(crate) stacks: Stacks,
 }
 
 impl Model for Threads {
-    ghost use Rattle.std.specs.Prelude.{◌≤◌, map, vec_capacity};
+    ghost use Rattle.std.specs.Prelude.{◌≤◌, vec_capacity};
     ghost use Rattle.m3_threads.specs.All.{Everyone, AreSoundThreads};
-    ghost use Rattle.m3_threads.specs.PlacesInside.{HaveRoom};
 
     ghost Value = { Everyone };
 
-    ghost view = { λ t. record { allowed = t.allowed; stack = t.stack; forks = t.forks; waits = t.waits; threads = t.list.items; stacks = map (λ v. v.items) t.stacks.items } };
+    ghost view = { λ t. record { allowed = t.allowed; stack = t.stacks.depth; forks = t.forks; waits = t.waits; threads = t.list.items; stacks = t.stacks.words } };
 
-    ghost invariant = { λ t. AreSoundThreads t.allowed t.stack t.forks t.waits t.list.items (map (λ v. v.items) t.stacks.items) × (t.allowed ≤ vec_capacity t.list) × HaveRoom t.stack t.stacks.items };
+    ghost invariant = { λ t. AreSoundThreads t.allowed t.stacks.depth t.forks t.waits t.list.items t.stacks.words × (t.allowed ≤ vec_capacity t.list) };
 }
 
 impl Threads {
@@ -36,34 +32,22 @@ impl Threads {
     ghost use Rattle.m3_threads.specs.Actions.{with_threads, asleep, gone_on, jumped_to, gone_on_with, alert_cleared, alert_marked, woken, woken_on, SleepsLongest, wakened_by, given, ended};
     ghost use Rattle.m3_isa.specs.Arithmetic.{flag};
     ghost use Rattle.m3_threads.specs.declared.status.Status.TheVariants.{Waits};
-    ghost use Rattle.m3_threads.specs.Spaces.{slot_at, place_at, is_in_stack, held, replaceable, put_inside, put_outside};
-
-    // The slot and the place of an address that is in a stack, by arithmetic alone.
-    fn find_word(&self, at: u64) -> Option<(usize, usize)>
-        ensures { MatchOption result (is_in_stack self.now at ≡ false)
-            (λ found. (is_in_stack self.now at ≡ true) × (found.0 ≡ slot_at at) × (found.1 ≡ place_at at)) }
-    {
-        let slot = (at / SLOT).wrapping_sub(1);
-        let place = at % SLOT;
-        if slot < self.stacks.len() as u64 && place < self.stacks[slot as usize].len() as u64 {
-            Some((slot as usize, place as usize))
-        } else {
-            None
-        }
-    }
+    ghost use Rattle.m3_threads.specs.Spaces.{is_in_stack, held, replaceable, put_inside, put_outside};
 
     /// The word at an address, in a stack or outside.
+    #[inline(always)]
     pub fn load<W: Words>(&self, at: u64, mem: &W) -> Option<u64>
         ensures { result ≡ held self.now (W.holds mem.now) at }
     {
-        match self.find_word(at) {
-            Some((slot, place)) => Some(self.stacks[slot][place]),
+        match self.stacks.load(at) {
+            Some(word) => Some(word),
             None => mem.load(at),
         }
     }
 
     /// Replaces the word at an address, in a stack or outside, where that can be done, and says whether
     /// it was.
+    #[inline(always)]
     pub fn store<W: Words>(&mut self, at: u64, word: u64, mem: &mut W) -> bool
         ensures answer { result ≡ replaceable self.old (W.writable mem.old) at }
         ensures inside { result ≡ true → self.new ≡ put_inside self.old at word }
@@ -75,12 +59,10 @@ impl Threads {
         ensures writable { (x : ℕ) → W.writable mem.new x ≡ W.writable mem.old x }
         ensures keeps { W.keeps mem.old mem.new }
     {
-        match self.find_word(at) {
-            Some((slot, place)) => {
-                self.stacks[slot][place] = word;
-                true
-            }
-            None => mem.store(at, word),
+        if self.stacks.store(at, word) {
+            true
+        } else {
+            mem.store(at, word)
         }
     }
 
@@ -217,7 +199,7 @@ impl Threads {
     {
         if let Some(k) = place_of(&self.list, t.number) {
             self.list.remove(k);
-            self.stacks[t.slot as usize].clear();
+            self.stacks.clear(t.slot as usize);
         }
     }
 

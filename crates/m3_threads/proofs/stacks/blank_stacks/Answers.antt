@@ -1,7 +1,7 @@
-use Rattle.std.proofs.Common.{◌≡◌, [], subst, sym, ap, arith}
+use Rattle.std.proofs.Common.{◌≡◌, ℕ, List, length, [], subst, sym, ap, arith}
 use Rattle.std.specs.Prelude.{replicate}
-use Rattle.m3_threads.specs.PlacesInside.{HaveRoom}
-use Rattle.m3_threads.proofs.StackWords.{contents, blank-more, room-push}
+use Rattle.m3_threads.specs.PlacesInside.{HaveRoom, contents}
+use Rattle.m3_threads.proofs.StackWords.{blank-more, room-push}
 use Rattle.m3_threads.proofs.stacks.blank_stacks.Goals as goal
 
 pub loop-slot-init : goal.loop-slot-init
@@ -24,7 +24,10 @@ loop-slot-preserved c =
       blank = blank-more vs c.push_reserved.new.self.items v c.loop-slot._slot [] i.blank c.in_ok-with_capacity.ensures.items c.push_reserved.ensures.items;
       count = omega (arith, c.push_reserved.ensures.len);
       room = omega (arith, c.push_reserved.ensures.capacity);
-      rooms = room-push c.args.words vs c.push_reserved.new.self.items v i.rooms c.in_ok-with_capacity.ensures.capacity c.push_reserved.ensures.items;
+      rooms = room-push c.args.words vs c.push_reserved.new.self.items v i.rooms (
+        c.in_ok-with_capacity.ensures.capacity,
+        let none = ap (λ (ws : List ℕ). length ws) c.in_ok-with_capacity.ensures.items in omega arith,
+      ) c.push_reserved.ensures.items;
     }
 
 pub returns-clause-blank : goal.returns-clause-blank

@@ -1,7 +1,6 @@
 use Rattle.std.proofs.Common.{◌≡◌, ◌≤◌, [], vec_len, vec_capacity}
 use Rattle.std.specs.Prelude.{replicate}
-use Rattle.m3_threads.specs.PlacesInside.{HaveRoom}
-use Rattle.m3_threads.proofs.StackWords.{contents}
+use Rattle.m3_threads.specs.PlacesInside.{HaveRoom, contents}
 use Rattle.m3_threads.proofs.stacks.blank_stacks.Given as goal
 
 abbrev pub invariant-loop-slot : goal.invariant-loop-slot

@@ -23,7 +23,7 @@ invariant_of-self-lent c = λ w.
     let i = c.in-Some-get_mut.ensures.item in
     let within : k < length s.list.items = ltb-true k (length s.list.items) (sym i.0) in
     let got : slice_get s.list.items k ≡ Some t = slice_get-get_or s.list.items k t within ∙ ap Some (sym c.in-Some-get_mut.ensures.value) in
-    (sound-set s.allowed s.stack s.forks s.waits s.list.items _ k (with_regs_of w t) t c.self.invariant.0 got (may-compute t w), c.self.invariant.1, c.self.invariant.2)
+    (sound-set s.allowed s.stacks.depth s.forks s.waits s.list.items _ k (with_regs_of w t) t c.self.invariant.0 got (may-compute t w), c.self.invariant.1)
 
 pub returns-in-Some-get_mut : goal.returns-in-Some-get_mut
 returns-in-Some-get_mut c =

@@ -18,10 +18,9 @@ pub invariant_of-self : goal.invariant_of-self
 invariant_of-self c =
     let s = c.self.inside in
     let asleep = c.asleep.ensures in (
-      sound-sleep s.allowed s.stack s.forks s.waits s.list.items _ c.in-Some.k c.asleep.result c.args.t c.self.invariant.0 (got c) (sym (ap (λ u. u.slot) asleep)) (sym (ap (λ u. u.number) asleep)) (ap queue_place asleep)
+      sound-sleep s.allowed s.stacks.depth s.forks s.waits s.list.items _ c.in-Some.k c.asleep.result c.args.t c.self.invariant.0 (got c) (sym (ap (λ u. u.slot) asleep)) (sym (ap (λ u. u.number) asleep)) (ap queue_place asleep)
           (subst (λ u. NamesRegisters u.status) (sym asleep) c.requires.registers),
       c.self.invariant.1,
-      c.self.invariant.2,
     )
 
 abbrev later : Everyone → List Thread → Everyone

@@ -27,9 +27,8 @@ pub invariant_of-self : goal.invariant_of-self
 invariant_of-self c =
     let s = c.self.inside in
     let l = longest c in (
-      sound-set s.allowed s.stack s.forks s.waits s.list.items _ c.in-Some.k c.woken.result l.0 c.self.invariant.0 l.1 (subst (MayBecome l.0) (sym (now c)) (may-wake l.0)),
+      sound-set s.allowed s.stacks.depth s.forks s.waits s.list.items _ c.in-Some.k c.woken.result l.0 c.self.invariant.0 l.1 (subst (MayBecome l.0) (sym (now c)) (may-wake l.0)),
       c.self.invariant.1,
-      c.self.invariant.2,
     )
 
 changed : (c : goal.After-self-1) → slice_set c.self.inside.list.items c.in-Some.k c.woken.result ≡ updated woken (longest c).0.number c.self.inside.list.items

@@ -1,4 +1,4 @@
-use Rattle.std.proofs.Common.{IsSome, map, sym, subst, arith}
+use Rattle.std.proofs.Common.{IsSome, sym, subst, arith}
 use Rattle.std.specs.Prelude.{find}
 use Rattle.m3_threads.specs.All.{AreSoundThreads, is_named, thread_named}
 use Rattle.m3_threads.specs.Actions.{woken_on}
@@ -10,11 +10,10 @@ use Rattle.m3_threads.proofs.threads.Threads.wake_on.Goals as goal
 pub invariant_of-self : goal.invariant_of-self
 invariant_of-self c =
     let s = c.self.inside in
-    let st = map (λ v. v.items) s.stacks.items in
-    let sound = sound-map s.allowed s.stack s.forks s.waits s.list.items st (woken_on c.args.condition) (may-wake_on c.args.condition) c.self.invariant.0 in (
-      subst (λ ts. AreSoundThreads s.allowed s.stack s.forks s.waits ts st) (sym c.wake_sleepers.ensures.threads) sound,
+    let st = s.stacks.words in
+    let sound = sound-map s.allowed s.stacks.depth s.forks s.waits s.list.items st (woken_on c.args.condition) (may-wake_on c.args.condition) c.self.invariant.0 in (
+      subst (λ ts. AreSoundThreads s.allowed s.stacks.depth s.forks s.waits ts st) (sym c.wake_sleepers.ensures.threads) sound,
       omega (arith, c.wake_sleepers.ensures.capacity, c.self.invariant.1),
-      c.self.invariant.2,
     )
 
 pub returns-clause-stays : goal.returns-clause-stays
