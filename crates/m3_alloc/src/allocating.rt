@@ -1,3 +1,4 @@
+use crate::busy::{Busy, busy_of};
 use crate::choosing::{choose_registers, give, wishes_of};
 use crate::extents::Extents;
 use crate::homes::homes_of;
@@ -23,6 +24,8 @@ pub struct Placed<'a> {
     pub at_start: Vec<u32>,
     /// The operations that need no code, in the order in which the blocks lie.
     pub idle: Vec<Idle>,
+    /// By block, which registers its temporaries have.
+    pub busy: Vec<Busy>,
 }
 
 /// The words of a callee's formals that a call stores.
@@ -106,7 +109,8 @@ pub fn allocate<'a>(alloc: Global, d: &Derived<'a>) -> Result<Placed<'a>, NoMemo
     };
     let wishes = wishes_of(alloc, d, &order)?;
     let mut given = vec![in alloc; None; d.proc.temps.len()]?;
-    choose_registers(alloc, &wishes, &extents, &mut needs, &mut given)?;
+    let cover = choose_registers(alloc, &wishes, &extents, &mut needs, &mut given)?;
+    let busy = busy_of(alloc, d, &extents, &cover)?;
     let homes = homes_of(alloc, d)?;
     give_homes(&homes, &needs, &mut given)?;
     let first = place_number(d.proc.slots.len())?.saturating_add(3);
@@ -124,5 +128,6 @@ pub fn allocate<'a>(alloc: Global, d: &Derived<'a>) -> Result<Placed<'a>, NoMemo
         frame: body.saturating_add(outgoing_of(d, &order)),
         at_start,
         idle: Vec::from_slice(alloc, &needs.idle)?,
+        busy,
     })
 }

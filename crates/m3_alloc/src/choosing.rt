@@ -227,14 +227,15 @@ fn queue_of(
     Ok(queue)
 }
 
-/// Gives registers to the temporaries that can have one; notes those for which none was free.
+/// Gives registers to the temporaries that can have one; notes those for which none was free. Gives
+/// which registers are taken where.
 pub(crate) fn choose_registers(
     alloc: Global,
     wishes: &Wishes,
     extents: &Extents,
     needs: &mut Needs,
     places: &mut Vec<Option<Location>>,
-) -> Result<(), NoMemory> {
+) -> Result<Cover, NoMemory> {
     let mut cover = Cover::new(alloc, extents.places as usize)?;
     for temp in &queue_of(alloc, wishes, extents, needs)? {
         let free = cover.free_for(extents, *temp);
@@ -250,7 +251,7 @@ pub(crate) fn choose_registers(
             }
         }
     }
-    Ok(())
+    Ok(cover)
 }
 
 pub(crate) fn give(places: &mut Vec<Option<Location>>, temp: u32, location: Location) {

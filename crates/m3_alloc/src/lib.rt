@@ -2,6 +2,7 @@
 #![tactic(auto)]
 
 mod allocating;
+mod busy;
 mod choosing;
 mod cover;
 mod extents;
@@ -11,4 +12,5 @@ mod sharing;
 mod slots;
 
 pub use allocating::{Placed, allocate, outgoing_words};
+pub use busy::Busy;
 pub use needs::Idle;

@@ -4,7 +4,7 @@ use m3_base::{NoMemory, place_number};
 use m3_core::Core;
 use m3_derive::derive;
 use m3_emit::{Links, Part, Places, SpanPart, emit};
-use m3_gen_parts::Constants;
+use m3_gen_parts::{Constants, quiet_procs};
 use m3_image_sections::ProcPart;
 use m3_isa::{Instr, Op};
 use m3_lower_stmt::lower_proc;
@@ -132,22 +132,31 @@ struct Compiled {
     frame: u32,
 }
 
-fn compile<'s>(
-    alloc: Global,
-    core: &Core,
+/// A program, and what the code of its procedures has to know of it.
+#[derive(Clone, Copy)]
+struct Program<'a, 's> {
+    core: &'a Core<'a>,
     storage: &'s Storage<'s>,
-    constants: &Constants,
+    constants: &'a Constants,
+    /// By procedure, whether nobody looks for an exception behind its calls.
+    quiet: &'a [bool],
+}
+
+fn compile(
+    alloc: Global,
+    program: &Program,
     places: &mut Places,
     number: u32,
 ) -> Result<Compiled, NoMemory> {
     let arena = Bump::new(alloc);
-    let lowered = lower_proc(alloc, &arena, core, storage, number)?;
+    let lowered = lower_proc(alloc, &arena, program.core, program.storage, number)?;
     let improved = improve(alloc, &arena, &lowered)?;
     let derived = derive(alloc, &arena, &improved.proc)?;
     let placed = allocate(alloc, &derived)?;
     let links = Links {
-        constants: constants.values.as_slice(),
-        texts: constants.texts.as_slice(),
+        constants: program.constants.values.as_slice(),
+        texts: program.constants.texts.as_slice(),
+        is_quiet: program.quiet.get(number as usize).copied().unwrap_or(false),
     };
     Ok(Compiled {
         part: emit(alloc, &placed, links, places)?,
@@ -167,9 +176,16 @@ pub fn code_of<'s>(
     let mut code = Code::new(alloc);
     code.add_start(alloc, core.order)?;
     code.add_thread(alloc)?;
+    let quiet = quiet_procs(alloc, core)?;
+    let program = Program {
+        core,
+        storage,
+        constants,
+        quiet: quiet.as_slice(),
+    };
     for number in 0..core.procs.len() {
         let number = place_number(number)?;
-        code.add_proc(compile(alloc, core, storage, constants, places, number)?)?;
+        code.add_proc(compile(alloc, &program, places, number)?)?;
     }
     Ok(code)
 }

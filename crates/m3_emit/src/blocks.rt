@@ -3,6 +3,7 @@ use crate::writer::Writer;
 use m3_alloc::Idle;
 use m3_base::NoMemory;
 use m3_gen_instructions::{Fork, Places};
+use m3_gen_layout::{learn, next_of, sure_operator};
 use m3_isa::Op;
 use m3_mid::{End, MidOp};
 
@@ -147,9 +148,12 @@ impl<'a> Writer<'a> {
                 left,
                 right,
                 pos,
-            } => self
-                .emitter
-                .put_checked(to, operator, (left, right), pos, places),
+            } => match sure_operator(&self.bounds, operator, left, right) {
+                Some(operator) => self.emitter.put_arith(to, operator, left, right),
+                None => self
+                    .emitter
+                    .put_checked(to, operator, (left, right), pos, places),
+            },
             MidOp::Check {
                 relation,
                 left,
@@ -210,6 +214,7 @@ impl<'a> Writer<'a> {
                 let next = ops.get(at.saturating_add(1)).copied();
                 self.put_next_op(*op, next, places)?;
             }
+            learn(&mut self.bounds, *op);
             number = number.saturating_add(1);
         }
         self.emitter.unpin();
@@ -238,7 +243,7 @@ impl<'a> Writer<'a> {
         places: &mut Places,
     ) -> Result<(), NoMemory> {
         match end {
-            End::Goto(to) => self.put_next(target(targets, to), next),
+            End::Goto(to) => self.put_next(next_of(targets, to), next),
             End::If {
                 relation,
                 left,
@@ -250,8 +255,8 @@ impl<'a> Writer<'a> {
                 left,
                 right,
                 Fork {
-                    yes: target(targets, yes),
-                    no: target(targets, no),
+                    yes: next_of(targets, yes),
+                    no: next_of(targets, no),
                     next,
                 },
             ),
@@ -264,8 +269,4 @@ impl<'a> Writer<'a> {
             } => self.put_raise(exception, number, tidy),
         }
     }
-}
-
-pub(crate) fn target(targets: &[u32], block: u32) -> u32 {
-    targets.get(block as usize).copied().unwrap_or(block)
 }

@@ -1,6 +1,6 @@
 use crate::writer::Writer;
 use m3_base::NoMemory;
-use m3_gen_instructions::{FIRST, word_of};
+use m3_gen_instructions::{Content, FIRST, word_of};
 use m3_isa::Op;
 use m3_mid::{Actual, Callee, Kind, MidOp, Operand, Raised};
 use m3_tables::Location;
@@ -237,7 +237,7 @@ impl<'a> Writer<'a> {
     /// then on.
     fn set_aside(&mut self, list: &mut Vec<Transfer>) -> Result<(), NoMemory> {
         if let Some(first) = list.first().copied() {
-            let register = self.emitter.scratch()?;
+            let register = self.emitter.high_scratch()?;
             self.emitter.put_abc(Op::Move, register, first.to, 0)?;
             for item in list.iter_mut() {
                 if item.from == first.to {
@@ -260,6 +260,9 @@ impl<'a> Writer<'a> {
             }
         }
         self.transfer(&mut transfers)?;
+        for (to, _operand) in goals {
+            self.emitter.note(*to, Content::Nothing);
+        }
         for (to, operand) in goals {
             let is_moved = match operand {
                 Operand::Temp(temp) => {
@@ -274,12 +277,15 @@ impl<'a> Writer<'a> {
         Ok(())
     }
 
-    /// Returns, with the result in register 0 and 0 in register 1: no exception.
+    /// Returns, with the result in register 0 and, where somebody may look for an exception, 0 in
+    /// register 1.
     pub(crate) fn put_return(&mut self, value: Option<Operand>) -> Result<(), NoMemory> {
         if let Some(value) = value {
             self.emitter.load_into(0, value)?;
         }
-        self.emitter.put_imm(Op::Li, 1, 0, 0)?;
+        if !self.emitter.links.is_quiet {
+            self.emitter.put_imm(Op::Li, 1, 0, 0)?;
+        }
         self.emitter.put_abc(Op::Ret, 0, 0, 0)
     }
 

@@ -1,14 +1,15 @@
-use crate::blocks::target;
 use crate::part::Part;
-use crate::starts::unset_words;
-use crate::targets::{entries_of, laid_of, targets_of};
 use crate::writer::Writer;
 use m3_alloc::Placed;
 use m3_base::{NoMemory, place_number};
-use m3_flow::{block_order, end_operands, temp_of, uses_of};
+use m3_flow::{block_order, end_operands, exits_of, temp_of, uses_of};
 use m3_gen_instructions::{Emitter, Links, Places, Target, imm_of, word_of};
+use m3_gen_layout::{
+    Graph, Known, NO_BOUNDS, Plan, add_bound, entries_of, laid_of, next_of, plan_of, shifts_of,
+    targets_of, unset_words,
+};
 use m3_isa::Op;
-use m3_mid::{Kind, Proc};
+use m3_mid::{End, Kind, Proc};
 use std::alloc::Global;
 
 /// How often each temporary is used.
@@ -56,62 +57,119 @@ fn writer_of<'a>(
 ) -> Result<Writer<'a>, NoMemory> {
     let p = &placed.derived.proc;
     Ok(Writer {
-        emitter: Emitter::new(alloc, placed, links, counts_of(alloc, p)?)?,
+        emitter: Emitter::new(
+            alloc,
+            placed,
+            links,
+            counts_of(alloc, p)?,
+            shifts_of(alloc, placed)?,
+        ),
         rows: Vec::new(alloc),
         spans: Vec::new(alloc),
         tidy_words: words_of_kind(alloc, p, Kind::Tidy)?,
         passed_words: words_of_kind(alloc, p, Kind::Address)?,
         row: 0,
+        bounds: NO_BOUNDS,
         idle: 0,
     })
 }
 
-/// Where blocks and faults begin, and so where the jumps go.
+/// Which blocks get code, and where jumps to them go.
 #[derive(Drop)]
 struct Map {
     targets: Vec<u32>,
     laid: Vec<u32>,
     entries: Vec<u32>,
-    /// By block, the number of its first instruction.
-    fronts: Vec<u32>,
-    stubs: Vec<u32>,
+    /// What stays in registers over loops.
+    plan: Plan,
 }
 
-fn map_of(alloc: Global, p: &Proc) -> Result<Map, NoMemory> {
-    let order = block_order(alloc, p)?;
-    let targets = targets_of(alloc, p, &order)?;
-    let laid = laid_of(alloc, &order, &targets)?;
-    let entries = entries_of(alloc, p, &laid, &targets)?;
-    Ok(Map {
-        targets,
-        laid,
-        entries,
-        fronts: vec![in alloc; 0u32; p.blocks.len()]?,
-        stubs: Vec::new(alloc),
-    })
+/// Where blocks and faults begin, and what is known of registers at the fronts of blocks.
+#[derive(Drop)]
+struct Fronts {
+    /// By block, the number of its first instruction.
+    blocks: Vec<u32>,
+    stubs: Vec<u32>,
+    known: Known,
 }
 
 /// The number of a target's first instruction.
-fn begin_of(map: &Map, to: Target) -> u32 {
+fn begin_of(fronts: &Fronts, to: Target) -> u32 {
     let begin = match to {
-        Target::Block(block) => map.fronts.get(block as usize),
-        Target::Stub(stub) => map.stubs.get(stub as usize),
+        Target::Block(block) => fronts.blocks.get(block as usize),
+        Target::Stub(stub) => fronts.stubs.get(stub as usize),
     };
     begin.copied().unwrap_or(0)
 }
 
 /// The block whose code follows that of one.
-fn next_of(map: &Map, at: usize) -> Option<u32> {
+fn block_behind(map: &Map, at: usize) -> Option<u32> {
     map.laid.get(at.saturating_add(1)).copied()
 }
 
 impl<'a> Writer<'a> {
-    /// The code of all blocks. What registers hold is known at the front of a block that is entered
-    /// from the one before it alone.
-    fn put_blocks(&mut self, map: &mut Map, places: &mut Places) -> Result<(), NoMemory> {
+    /// Begins a block with what is known at its front, and what stays in registers.
+    fn begin(&mut self, map: &Map, fronts: &mut Fronts, number: u32) -> Result<(), NoMemory> {
+        let placed = self.emitter.placed;
+        let busy = match placed.busy.get(number as usize) {
+            Some(busy) => busy.whole,
+            None => u64::MAX,
+        };
+        let (known, bounds) = fronts.known.at_front(number);
+        self.emitter.begin_block(number, busy, known);
+        self.bounds = bounds;
+        for at in 0..COUNT {
+            if let Some(kept) = map.plan.inside(number, at) {
+                self.emitter.keep(kept.register, kept.content);
+            }
+        }
+        let here = self.emitter.here()?;
+        if let Some(front) = fronts.blocks.get_mut(number as usize) {
+            *front = here;
+        }
+        Ok(())
+    }
+
+    /// Puts into registers what the loops keep that begin behind a block.
+    fn prepare_loops(&mut self, map: &Map, number: u32) -> Result<(), NoMemory> {
+        for at in 0..COUNT {
+            if let Some(kept) = map.plan.at_end(number, at) {
+                self.emitter.put_content(kept.register, kept.content)?;
+                self.emitter.keep(kept.register, kept.content);
+            }
+        }
+        Ok(())
+    }
+
+    /// Notes what is known where it goes on behind a block.
+    fn leave(&self, map: &Map, fronts: &mut Fronts, end: End) {
+        for (at, exit) in exits_of(end).iter().enumerate() {
+            let mut bounds = self.bounds;
+            if let End::If {
+                relation,
+                left,
+                right,
+                ..
+            } = end
+            {
+                add_bound(&mut bounds, relation, left, right, at == 0);
+            }
+            if let Some(to) = exit {
+                let target = next_of(&map.targets, *to);
+                fronts.known.enter(target, self.emitter.contents, bounds);
+            }
+        }
+    }
+
+    /// The code of all blocks.
+    fn put_blocks(
+        &mut self,
+        map: &Map,
+        fronts: &mut Fronts,
+        places: &mut Places,
+    ) -> Result<(), NoMemory> {
         let placed = self.emitter.placed;
         let blocks = placed.derived.proc.blocks;
-        let mut falls = false;
         for at in 0..map.laid.len() {
             let Some(number) = map.laid.get(at).copied() else {
                 return Ok(());
@@ -119,26 +177,20 @@ impl<'a> Writer<'a> {
             let Some(block) = blocks.get(number as usize).copied() else {
                 return Ok(());
             };
-            if !falls || map.entries.get(number as usize).copied() != Some(1) {
-                self.emitter.forget_all();
-            }
-            let here = self.emitter.here()?;
-            if let Some(front) = map.fronts.get_mut(number as usize) {
-                *front = here;
-            }
+            self.begin(map, fronts, number)?;
             self.put_ops(number, block.ops, places)?;
-            let next = next_of(map, at);
-            self.put_end(block.end, &map.targets, next, places)?;
-            falls = leads_to(&map.targets, block.end, next);
+            self.prepare_loops(map, number)?;
+            self.put_end(block.end, &map.targets, block_behind(map, at), places)?;
+            self.leave(map, fronts, block.end);
         }
         Ok(())
     }
 
     /// The faults, behind all other code.
-    fn put_stubs(&mut self, map: &mut Map) -> Result<(), NoMemory> {
+    fn put_stubs(&mut self, fronts: &mut Fronts) -> Result<(), NoMemory> {
         for at in 0..self.emitter.stubs.len() {
             if let Some((kind, place)) = self.emitter.stubs.get(at).copied() {
-                map.stubs.push(self.emitter.here()?)?;
+                fronts.stubs.push(self.emitter.here()?)?;
                 self.emitter.put_word(Op::Fault, kind, place)?;
             }
         }
@@ -146,10 +198,10 @@ impl<'a> Writer<'a> {
     }
 
     /// Lets the jumps go where their targets begin.
-    fn set_jumps(&mut self, map: &Map) -> Result<(), NoMemory> {
+    fn set_jumps(&mut self, fronts: &Fronts) -> Result<(), NoMemory> {
         for at in 0..self.emitter.jumps.len() {
             if let Some((instr, to)) = self.emitter.jumps.get(at).copied() {
-                let imm = imm_of(begin_of(map, to))?;
+                let imm = imm_of(begin_of(fronts, to))?;
                 if let Some(item) = self.emitter.code.get_mut(instr as usize) {
                     item.imm = imm;
                 }
@@ -158,29 +210,86 @@ impl<'a> Writer<'a> {
         Ok(())
     }
 
-    fn put_all(&mut self, map: &mut Map, places: &mut Places) -> Result<(), NoMemory> {
+    fn put_all(
+        &mut self,
+        map: &Map,
+        fronts: &mut Fronts,
+        places: &mut Places,
+    ) -> Result<(), NoMemory> {
         let placed = self.emitter.placed;
         let p = placed.derived.proc;
         let mut words = unset_words(self.emitter.alloc, &p)?;
         self.put_start(&mut words)?;
-        let first = map.laid.first().copied();
-        self.emitter.put_goto(target(&map.targets, p.start), first)?;
-        self.put_blocks(map, places)?;
-        self.put_stubs(map)?;
-        self.set_jumps(map)
+        for at in 0..COUNT {
+            if let Some(kept) = map.plan.at_start(at) {
+                self.emitter.put_content(kept.register, kept.content)?;
+                self.emitter.keep(kept.register, kept.content);
+            }
+        }
+        let start = next_of(&map.targets, p.start);
+        self.emitter.put_goto(start, map.laid.first().copied())?;
+        fronts.known.enter(start, self.emitter.contents, NO_BOUNDS);
+        self.put_blocks(map, fronts, places)?;
+        self.put_stubs(fronts)?;
+        self.set_jumps(fronts)
     }
 }
 
-/// Whether a block's end may go on at a block.
-fn leads_to(targets: &[u32], end: m3_mid::End, next: Option<u32>) -> bool {
-    for exit in m3_flow::exits_of(end) {
-        if let Some(to) = exit
-            && Some(target(targets, to)) == next
-        {
-            return true;
-        }
+/// So many things at most stay in registers.
+const COUNT: usize = 16;
+
+/// The code of a procedure with its rows.
+fn write<'a>(
+    alloc: Global,
+    placed: &'a Placed<'a>,
+    links: Links<'a>,
+    map: &Map,
+    places: &mut Places,
+) -> Result<Writer<'a>, NoMemory> {
+    let mut fronts = Fronts {
+        blocks: vec![in alloc; 0u32; map.entries.len()]?,
+        stubs: Vec::new(alloc),
+        known: Known::new(alloc, &map.entries)?,
+    };
+    let mut writer = writer_of(alloc, placed, links)?;
+    writer.put_all(map, &mut fronts, places)?;
+    Ok(writer)
+}
+
+/// The code of a procedure. Where it has loops it is written twice: what the loops had to put into
+/// registers again and again then stays there.
+fn write_best<'a>(
+    alloc: Global,
+    placed: &'a Placed<'a>,
+    links: Links<'a>,
+    places: &mut Places,
+) -> Result<Writer<'a>, NoMemory> {
+    let p = &placed.derived.proc;
+    let order = block_order(alloc, p)?;
+    let targets = targets_of(alloc, p, &order)?;
+    let laid = laid_of(alloc, &order, &targets)?;
+    let entries = entries_of(alloc, p, &laid, &targets)?;
+    let graph = Graph::of(alloc, p, &order, &targets, &laid)?;
+    let mut map = Map {
+        targets,
+        laid,
+        entries,
+        plan: Plan::none(alloc)?,
+    };
+    let first = write(alloc, placed, links, &map, places)?;
+    let emitter = &first.emitter;
+    let plan = plan_of(
+        alloc,
+        &graph,
+        &placed.busy,
+        &emitter.demands,
+        &emitter.settings,
+    )?;
+    if plan.is_empty() {
+        return Ok(first);
     }
-    false
+    map.plan = plan;
+    write(alloc, placed, links, &map, places)
 }
 
 /// The instructions of a procedure, with the rows and spans of its points. The places that its
@@ -191,9 +300,6 @@ pub fn emit<'a>(
     links: Links<'a>,
     places: &mut Places,
 ) -> Result<Part, NoMemory> {
-    let mut map = map_of(alloc, &placed.derived.proc)?;
-    let mut writer = writer_of(alloc, placed, links)?;
-    writer.put_all(&mut map, places)?;
     let Writer {
         emitter,
         rows,
@@ -201,8 +307,9 @@ pub fn emit<'a>(
         tidy_words: _,
         passed_words: _,
         row: _,
+        bounds: _,
         idle: _,
-    } = writer;
+    } = write_best(alloc, placed, links, places)?;
     Ok(Part {
         code: emitter.into_code(),
         rows,

@@ -9,7 +9,6 @@ mod part;
 mod rows;
 mod services;
 mod starts;
-mod targets;
 mod writer;
 
 pub use emitting::emit;

@@ -1,7 +1,7 @@
 use crate::calls::Passed;
 use crate::writer::Writer;
 use m3_base::{FaultKind, NoMemory, Pos};
-use m3_gen_instructions::{FIRST, Goal, Places};
+use m3_gen_instructions::{Content, FIRST, Goal, Places};
 use m3_isa::{Instr, Op};
 use m3_mid::{Kind, MidOp, Operand, Service};
 
@@ -77,15 +77,16 @@ impl<'a> Writer<'a> {
     /// The register of an operand of a service; where a tidy one isn't in the register of its
     /// temporary, the row of the point names it.
     fn service_operand(&mut self, operand: Operand, listed: &mut Vec<u8>) -> Result<u8, NoMemory> {
-        let register = self.emitter.operand(operand)?;
-        if let Operand::Temp(temp) = operand
-            && self.emitter.kind_of(temp) == Kind::Tidy
-            && FIRST <= register
-            && !listed.contains(&register)
-        {
-            listed.push(register)?;
+        match operand {
+            Operand::Temp(temp) if self.emitter.kind_of(temp) == Kind::Tidy => {
+                let register = self.emitter.high_temp(temp)?;
+                if FIRST <= register && !listed.contains(&register) {
+                    listed.push(register)?;
+                }
+                Ok(register)
+            }
+            _ => self.emitter.operand(operand),
         }
-        Ok(register)
     }
 
     fn service_operands(
@@ -110,6 +111,7 @@ impl<'a> Writer<'a> {
             None => Ok(Goal {
                 register: self.emitter.scratch()?,
                 word: None,
+                content: Content::Nothing,
             }),
         }
     }
@@ -178,7 +180,7 @@ impl<'a> Writer<'a> {
             },
         );
         self.put_service_instr(instr, kind, pos, places)?;
-        self.emitter.forget_words();
+        self.emitter.forget_pointers();
         if let Some(goal) = result {
             self.emitter.settle(goal)?;
         }
@@ -206,7 +208,7 @@ impl<'a> Writer<'a> {
                 let goal = self.emitter.goal(to)?;
                 self.add_row(op, &[], &passed)?;
                 self.emitter.put_imm(Op::New, goal.register, 0, imm)?;
-                self.emitter.forget_words();
+                self.emitter.forget_pointers();
                 self.emitter.settle(goal)
             }
             Some(slot) => {
@@ -216,7 +218,7 @@ impl<'a> Writer<'a> {
                 let goal = self.emitter.goal(to)?;
                 self.add_row(op, &[], &passed)?;
                 self.emitter.put_imm(Op::Newo, goal.register, at, imm)?;
-                self.emitter.forget_words();
+                self.emitter.forget_pointers();
                 self.emitter.settle(goal)
             }
         }
@@ -230,7 +232,7 @@ impl<'a> Writer<'a> {
         };
         self.add_row(op, &[], &passed)?;
         self.emitter.put_abc(Op::Point, 0, 0, 0)?;
-        self.emitter.forget_words();
+        self.emitter.forget_pointers();
         Ok(())
     }
 }

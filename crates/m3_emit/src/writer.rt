@@ -1,5 +1,6 @@
 use crate::part::SpanPart;
 use m3_gen_instructions::Emitter;
+use m3_gen_layout::Bounds;
 use m3_tables_writer::RowPlain;
 
 /// The code of a procedure with its rows, in the making.
@@ -14,6 +15,8 @@ pub(crate) struct Writer<'a> {
     pub(crate) passed_words: Vec<u32>,
     /// How many rows are made.
     pub(crate) row: usize,
+    /// What is known of temporaries at the operation at hand.
+    pub(crate) bounds: Bounds,
     /// How many operations were left out that need no code.
     pub(crate) idle: usize,
 }

@@ -6,15 +6,44 @@ use m3_mid::Kind;
 use m3_tables::Location;
 use std::alloc::Global;
 
-/// What a register above those of the temporaries holds, beside what is being computed.
+/// What a register that no temporary has holds, beside what is being computed.
 #[derive(Clone, Copy, PartialEq, Eq)]
 pub enum Content {
     Nothing,
-    /// The word of the frame that a temporary has as its place.
+    /// The word of the frame that a temporary has as its place, which holds a pointer.
+    Pointer(u32),
+    /// Such a word that holds none.
     Word(u32),
     Number(i64),
     /// The address of the first global word.
     Globals,
+}
+
+/// How many registers there are.
+const COUNT: usize = 16;
+
+/// What each register holds.
+pub type Contents = [Content; COUNT];
+
+/// Nothing is known of any register.
+pub const NOTHING: Contents = [Content::Nothing; COUNT];
+
+/// What is known where two ways meet: what is known on both.
+pub fn meet(known: Contents, other: Contents) -> Contents {
+    let mut both = known;
+    for (item, content) in both.iter_mut().zip(other.iter()) {
+        if *item != *content {
+            *item = Content::Nothing;
+        }
+    }
+    both
+}
+
+/// What had to be put into a register in a block.
+#[derive(Clone, Copy, PartialEq, Eq)]
+pub struct Demand {
+    pub block: u32,
+    pub content: Content,
 }
 
 /// Where a jump goes.
@@ -40,15 +69,23 @@ pub struct Emitter<'a> {
     pub placed: &'a Placed<'a>,
     pub links: Links<'a>,
     pub code: Vec<Instr>,
-    /// Of registers 12 to 15.
-    pub contents: Vec<Content>,
-    /// Of registers 12 to 15, whether the operation at hand needs what it holds.
-    pub pins: Vec<bool>,
-    /// The register that is overwritten next.
-    pub turn: u8,
+    pub contents: Contents,
+    /// Whether a register may be overwritten in the block at hand.
+    pub pool: [bool; COUNT],
+    /// Whether the operation at hand needs what a register holds.
+    pub pins: [bool; COUNT],
+    /// The place among `ORDER` of the register that is overwritten next.
+    pub turn: usize,
     pub fold: Option<Fold>,
     /// By temporary, how often it is used.
     pub counts: Vec<u32>,
+    /// By temporary, what is to be added to the address that its place holds.
+    pub shifts: Vec<i32>,
+    /// The block at hand.
+    pub block: u32,
+    pub demands: Vec<Demand>,
+    /// The words of the frame that blocks set.
+    pub settings: Vec<(u32, u32)>,
     pub jumps: Vec<(u32, Target)>,
     /// The faults at the end of the code: kind and place.
     pub stubs: Vec<(u8, u32)>,
@@ -63,30 +100,45 @@ pub fn imm_of(number: u32) -> Result<i32, NoMemory> {
     }
 }
 
-/// The first register that no temporary has.
+/// The first register that no temporary has anywhere.
 pub const FIRST: u8 = 12;
 
+/// The registers in the order in which they are taken for what is being computed.
+const ORDER: [u8; COUNT] = [12, 13, 14, 15, 11, 10, 9, 8, 7, 6, 5, 4, 3, 2, 1, 0];
+
+/// The registers that no temporary has anywhere.
+const HIGHEST: [u8; 4] = [12, 13, 14, 15];
+
 impl<'a> Emitter<'a> {
-    /// No code yet, for a procedure whose temporaries are used so often.
+    /// No code yet, for a procedure whose temporaries are used so often, and whose addresses are
+    /// kept less these shifts.
     pub fn new(
         alloc: Global,
         placed: &'a Placed<'a>,
         links: Links<'a>,
         counts: Vec<u32>,
-    ) -> Result<Emitter<'a>, NoMemory> {
-        Ok(Emitter {
+        shifts: Vec<i32>,
+    ) -> Emitter<'a> {
+        let mut emitter = Emitter {
             alloc,
             placed,
             links,
             code: Vec::new(alloc),
-            contents: vec![in alloc; Content::Nothing; 4]?,
-            pins: vec![in alloc; false; 4]?,
+            contents: NOTHING,
+            pool: [false; COUNT],
+            pins: [false; COUNT],
             turn: 0,
             fold: None,
             counts,
+            shifts,
+            block: 0,
+            demands: Vec::new(alloc),
+            settings: Vec::new(alloc),
             jumps: Vec::new(alloc),
             stubs: Vec::new(alloc),
-        })
+        };
+        emitter.begin_block(0, u64::MAX, NOTHING);
+        emitter
     }
 
     pub fn put(&mut self, instr: Instr) -> Result<(), NoMemory> {
@@ -158,116 +210,213 @@ impl<'a> Emitter<'a> {
         temps.get(temp as usize).copied().unwrap_or(Kind::Number)
     }
 
-    fn content(&self, at: u8) -> Content {
+    /// What is to be added to the address that a temporary's place holds.
+    pub fn shift_of(&self, temp: u32) -> i32 {
+        self.shifts.get(temp as usize).copied().unwrap_or(0)
+    }
+
+    fn content(&self, register: u8) -> Content {
         self.contents
-            .get(at as usize)
+            .get(register as usize)
             .copied()
             .unwrap_or(Content::Nothing)
     }
 
-    fn is_pinned(&self, at: u8) -> bool {
-        self.pins.get(at as usize).copied().unwrap_or(true)
+    fn is_in_pool(&self, register: u8) -> bool {
+        self.pool.get(register as usize).copied().unwrap_or(false)
     }
 
-    fn pin(&mut self, at: u8) {
-        if let Some(pin) = self.pins.get_mut(at as usize) {
-            *pin = true;
+    fn set_pool(&mut self, register: u8, is_in_pool: bool) {
+        if let Some(item) = self.pool.get_mut(register as usize) {
+            *item = is_in_pool;
+        }
+    }
+
+    fn is_pinned(&self, register: u8) -> bool {
+        self.pins.get(register as usize).copied().unwrap_or(true)
+    }
+
+    fn set_pin(&mut self, register: u8, is_pinned: bool) {
+        if let Some(pin) = self.pins.get_mut(register as usize) {
+            *pin = is_pinned;
         }
     }
 
     /// Keeps what a register holds for the operation at hand.
     pub fn pin_register(&mut self, register: u8) {
-        if let Some(at) = register.checked_sub(FIRST) {
-            self.pin(at);
-        }
+        self.set_pin(register, true);
     }
 
     /// What a register holds isn't needed any more.
     pub fn unpin_register(&mut self, register: u8) {
-        if let Some(at) = register.checked_sub(FIRST)
-            && let Some(pin) = self.pins.get_mut(at as usize)
-        {
-            *pin = false;
-        }
+        self.set_pin(register, false);
     }
 
     /// Lets go what the operation before needed.
     pub fn unpin(&mut self) {
-        for pin in self.pins.iter_mut() {
-            *pin = false;
-        }
+        self.pins = [false; COUNT];
     }
 
     /// Says what a register holds from now on.
     pub fn note(&mut self, register: u8, content: Content) {
-        if let Some(at) = register.checked_sub(FIRST)
-            && let Some(item) = self.contents.get_mut(at as usize)
-        {
+        if let Some(item) = self.contents.get_mut(register as usize) {
             *item = content;
         }
     }
 
-    /// The register that holds this already.
-    pub fn find(&mut self, content: Content) -> Option<u8> {
-        for at in 0..4u8 {
-            if self.content(at) == content {
-                self.pin(at);
-                return Some(FIRST + at);
+    /// Says what a register holds from now on, if no temporary has it.
+    pub fn note_copy(&mut self, register: u8, content: Content) {
+        if self.is_in_pool(register) {
+            self.note(register, content);
+        }
+    }
+
+    /// The register from one on that holds this already.
+    fn find_from(&mut self, first: u8, content: Content) -> Option<u8> {
+        for register in first..16 {
+            if self.content(register) == content {
+                self.pin_register(register);
+                return Some(register);
             }
         }
         None
     }
 
-    fn free_register(&self) -> Option<u8> {
-        for at in 0..4u8 {
-            if !self.is_pinned(at) && self.content(at) == Content::Nothing {
-                return Some(at);
+    /// The register that holds this already.
+    pub fn find(&mut self, content: Content) -> Option<u8> {
+        self.find_from(0, content)
+    }
+
+    /// The register above those of temporaries that holds this already.
+    pub fn find_high(&mut self, content: Content) -> Option<u8> {
+        self.find_from(FIRST, content)
+    }
+
+    fn is_free(&self, register: u8) -> bool {
+        self.is_in_pool(register) && !self.is_pinned(register)
+    }
+
+    /// One of some registers that may be overwritten: an empty one where there is one, else the next
+    /// in turn.
+    fn free_register(&self, order: &[u8]) -> Option<u8> {
+        for register in order {
+            if self.is_free(*register) && self.content(*register) == Content::Nothing {
+                return Some(*register);
             }
         }
-        for step in 0..4u8 {
-            let at = (self.turn % 4 + step) % 4;
-            if !self.is_pinned(at) {
-                return Some(at);
+        for register in order.iter().skip(self.turn) {
+            if self.is_free(*register) {
+                return Some(*register);
+            }
+        }
+        for register in order {
+            if self.is_free(*register) {
+                return Some(*register);
             }
         }
         None
+    }
+
+    fn take_register(&mut self, order: &[u8]) -> Result<u8, NoMemory> {
+        // no operation needs more than four at once
+        let register = self.free_register(order).ok_or(gap())?;
+        self.note(register, Content::Nothing);
+        self.pin_register(register);
+        for (at, item) in order.iter().enumerate() {
+            if *item == register {
+                self.turn = at.saturating_add(1);
+            }
+        }
+        Ok(register)
     }
 
     /// A register for what is being computed.
     pub fn scratch(&mut self) -> Result<u8, NoMemory> {
-        // no operation needs more than the four at once
-        let at = self.free_register().ok_or(gap())?;
-        if let Some(item) = self.contents.get_mut(at as usize) {
-            *item = Content::Nothing;
+        self.take_register(&ORDER)
+    }
+
+    /// A register above those of temporaries.
+    pub fn high_scratch(&mut self) -> Result<u8, NoMemory> {
+        self.take_register(&HIGHEST)
+    }
+
+    /// Begins a block: which registers its temporaries have, and what is known of the others.
+    pub fn begin_block(&mut self, block: u32, busy: u64, known: Contents) {
+        self.block = block;
+        self.contents = known;
+        for register in 0..16u8 {
+            let is_busy = register < 12 && busy & (1u64 << register) != 0;
+            if is_busy {
+                self.note(register, Content::Nothing);
+            }
+            self.set_pool(register, !is_busy);
         }
-        self.pin(at);
-        self.turn = (at % 4 + 1) % 4;
-        Ok(FIRST + at % 4)
     }
 
     /// Forgets everything that registers hold.
     pub fn forget_all(&mut self) {
-        for item in self.contents.iter_mut() {
-            *item = Content::Nothing;
-        }
+        self.contents = NOTHING;
     }
 
-    /// Forgets what words of the frame hold, since a collector may have changed them.
-    pub fn forget_words(&mut self) {
+    /// Forgets the pointers that words of the frame hold, since a collector may have changed them.
+    pub fn forget_pointers(&mut self) {
         for item in self.contents.iter_mut() {
-            if let Content::Word(_) = *item {
+            if let Content::Pointer(_) = *item {
                 *item = Content::Nothing;
             }
         }
     }
 
-    /// Forgets what a word of the frame held.
-    pub fn forget_word(&mut self, word: u32) {
+    /// Forgets what a word of the frame held, which is set now.
+    pub fn forget_word(&mut self, word: u32) -> Result<(), NoMemory> {
         for item in self.contents.iter_mut() {
-            if *item == Content::Word(word) {
+            if *item == Content::Word(word) || *item == Content::Pointer(word) {
                 *item = Content::Nothing;
             }
         }
+        self.settings.push((self.block, word))?;
+        Ok(())
+    }
+
+    /// What a register holds that is a copy of a temporary's word.
+    pub fn content_of(&self, temp: u32, word: u32) -> Content {
+        if self.kind_of(temp) == Kind::Number {
+            Content::Word(word)
+        } else {
+            Content::Pointer(word)
+        }
+    }
+
+    /// Keeps something in a register over the block at hand.
+    pub fn keep(&mut self, register: u8, content: Content) {
+        self.note(register, content);
+        self.set_pool(register, false);
+    }
+
+    /// Puts something into a register.
+    pub fn put_content(&mut self, register: u8, content: Content) -> Result<(), NoMemory> {
+        match content {
+            Content::Number(value) => self.put_number(register, value)?,
+            Content::Globals => self.put_imm(Op::Glb, register, 0, 0)?,
+            Content::Word(word) | Content::Pointer(word) => self.put_word(Op::Lds, register, word)?,
+            Content::Nothing => {}
+        }
+        self.note(register, content);
+        Ok(())
+    }
+
+    /// A register that holds something.
+    pub fn demand(&mut self, content: Content) -> Result<u8, NoMemory> {
+        if let Some(register) = self.find(content) {
+            return Ok(register);
+        }
+        let register = self.scratch()?;
+        self.put_content(register, content)?;
+        self.demands.push(Demand {
+            block: self.block,
+            content,
+        })?;
+        Ok(register)
     }
 
     /// The code.
@@ -278,10 +427,15 @@ impl<'a> Emitter<'a> {
             links: _,
             code,
             contents: _,
+            pool: _,
             pins: _,
             turn: _,
             fold: _,
             counts: _,
+            shifts: _,
+            block: _,
+            demands: _,
+            settings: _,
             jumps: _,
             stubs: _,
         } = self;

@@ -11,7 +11,7 @@ mod plain;
 mod relations;
 
 pub use branches::Fork;
-pub use emitter::{Content, Emitter, FIRST, Fold, Target, imm_of};
+pub use emitter::{Content, Contents, Demand, Emitter, FIRST, Fold, NOTHING, Target, imm_of, meet};
 pub use operands::Goal;
 pub use part::{Links, Places, goes_to_imm};
 pub use plain::word_of;

@@ -1,4 +1,4 @@
-use crate::emitter::{Content, Emitter, FIRST};
+use crate::emitter::{Content, Emitter};
 use m3_base::NoMemory;
 use m3_isa::Op;
 use m3_mid::Operand;
@@ -19,6 +19,8 @@ fn halves_of(value: i64) -> (i32, i32) {
 pub struct Goal {
     pub register: u8,
     pub word: Option<u32>,
+    /// What the register holds then.
+    pub content: Content,
 }
 
 impl<'a> Emitter<'a> {
@@ -34,26 +36,28 @@ impl<'a> Emitter<'a> {
 
     /// A register that holds a number.
     pub fn number(&mut self, value: i64) -> Result<u8, NoMemory> {
-        if let Some(register) = self.find(Content::Number(value)) {
-            return Ok(register);
-        }
-        let register = self.scratch()?;
-        self.put_number(register, value)?;
-        self.note(register, Content::Number(value));
-        Ok(register)
+        self.demand(Content::Number(value))
     }
 
     /// A register that holds a temporary.
     pub fn temp(&mut self, temp: u32) -> Result<u8, NoMemory> {
         match self.place_of(temp) {
             Location::Register(register) => Ok(register),
+            Location::Slot(word) => self.demand(self.content_of(temp, word)),
+        }
+    }
+
+    /// A register that holds a temporary: that of the temporary, or one above those of temporaries.
+    pub fn high_temp(&mut self, temp: u32) -> Result<u8, NoMemory> {
+        match self.place_of(temp) {
+            Location::Register(register) => Ok(register),
             Location::Slot(word) => {
-                if let Some(register) = self.find(Content::Word(word)) {
+                let content = self.content_of(temp, word);
+                if let Some(register) = self.find_high(content) {
                     return Ok(register);
                 }
-                let register = self.scratch()?;
-                self.put_word(Op::Lds, register, word)?;
-                self.note(register, Content::Word(word));
+                let register = self.high_scratch()?;
+                self.put_content(register, content)?;
                 Ok(register)
             }
         }
@@ -69,13 +73,7 @@ impl<'a> Emitter<'a> {
 
     /// A register that holds the address of the first global word.
     pub fn globals(&mut self) -> Result<u8, NoMemory> {
-        if let Some(register) = self.find(Content::Globals) {
-            return Ok(register);
-        }
-        let register = self.scratch()?;
-        self.put_imm(Op::Glb, register, 0, 0)?;
-        self.note(register, Content::Globals);
-        Ok(register)
+        self.demand(Content::Globals)
     }
 
     /// Puts an operand into one register, whatever that held.
@@ -84,7 +82,7 @@ impl<'a> Emitter<'a> {
             Operand::Number(value) => self.put_number(register, value),
             Operand::Temp(temp) => match self.place_of(temp) {
                 Location::Register(from) => self.move_into(register, from),
-                Location::Slot(word) => match self.find(Content::Word(word)) {
+                Location::Slot(word) => match self.find(self.content_of(temp, word)) {
                     Some(from) => self.move_into(register, from),
                     None => self.put_word(Op::Lds, register, word),
                 },
@@ -107,10 +105,12 @@ impl<'a> Emitter<'a> {
             Location::Register(register) => Ok(Goal {
                 register,
                 word: None,
+                content: Content::Nothing,
             }),
             Location::Slot(word) => Ok(Goal {
                 register: self.scratch()?,
                 word: Some(word),
+                content: self.content_of(to, word),
             }),
         }
     }
@@ -119,8 +119,8 @@ impl<'a> Emitter<'a> {
     pub fn settle(&mut self, goal: Goal) -> Result<(), NoMemory> {
         if let Some(word) = goal.word {
             self.put_word(Op::Sts, goal.register, word)?;
-            self.forget_word(word);
-            self.note(goal.register, Content::Word(word));
+            self.forget_word(word)?;
+            self.note(goal.register, goal.content);
         }
         Ok(())
     }
@@ -131,10 +131,8 @@ impl<'a> Emitter<'a> {
             Location::Register(register) => self.move_into(register, from),
             Location::Slot(word) => {
                 self.put_word(Op::Sts, from, word)?;
-                self.forget_word(word);
-                if FIRST <= from {
-                    self.note(from, Content::Word(word));
-                }
+                self.forget_word(word)?;
+                self.note_copy(from, self.content_of(to, word));
                 Ok(())
             }
         }

@@ -3,12 +3,15 @@ use m3_isa::Op;
 use std::alloc::Global;
 use std::collections::BTreeMap;
 
-/// Where the constants and the cells of the texts of a program begin among the words of an image's
-/// constants.
+/// What a procedure's code has to know of the program.
 #[derive(Clone, Copy)]
 pub struct Links<'a> {
+    /// Where the constants begin among the words of the image's constants.
     pub constants: &'a [u32],
+    /// Where the cells of the texts begin there.
     pub texts: &'a [u32],
+    /// Whether nobody looks for an exception behind a call of the procedure.
+    pub is_quiet: bool,
 }
 
 /// The places that faults name: a file and a line, each once.

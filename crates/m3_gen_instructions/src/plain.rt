@@ -73,6 +73,13 @@ impl<'a> Emitter<'a> {
         left: Operand,
         right: Operand,
     ) -> Result<(), NoMemory> {
+        let shift = i64::from(self.shift_of(to));
+        let is_shift = operator == WordOperator::Add
+            && left == Operand::Temp(to)
+            && right == Operand::Number(shift);
+        if is_shift && shift != 0 {
+            return Ok(());
+        }
         if let Some((operand, by)) = small_sum(operator, left, right) {
             let from = self.operand(operand)?;
             return self.put_sum(to, from, by);
@@ -93,8 +100,7 @@ impl<'a> Emitter<'a> {
             Location::Slot(word) => {
                 let register = self.number(value)?;
                 self.put_word(Op::Sts, register, word)?;
-                self.forget_word(word);
-                Ok(())
+                self.forget_word(word)
             }
         }
     }
@@ -120,7 +126,8 @@ impl<'a> Emitter<'a> {
         {
             return Ok((fold.register, fold.offset));
         }
-        Ok((self.temp(base)?, offset))
+        let further = self.shift_of(base).saturating_add(offset);
+        Ok((self.temp(base)?, further))
     }
 
     pub fn put_load(&mut self, to: u32, from: MemoryWord) -> Result<(), NoMemory> {
@@ -155,7 +162,7 @@ impl<'a> Emitter<'a> {
         match at {
             MemoryWord::Slot(slot) => {
                 let word = word_of(slot);
-                self.forget_word(word);
+                self.forget_word(word)?;
                 self.put_word(Op::Sts, register, word)
             }
             MemoryWord::Environment => self.put_word(Op::Sts, register, 2),
@@ -224,6 +231,7 @@ impl<'a> Emitter<'a> {
         next: Option<MidOp<'a>>,
     ) -> Result<(), NoMemory> {
         let (to, array) = to_array;
+        let offset = offset.wrapping_add(i64::from(self.shift_of(array)));
         if let Operand::Number(value) = index {
             let sum = value.wrapping_mul(words.cast_signed()).wrapping_add(offset);
             let from = self.temp(array)?;
@@ -240,6 +248,7 @@ impl<'a> Emitter<'a> {
             let _folded = self.fold_next(to, sum, offset, next);
             return Ok(());
         }
+        let offset = offset.wrapping_sub(i64::from(self.shift_of(to)));
         let by = match i32::try_from(offset) {
             Ok(_) => 0,
             Err(_) => self.number(offset)?,

@@ -47,8 +47,12 @@ fn signed_at_most(left: Operand, right: Operand) -> Option<Branch> {
     None
 }
 
-/// The same without a sign: -1 is the greatest word, and 0 the least.
+/// The same without a sign: -1 is the greatest word, and 0 the least. At most the greatest number is
+/// what isn't negative.
 fn unsigned_at_most(left: Operand, right: Operand) -> Option<Branch> {
+    if right == Operand::Number(i64::MAX) {
+        return make_branch(Op::Blt, Operand::Number(-1), left);
+    }
     if let Operand::Number(bound) = right
         && bound != -1
     {
@@ -80,6 +84,9 @@ pub(crate) fn branch_for(
         Relation::LessUnsigned if holds => make_branch(Op::Bltu, left, right),
         Relation::LessUnsigned => unsigned_at_most(right, left),
         Relation::LessEqualUnsigned if holds => unsigned_at_most(left, right),
+        Relation::LessEqualUnsigned if right == Operand::Number(i64::MAX) => {
+            make_branch(Op::Blt, left, Operand::Number(0))
+        }
         Relation::LessEqualUnsigned => make_branch(Op::Bltu, right, left),
     }
 }

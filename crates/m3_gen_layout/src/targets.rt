@@ -12,7 +12,8 @@ fn passed_to(p: &Proc, block: u32) -> Option<u32> {
     }
 }
 
-fn next_of(list: &[u32], block: u32) -> u32 {
+/// The block to which a jump to a block goes.
+pub fn next_of(list: &[u32], block: u32) -> u32 {
     list.get(block as usize).copied().unwrap_or(block)
 }
 
@@ -36,7 +37,7 @@ fn pass_on(p: &Proc, order: &Order, targets: &mut Vec<u32>) -> bool {
 
 /// For each block the one to which a jump to it goes: itself, or the one that follows blocks which
 /// do nothing.
-pub(crate) fn targets_of(alloc: Global, p: &Proc, order: &Order) -> Result<Vec<u32>, NoMemory> {
+pub fn targets_of(alloc: Global, p: &Proc, order: &Order) -> Result<Vec<u32>, NoMemory> {
     let mut targets = Vec::new(alloc);
     for at in 0..p.blocks.len() {
         targets.push(place_number(at)?)?;
@@ -51,7 +52,7 @@ pub(crate) fn targets_of(alloc: Global, p: &Proc, order: &Order) -> Result<Vec<u
 }
 
 /// The blocks that get code, in their order: those that are reached and that no jump passes by.
-pub(crate) fn laid_of(alloc: Global, order: &Order, targets: &[u32]) -> Result<Vec<u32>, NoMemory> {
+pub fn laid_of(alloc: Global, order: &Order, targets: &[u32]) -> Result<Vec<u32>, NoMemory> {
     let mut laid = Vec::new(alloc);
     for block in order.blocks.iter().take(order.reached) {
         if next_of(targets, *block) == *block {
@@ -62,7 +63,7 @@ pub(crate) fn laid_of(alloc: Global, order: &Order, targets: &[u32]) -> Result<V
 }
 
 /// How many ends of blocks name each block, through those that do nothing; the start once more.
-pub(crate) fn entries_of(
+pub fn entries_of(
     alloc: Global,
     p: &Proc,
     laid: &[u32],
