@@ -1,3 +1,5 @@
+ghost use Rattle.std.specs.Prelude.{◌≡◌, IfOk};
+
 use crate::relevance::{has_flag, relevant_temps};
 use crate::sources::{Setting, all_settings};
 use m3_base::NoMemory;
@@ -17,7 +19,9 @@ pub(crate) struct Analysis<'a> {
 }
 
 impl<'a> Analysis<'a> {
-    pub(crate) fn of(alloc: Global, p: &Proc<'a>) -> Result<Analysis<'a>, NoMemory> {
+    pub(crate) fn of(alloc: Global, p: &Proc<'a>) -> Result<Analysis<'a>, NoMemory>
+        ensures { IfOk result (λ a. a.proc ≡ p.now) }
+    {
         let order = block_order(alloc, p)?;
         let live = live_with(alloc, p, &order, &[])?;
         let settings = all_settings(alloc, p, &order)?;

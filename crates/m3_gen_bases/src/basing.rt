@@ -1,3 +1,6 @@
+ghost use Rattle.std.specs.Prelude.{◌≡◌, IfOk};
+ghost use Rattle.m3_mid_additions.specs.Additions.{IsWithAdded};
+
 use crate::analysis::Analysis;
 use crate::keeping::{Keep, Keeper, KeptWay, keep_all};
 use crate::plans::{Base, Based, Derivation, WayPlan};
@@ -106,7 +109,9 @@ fn has_addresses(p: &Proc) -> bool {
 }
 
 /// A procedure without derived temporaries that rows name.
-fn without_bases<'a>(arena: &'a Bump, p: Proc<'a>) -> Result<Based<'a>, NoMemory> {
+fn without_bases<'a>(arena: &'a Bump, p: Proc<'a>) -> Result<Based<'a>, NoMemory>
+    ensures { IfOk result (λ b. b.proc ≡ p.entry) }
+{
     let mut derivations = Vec::new(arena);
     for _temp in p.temps {
         derivations.push(UNDERIVED)?;
@@ -122,14 +127,16 @@ fn without_bases<'a>(arena: &'a Bump, p: Proc<'a>) -> Result<Based<'a>, NoMemory
 /// live is copied to a temporary of its own. Where a derived temporary has several lists of bases,
 /// a further temporary tells which one holds. The marks of loops, which name operations by their
 /// numbers, are left out.
-pub fn find_bases<'a>(alloc: Global, arena: &'a Bump, p: &Proc<'a>) -> Result<Based<'a>, NoMemory> {
+pub fn find_bases<'a>(alloc: Global, arena: &'a Bump, p: &Proc<'a>) -> Result<Based<'a>, NoMemory>
+    ensures { IfOk result (λ b. IsWithAdded p.now b.proc) }
+{
     let plain = Proc { loops: &[], ..*p };
     if !has_addresses(p) {
-        return without_bases(arena, plain);
+        return Ok(without_bases(arena, plain)?);
     }
     let analysis = Analysis::of(alloc, p)?;
     if !analysis.relevant.contains(&true) {
-        return without_bases(arena, plain);
+        return Ok(without_bases(arena, plain)?);
     }
     let mut shapes = shapes_of(alloc, arena, &analysis)?;
     let kept = kept_temps(alloc, &analysis, &shapes)?;

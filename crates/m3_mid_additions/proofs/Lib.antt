@@ -1,0 +1,4 @@
+pub mod Agreeing
+pub mod Staying
+pub mod Following
+pub mod Growing
