@@ -7,10 +7,11 @@ use m3_cse::try_share;
 use m3_merge::try_merge;
 use m3_mid::Proc;
 use m3_strength::try_reduce;
+use m3_twobase::try_pair;
 use std::alloc::Global;
 
 /// How many passes there are.
-pub const PASSES: u32 = 3;
+pub const PASSES: u32 = 4;
 
 /// A procedure behind all passes.
 #[derive(Clone, Copy)]
@@ -29,9 +30,11 @@ pub fn improve<'a>(alloc: Global, arena: &'a Bump, p: &Proc<'a>) -> Result<Impro
     ensures unchanged { IfOk result (λ q. q.given_back ≡ PASSES → q.proc ≡ p.now) }
 {
     let shared = try_share(alloc, arena, p)?;
-    let reduced = try_reduce(alloc, arena, &shared.proc)?;
+    let paired = try_pair(alloc, arena, &shared.proc)?;
+    let reduced = try_reduce(alloc, arena, &paired.proc)?;
     let merged = try_merge(alloc, arena, &reduced.proc)?;
     let given_back = u32::from(shared.is_refused)
+        + u32::from(paired.is_refused)
         + u32::from(reduced.is_refused)
         + u32::from(merged.is_refused);
     Ok(Improved {

@@ -2,13 +2,7 @@
 //! with it stands in a temporary, to which each turn adds a number.
 #![tactic(auto)]
 
-mod accesses;
-mod loops;
-mod pairs;
-mod pointers;
+mod placing;
 mod reducing;
-mod sums;
-mod temps;
-mod writing;
 
 pub use reducing::try_reduce;

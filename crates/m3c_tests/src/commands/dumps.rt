@@ -28,6 +28,18 @@ BEGIN
   IO.PutInt(a[2]); IO.PutChar(' '); IO.PutInt(b[2])
 END Main.";
 
+/// A product of two arrays, elements of which are as wide.
+const DOT: &[u8] = b"MODULE Main; IMPORT IO;
+TYPE A = REF ARRAY [1..5] OF INTEGER;
+PROCEDURE Dot(): INTEGER =
+  VAR a := NEW(A); b := NEW(A); s: INTEGER := 0;
+  BEGIN
+    FOR i := 1 TO 5 DO a[i] := i; b[i] := 2 * i END;
+    FOR i := 1 TO 5 DO INC(s, a[i] * b[i]) END;
+    RETURN s
+  END Dot;
+BEGIN IO.PutInt(Dot()) END Main.";
+
 /// Two fields of one element, and fields of elements of two arrays.
 const FIELDS: &[u8] = b"MODULE Main;
 TYPE A = REF ARRAY OF RECORD x, y, z: INTEGER END;
@@ -50,6 +62,10 @@ pub fn try_dumps(rt: &(impl Print + AllocGlobal)) -> io::Result<()> {
     tally.count(rt, "an address that moves along", is_right)?;
     let rows = turns(rt.alloc(), dump.as_str(), "proc 0 ")?;
     tally.count(rt, "no turn where no loop is", rows.is_empty())?;
+    let dump = dumped(rt.alloc(), DOT)?;
+    let rows = turns(rt.alloc(), dump.as_str(), "proc 2 ")?;
+    let is_right = rows.len() == 2 && rows.iter().all(|row| has_two_bases(row));
+    tally.count(rt, "a difference of two references in both loops", is_right)?;
     let dump = dumped(rt.alloc(), ARMS)?;
     let is_right = has_two_ways(dump.as_str(), "proc 3 ");
     tally.count(rt, "one call for both arms, with two origins", is_right)?;
@@ -73,6 +89,14 @@ fn moves_along(row: &str) -> bool {
         Some((_, derived)) => derived.split_once("=+").is_some(),
         None => false,
     }
+}
+
+/// Whether a row has an entry with one base that is added and one that is taken away.
+fn has_two_bases(row: &str) -> bool {
+    row.split(' ').any(|entry| match entry.split_once("=+") {
+        Some((_, bases)) => bases.split_once("-").is_some() && bases.split_once("+").is_none(),
+        None => false,
+    })
 }
 
 /// The rows of the POINTs of a procedure, by the lines of a dump from the procedure's own on.

@@ -1,4 +1,11 @@
 //! Temporaries that hold an address while a loop runs.
+
+ghost use Rattle.std.specs.Prelude.{◌≡◌, ℕ, List, IfOk};
+ghost use Rattle.m3_mid.specs.declared.procs.Slot.{Slot};
+ghost use Rattle.m3_same_forms.specs.Forms.{Form as Sums, merge, opposite};
+ghost use Rattle.m3_same_forms.specs.Seen.{seen};
+ghost use Rattle.m3_same_forms.specs.declared.seen.Seen.TheVariants.{Sets};
+
 use m3_base::NoMemory;
 use m3_mid::{Kind, MidOp, Operand, Proc, WordOperator};
 use m3_same_forms::{Form, Symbol, Term, same_symbol};
@@ -9,7 +16,7 @@ const NEAR: i32 = 1_000_000;
 
 /// A temporary that holds a sum wherever a block of a loop begins, of what temporaries hold there.
 #[derive(Drop)]
-pub(crate) struct Pointer {
+pub struct Pointer {
     pub temp: u32,
     pub kind: Kind,
     pub value: Form,
@@ -23,9 +30,16 @@ pub(crate) struct Pointer {
 
 /// What stands in the place of an address: a pointer, and a number.
 #[derive(Clone, Copy)]
-pub(crate) struct Stand {
+pub struct Stand {
     pub temp: u32,
     pub distance: i32,
+}
+
+/// Two temporaries that are added.
+#[derive(Clone, Copy)]
+pub struct Sum {
+    pub left: u32,
+    pub right: u32,
 }
 
 /// Where a sum begins: what is no number in it.
@@ -38,7 +52,7 @@ enum Base {
 }
 
 /// How many times a form has a symbol.
-pub(crate) fn times_in(form: &Form, symbol: Symbol) -> u64 {
+pub fn times_in(form: &Form, symbol: Symbol) -> u64 {
     for term in &form.terms {
         if same_symbol(term.symbol, symbol) {
             return term.times;
@@ -48,15 +62,22 @@ pub(crate) fn times_in(form: &Form, symbol: Symbol) -> u64 {
 }
 
 /// A sum without its number.
-pub(crate) fn without_number(alloc: Global, form: &Form) -> Result<Form, NoMemory> {
+pub fn without_number(alloc: Global, form: &Form) -> Result<Form, NoMemory> {
     let number = times_in(form, Symbol::One);
     Ok(form.insert(alloc, Symbol::One, number.wrapping_neg())?)
 }
 
-/// How far one sum is behind another, where that is a small number.
-pub(crate) fn distance(alloc: Global, from: &Form, to: &Form) -> Result<Option<i32>, NoMemory> {
+/// What one sum is more than another.
+pub fn difference(alloc: Global, from: &Form, to: &Form) -> Result<Form, NoMemory>
+    ensures { IfOk result (λ f. f ≡ merge (opposite from.now) to.now) }
+{
     let opposite = from.scaled(alloc, u64::MAX)?;
-    let difference = opposite.merge(alloc, to.copy(alloc)?)?;
+    Ok(opposite.merge(alloc, to.copy(alloc)?)?)
+}
+
+/// How far one sum is behind another, where that is a small number.
+pub fn distance(alloc: Global, from: &Form, to: &Form) -> Result<Option<i32>, NoMemory> {
+    let difference = difference(alloc, from, to)?;
     let number = times_in(&difference, Symbol::One);
     let rest = if number == 0 { 0 } else { 1 };
     if difference.terms.len() != rest {
@@ -109,11 +130,39 @@ fn added(p: &Proc<'_>, term: Term) -> Option<u32> {
     }
 }
 
+/// A temporary that is taken away once, where it holds a reference.
+pub fn taken(p: &Proc<'_>, term: Term) -> Option<u32> {
+    match term.symbol {
+        Symbol::Left(temp) if term.times == u64::MAX && kind_of(p, temp) == Kind::Tidy => Some(
+            temp,
+        ),
+        _ => None,
+    }
+}
+
+/// Whether a term of a sum is neither its number nor taken away.
+fn is_to_add(p: &Proc<'_>, term: Term) -> bool {
+    !matches!(term.symbol, Symbol::One) && taken(p, term).is_none()
+}
+
 /// Whether the base of a sum makes it an address of this kind.
 fn fits(p: &Proc<'_>, base: Base, kind: Kind) -> bool {
     match base {
         Base::Temp(temp) => (kind_of(p, temp) == Kind::Number) == (kind == Kind::Number),
         Base::Frame | Base::Globals | Base::Constant(_) => kind == Kind::Number,
+    }
+}
+
+/// The operation that puts what one temporary is more than another into a third.
+fn taking(to: u32, whole: u32, part: u32) -> MidOp<'static>
+    ensures { (slots : List Slot) → (f : ℕ → Sums)
+        → seen slots f result ≡ Sets to (merge (f whole) (opposite (f part))) }
+{
+    MidOp::Arith {
+        to,
+        operator: WordOperator::Subtract,
+        left: Operand::Temp(whole),
+        right: Operand::Temp(part),
     }
 }
 
@@ -158,6 +207,12 @@ impl Making {
         Ok(())
     }
 
+    fn take(&mut self, temp: u32) -> Result<(), NoMemory> {
+        self.ops.push(taking(self.to, self.from, temp))?;
+        self.from = self.to;
+        Ok(())
+    }
+
     fn end(self) -> Result<Vec<MidOp<'static>>, NoMemory> {
         let Making {
             to,
@@ -194,8 +249,14 @@ pub(crate) fn making_of(
         return Ok(None);
     }
     let mut making = Making::of(alloc, to, base, times_in(value, Symbol::One))?;
+    // What is taken away comes first, so that each further operation adds a number.
+    for term in &value.terms {
+        if let Some(temp) = taken(p, *term) {
+            making.take(temp)?;
+        }
+    }
     for (place, term) in value.terms.iter().enumerate() {
-        if place != first && !matches!(term.symbol, Symbol::One) {
+        if place != first && is_to_add(p, *term) {
             match added(p, *term) {
                 Some(temp) => making.add(temp, term.times)?,
                 None => return Ok(None),

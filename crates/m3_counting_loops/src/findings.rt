@@ -1,6 +1,6 @@
-//! The search for the addresses that go with a loop.
+//! The addresses that go with a loop, and what stands in their places.
 use crate::loops::Loop;
-use crate::pointers::{Pointer, Stand, distance, making_of, times_in, without_number};
+use crate::pointers::{Pointer, Stand, Sum, distance, making_of, times_in, without_number};
 use crate::sums::Sums;
 use crate::temps::{Temps, add_to};
 use m3_base::{NoMemory, place_number};
@@ -15,27 +15,30 @@ const MANY_HELD: u32 = 9;
 
 /// An operation that gives an address, as a sum of what temporaries hold where its block begins.
 #[derive(Drop)]
-struct Access {
-    to: u32,
-    array: u32,
-    value: Form,
+pub struct Access {
+    pub to: u32,
+    pub array: u32,
+    pub kind: Kind,
+    pub value: Form,
+    pub block: u32,
 }
 
 /// What is found in the loops of a procedure.
 #[derive(Drop)]
-pub(crate) struct Findings<'a> {
-    alloc: Global,
-    proc: Proc<'a>,
-    pub temps: Temps,
+pub struct Findings<'a> {
+    pub(crate) alloc: Global,
+    pub(crate) proc: Proc<'a>,
+    pub(crate) temps: Temps,
     sums: Sums<'a>,
-    pub pointers: Vec<Pointer>,
+    pub(crate) pointers: Vec<Pointer>,
     /// The pointer that the loop at hand begins with.
     first: usize,
     /// Which pointers hold their sums where a block begins.
-    pub holding: Vec<Link>,
+    pub(crate) holding: Vec<Link>,
     /// By temporary what stands in its place.
-    pub stands: Vec<Option<Stand>>,
-    accesses: Vec<Access>,
+    pub(crate) stands: Vec<Option<Stand>>,
+    /// By temporary the sum that it is set to instead.
+    pub(crate) changed: Vec<Option<Sum>>,
     /// By temporary how often the block at hand loads or stores at it, and how often an address that
     /// is needed no more came from it.
     words: Vec<u32>,
@@ -43,7 +46,7 @@ pub(crate) struct Findings<'a> {
 }
 
 /// The temporary at which an operation loads or stores.
-fn word_base(op: MidOp<'_>) -> Option<u32> {
+pub(crate) fn word_base(op: MidOp<'_>) -> Option<u32> {
     match op {
         MidOp::Load {
             to: _,
@@ -68,7 +71,8 @@ fn clear(counts: &mut [u32], temp: u32) {
 }
 
 impl<'a> Findings<'a> {
-    pub(crate) fn new(alloc: Global, p: &Proc<'a>) -> Result<Findings<'a>, NoMemory> {
+    /// Nothing is found yet.
+    pub fn new(alloc: Global, p: &Proc<'a>) -> Result<Findings<'a>, NoMemory> {
         let count = p.temps.len();
         Ok(Findings {
             alloc,
@@ -79,10 +83,28 @@ impl<'a> Findings<'a> {
             first: 0,
             holding: Vec::new(alloc),
             stands: vec![in alloc; None; count]?,
-            accesses: Vec::new(alloc),
+            changed: vec![in alloc; None; count]?,
             words: vec![in alloc; 0u32; count]?,
             steps: vec![in alloc; 0u32; count]?,
         })
+    }
+
+    /// Whether no pointer was found.
+    pub fn is_empty(&self) -> bool {
+        self.pointers.is_empty()
+    }
+
+    /// Begins a loop. Gives whether it sets its variable at the end of its turn alone, so that
+    /// addresses may go with it.
+    pub fn enter(&mut self, counted: &Loop) -> Result<bool, NoMemory> {
+        let proc = self.proc;
+        self.first = self.pointers.len();
+        self.temps.enter(&proc, counted)
+    }
+
+    /// Whether the loop at hand may keep so many more temporaries.
+    pub fn has_room(&self, more: u32) -> bool {
+        self.temps.held.saturating_add(more) <= MANY_HELD
     }
 
     /// What stands in the place of a temporary.
@@ -99,66 +121,6 @@ impl<'a> Findings<'a> {
         })
     }
 
-    /// Notes an operation that gives an address which goes with the loop.
-    fn note(&mut self, counted: &Loop, op: MidOp<'a>, value: Form) -> Result<(), NoMemory> {
-        if let MidOp::Index { to, array, .. } = op
-            && self.temps.is_set_once(to)
-            && self.stand(to).is_none()
-            && self.goes_with(counted, &value)
-        {
-            clear(&mut self.words, to);
-            clear(&mut self.steps, to);
-            clear(&mut self.steps, array);
-            self.accesses.push(Access { to, array, value })?;
-        }
-        Ok(())
-    }
-
-    /// Looks through a block of a loop.
-    fn add_block(&mut self, counted: &Loop, block: u32) -> Result<(), NoMemory> {
-        self.sums.clear();
-        self.accesses.clear();
-        let proc = self.proc;
-        for op in ops_of(&proc, block) {
-            if let Some(base) = word_base(*op) {
-                add_to(&mut self.words, base, 1);
-            }
-            if let Some(value) = self.sums.step(*op)? {
-                self.note(counted, *op, value)?;
-            }
-        }
-        self.place_all(counted)
-    }
-
-    /// Finds pointers for the addresses that were noted, from the last to the first, so that it is
-    /// known which of them are needed no more.
-    fn place_all(&mut self, counted: &Loop) -> Result<(), NoMemory> {
-        for _access in 0..self.accesses.len() {
-            if let Some(access) = self.accesses.pop() {
-                let words = count_in(&self.words, access.to);
-                let steps = count_in(&self.steps, access.to);
-                if words.saturating_add(steps) == self.temps.uses(access.to)
-                    && (words == 0 || self.place(counted, &access)?)
-                {
-                    add_to(&mut self.steps, access.array, 1);
-                }
-            }
-        }
-        Ok(())
-    }
-
-    /// Lets a pointer stand in the place of an address. Gives whether one does.
-    fn place(&mut self, counted: &Loop, access: &Access) -> Result<bool, NoMemory> {
-        let mut stand = self.near(access)?;
-        if stand.is_none() && self.add_pointer(counted, access)? {
-            stand = self.near(access)?;
-        }
-        if let Some(place) = self.stands.get_mut(access.to as usize) {
-            *place = stand;
-        }
-        Ok(stand.is_some())
-    }
-
     fn kind(&self, temp: u32) -> Kind {
         self.proc
             .temps
@@ -167,11 +129,69 @@ impl<'a> Findings<'a> {
             .unwrap_or(Kind::Number)
     }
 
+    /// An operation that gives an address which goes with the loop, and which nothing stands for yet.
+    fn access(&mut self, counted: &Loop, block: u32, op: MidOp<'a>, value: Form) -> Option<Access> {
+        let MidOp::Index { to, array, .. } = op else {
+            return None;
+        };
+        if !self.temps.is_set_once(to)
+            || self.stand(to).is_some()
+            || !self.goes_with(counted, &value)
+        {
+            return None;
+        }
+        clear(&mut self.words, to);
+        clear(&mut self.steps, to);
+        clear(&mut self.steps, array);
+        Some(Access {
+            to,
+            array,
+            kind: self.kind(to),
+            value,
+            block,
+        })
+    }
+
+    /// Looks through a block of a loop. Gives the addresses that go with the loop, in their order.
+    pub fn look(&mut self, counted: &Loop, block: u32) -> Result<Vec<Access>, NoMemory> {
+        self.sums.clear();
+        let mut accesses = Vec::new(self.alloc);
+        let proc = self.proc;
+        for op in ops_of(&proc, block) {
+            if let Some(base) = word_base(*op) {
+                add_to(&mut self.words, base, 1);
+            }
+            if let Some(value) = self.sums.step(*op)?
+                && let Some(access) = self.access(counted, block, *op, value)
+            {
+                accesses.push(access)?;
+            }
+        }
+        Ok(accesses)
+    }
+
+    /// How often the block at hand loads or stores at an address.
+    pub fn words(&self, access: &Access) -> u32 {
+        count_in(&self.words, access.to)
+    }
+
+    /// Whether an address is needed for nothing but loads and stores in its own block, and other
+    /// addresses that are needed no more.
+    pub fn is_for_words(&self, access: &Access) -> bool {
+        let steps = count_in(&self.steps, access.to);
+        self.words(access).saturating_add(steps) == self.temps.uses(access.to)
+    }
+
+    /// An address is needed no more for another that came from it.
+    pub fn drop_step(&mut self, access: &Access) {
+        add_to(&mut self.steps, access.array, 1);
+    }
+
     /// A pointer of the loop at hand from which an address is not far.
-    fn near(&self, access: &Access) -> Result<Option<Stand>, NoMemory> {
+    pub fn near(&self, access: &Access) -> Result<Option<Stand>, NoMemory> {
         for number in self.first..self.pointers.len() {
             if let Some(pointer) = self.pointers.get(number)
-                && pointer.kind == self.kind(access.to)
+                && pointer.kind == access.kind
                 && let Some(distance) = distance(self.alloc, &pointer.value, &access.value)?
             {
                 return Ok(Some(Stand {
@@ -181,6 +201,32 @@ impl<'a> Findings<'a> {
             }
         }
         Ok(None)
+    }
+
+    /// Lets something stand in the place of an address: its loads and stores go by that.
+    pub fn put(&mut self, access: &Access, stand: Option<Stand>) {
+        if let Some(place) = self.stands.get_mut(access.to as usize) {
+            *place = stand;
+        }
+    }
+
+    /// Lets an address be a sum of two temporaries, by which its loads and stores go.
+    pub fn change(&mut self, access: &Access, sum: Sum, distance: i32) {
+        if let Some(place) = self.changed.get_mut(access.to as usize) {
+            *place = Some(sum);
+            self.put(
+                access,
+                Some(Stand {
+                    temp: access.to,
+                    distance,
+                }),
+            );
+        }
+    }
+
+    /// The pointer that was found last.
+    pub fn last_pointer(&self) -> Option<&Pointer> {
+        self.pointers.last()
     }
 
     /// What a pointer is put to before a loop, and the sum that it holds in it: the address without a
@@ -208,19 +254,31 @@ impl<'a> Findings<'a> {
     }
 
     /// Adds a pointer for an address, where a temporary for it can be had. Gives whether it did.
-    fn add_pointer(&mut self, counted: &Loop, access: &Access) -> Result<bool, NoMemory> {
-        if self.temps.held >= MANY_HELD {
+    pub fn add_pointer(&mut self, counted: &Loop, access: &Access) -> Result<bool, NoMemory> {
+        let (start, value) = self.sums_of(counted, &access.value)?;
+        if distance(self.alloc, &value, &access.value)?.is_some() {
+            self.keep(counted, access.kind, &start, value)
+        } else {
+            let value = access.value.copy(self.alloc)?;
+            self.keep(counted, access.kind, &access.value, value)
+        }
+    }
+
+    /// Adds a temporary of a kind that holds a sum wherever a block of the loop begins, and is put to
+    /// what that is before the loop. Gives whether one can be had.
+    pub fn keep(
+        &mut self,
+        counted: &Loop,
+        kind: Kind,
+        start: &Form,
+        value: Form,
+    ) -> Result<bool, NoMemory> {
+        if !self.has_room(1) {
             return Ok(false);
         }
         let number = self.pointers.len();
         let temp = place_number(self.proc.temps.len().saturating_add(number))?;
-        let kind = self.kind(access.to);
-        let (mut start, mut value) = self.sums_of(counted, &access.value)?;
-        if distance(self.alloc, &value, &access.value)?.is_none() {
-            start = access.value.copy(self.alloc)?;
-            value = access.value.copy(self.alloc)?;
-        }
-        let Some(begin) = making_of(self.alloc, &self.proc, temp, kind, &start)? else {
+        let Some(begin) = making_of(self.alloc, &self.proc, temp, kind, start)? else {
             return Ok(false);
         };
         for op in begin.as_slice() {
@@ -248,20 +306,6 @@ impl<'a> Findings<'a> {
                 group: *block,
                 item,
             })?;
-        }
-        Ok(())
-    }
-
-    /// Looks through the blocks of a loop that each turn passes: for the others a pointer would move
-    /// in vain.
-    pub(crate) fn add_loop(&mut self, counted: &Loop) -> Result<(), NoMemory> {
-        let proc = self.proc;
-        if !self.temps.enter(&proc, counted)? {
-            return Ok(());
-        }
-        self.first = self.pointers.len();
-        for block in &counted.passed {
-            self.add_block(counted, *block)?;
         }
         Ok(())
     }

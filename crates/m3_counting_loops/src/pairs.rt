@@ -1,5 +1,5 @@
 //! The proof that the procedure that was written has the same run.
-use crate::accesses::Findings;
+use crate::findings::Findings;
 use m3_base::{NoMemory, place_number};
 use m3_flow::Groups;
 use m3_same_forms::{Pair, Setting};

@@ -7,10 +7,13 @@ use std::alloc::Global;
 /// A loop of more blocks is left as it is.
 const WIDEST: usize = 200;
 
+/// A procedure with a block of more operations is left as it is.
+const LONGEST: usize = 2000;
+
 /// A loop without calls that is entered from one block alone, and that one block alone leads back
 /// to its head. The last operation of that one adds a number to a variable.
 #[derive(Drop)]
-pub(crate) struct Loop {
+pub struct Loop {
     /// The block from which it is entered.
     pub before: u32,
     /// The block that leads back to its head.
@@ -22,6 +25,8 @@ pub(crate) struct Loop {
     pub blocks: Vec<u32>,
     /// Those that each turn passes, but the one at its end.
     pub passed: Vec<u32>,
+    /// Those that a turn may pass more than once.
+    pub repeated: Vec<u32>,
 }
 
 /// A variable, and what is added to it.
@@ -49,13 +54,19 @@ fn step_of(ops: &[MidOp<'_>]) -> Option<Step> {
     }
 }
 
+fn has_long_block(p: &Proc<'_>) -> bool {
+    p.blocks.iter().any(|block| block.ops.len() > LONGEST)
+}
+
 fn has_call(ops: &[MidOp<'_>]) -> bool {
     ops.iter().any(|op| is_call(*op))
 }
 
-/// Whether a procedure may have such loops.
-pub(crate) fn may_count(p: &Proc<'_>) -> bool {
-    p.blocks.iter().any(|block| matches!(block.end, End::Goto(_)) && step_of(block.ops).is_some())
+/// Whether a procedure may have such loops, and no block that is too long to be looked through.
+pub fn may_count(p: &Proc<'_>) -> bool {
+    !has_long_block(p)
+        && p.blocks.iter().any(|block| matches!(block.end, End::Goto(_))
+            && step_of(block.ops).is_some())
 }
 
 /// The search for the blocks of loops.
@@ -192,6 +203,36 @@ impl Search {
         Ok(false)
     }
 
+    /// Whether a way leads from a block of a loop back to it without passing the loop's head.
+    fn is_repeated(&mut self, alloc: Global, head: u32, block: u32) -> Result<bool, NoMemory> {
+        if block == head {
+            return Ok(false);
+        }
+        self.walks = self.walks.saturating_add(1);
+        let mut open = Vec::new(alloc);
+        open.push(block)?;
+        for _step in 0..WIDEST {
+            let Some(before) = open.pop() else {
+                return Ok(false);
+            };
+            if self.walk_back(before, block, head, &mut open)? {
+                return Ok(true);
+            }
+        }
+        Ok(true)
+    }
+
+    /// The blocks of a loop that a turn may pass more than once.
+    fn repeated(&mut self, alloc: Global, blocks: &[u32], head: u32) -> Result<Vec<u32>, NoMemory> {
+        let mut repeated = Vec::new(alloc);
+        for block in blocks {
+            if self.is_repeated(alloc, head, *block)? {
+                repeated.push(*block)?;
+            }
+        }
+        Ok(repeated)
+    }
+
     /// The blocks of a loop that each turn passes, but the one at its end.
     fn passed(
         &mut self,
@@ -242,7 +283,7 @@ fn number_in(ops: &[MidOp<'_>], temp: u32) -> Option<u64> {
 }
 
 /// The loops of a procedure that count a variable.
-pub(crate) fn loops_of(alloc: Global, p: &Proc<'_>) -> Result<Vec<Loop>, NoMemory> {
+pub fn loops_of(alloc: Global, p: &Proc<'_>) -> Result<Vec<Loop>, NoMemory> {
     let mut search = Search {
         entries: entries_of(alloc, p)?,
         marks: vec![in alloc; 0u32; p.blocks.len()]?,
@@ -258,6 +299,7 @@ pub(crate) fn loops_of(alloc: Global, p: &Proc<'_>) -> Result<Vec<Loop>, NoMemor
             && let Some(before) = search.before(head, turn)
         {
             let passed = search.passed(alloc, &blocks, head, turn)?;
+            let repeated = search.repeated(alloc, &blocks, head)?;
             loops.push(Loop {
                 before,
                 turn,
@@ -266,6 +308,7 @@ pub(crate) fn loops_of(alloc: Global, p: &Proc<'_>) -> Result<Vec<Loop>, NoMemor
                 first: number_in(ops_of(p, before), step.index),
                 blocks,
                 passed,
+                repeated,
             })?;
         }
     }

@@ -1,12 +1,23 @@
 //! The blocks with pointers in the places of addresses.
-use crate::accesses::Findings;
+use crate::findings::{Findings, word_base};
 use crate::pointers::Stand;
 use bumpalo::Bump;
 use bumpalo::collections::into_bump_slice;
 use m3_base::{NoMemory, place_number};
 use m3_flow::{Groups, Pair as Link};
-use m3_mid::{Block, MemoryWord, MidOp, Operand, WordOperator};
+use m3_mid::{Block, Kind, MemoryWord, MidOp, Operand, Proc, WordOperator};
+use m3_same_forms::Pair;
 use std::alloc::Global;
+
+/// A procedure that was written again, and the proof that it has the same run.
+#[derive(Drop)]
+pub struct Written<'a> {
+    pub proc: Proc<'a>,
+    /// By temporary of the procedure as it was whether it is set as it was.
+    pub common: Vec<bool>,
+    /// At the number of each block its pair.
+    pub pairs: Vec<Pair>,
+}
 
 /// The temporary that an operation sets that does nothing else.
 fn only_set(op: MidOp<'_>) -> Option<u32> {
@@ -30,6 +41,21 @@ fn at_stand(stand: Stand, offset: i32) -> MemoryWord {
         base: stand.temp,
         offset: offset.saturating_add(stand.distance),
     }
+}
+
+/// Puts an operation before the first that loads or stores at a temporary, or before all: so what it
+/// sets wants a register no longer than needed. The list is from the last operation to the first.
+fn put_before<'a>(ops: &mut Vec<MidOp<'a>>, temp: u32, op: MidOp<'a>) -> Result<(), NoMemory> {
+    let mut place = ops.len();
+    for (at, other) in ops.iter().enumerate() {
+        if word_base(*other) == Some(temp) {
+            place = at.saturating_add(1);
+        }
+    }
+    if place <= ops.len() {
+        ops.insert(place, op)?;
+    }
+    Ok(())
 }
 
 impl<'a> Findings<'a> {
@@ -57,6 +83,18 @@ impl<'a> Findings<'a> {
         }
     }
 
+    /// The sum to which an operation sets its temporary instead.
+    fn changed(&self, op: MidOp<'a>) -> Option<MidOp<'a>> {
+        let to = only_set(op)?;
+        let sum = self.changed.get(to as usize).copied().flatten()?;
+        Some(MidOp::Arith {
+            to,
+            operator: WordOperator::Add,
+            left: Operand::Temp(sum.left),
+            right: Operand::Temp(sum.right),
+        })
+    }
+
     /// The temporary that an operation sets, where it does nothing else and that isn't used any more.
     fn idle_result(&self, op: MidOp<'a>) -> Option<u32> {
         let to = only_set(op)?;
@@ -80,6 +118,9 @@ impl<'a> Findings<'a> {
                     if let Some(is_common) = common.get_mut(to as usize) {
                         *is_common = false;
                     }
+                    if let Some(sum) = self.changed(*op) {
+                        put_before(&mut kept, to, sum)?;
+                    }
                 }
                 None => kept.push(self.renamed(*op))?,
             }
@@ -100,8 +141,10 @@ impl<'a> Findings<'a> {
         Ok(())
     }
 
-    /// What a block that ends a turn does at its end for the pointers that move there.
+    /// What a block that ends a turn does for the pointers that move there, before the last operation,
+    /// which counts.
     fn go_on(&self, row: &[u32], ops: &mut Vec<MidOp<'a>>) -> Result<(), NoMemory> {
+        let count = if row.is_empty() { None } else { ops.pop() };
         for number in row {
             if let Some(pointer) = self.pointers.get(*number as usize)
                 && pointer.step != 0
@@ -113,6 +156,9 @@ impl<'a> Findings<'a> {
                     right: Operand::Number(pointer.step.cast_signed()),
                 })?;
             }
+        }
+        if let Some(op) = count {
+            ops.push(op)?;
         }
         Ok(())
     }
@@ -139,7 +185,7 @@ impl<'a> Findings<'a> {
     }
 
     /// The blocks again, and which temporaries are set as they were.
-    pub(crate) fn written(
+    fn blocks(
         &mut self,
         alloc: Global,
         arena: &'a Bump,
@@ -151,13 +197,37 @@ impl<'a> Findings<'a> {
         for (number, block) in blocks.iter().enumerate() {
             let number = place_number(number)?;
             let mut ops = self.needed(alloc, block.ops, common)?;
-            self.begin(begun.row(number), &mut ops)?;
             self.go_on(moved.row(number), &mut ops)?;
+            self.begin(begun.row(number), &mut ops)?;
             all.push(Block {
                 ops: into_bump_slice(Vec::from_slice(arena, &ops)?),
                 end: block.end,
             })?;
         }
         Ok(into_bump_slice(all))
+    }
+
+    /// The kinds of the temporaries, with those of the pointers behind them.
+    fn kinds(&self, arena: &'a Bump) -> Result<&'a [Kind], NoMemory> {
+        let mut kinds = Vec::new(arena);
+        kinds.extend_from_slice(self.proc.temps)?;
+        for pointer in &self.pointers {
+            kinds.push(pointer.kind)?;
+        }
+        Ok(into_bump_slice(kinds))
+    }
+
+    /// The procedure with what was found in the places of addresses.
+    pub fn written(&mut self, alloc: Global, arena: &'a Bump) -> Result<Written<'a>, NoMemory> {
+        let p = self.proc;
+        let mut common = vec![in alloc; true; p.temps.len()]?;
+        let blocks = self.blocks(alloc, arena, p.blocks, &mut common)?;
+        let temps = self.kinds(arena)?;
+        let pairs = self.pairs(alloc, p.blocks.len())?;
+        Ok(Written {
+            proc: Proc { temps, blocks, ..p },
+            common,
+            pairs,
+        })
     }
 }
