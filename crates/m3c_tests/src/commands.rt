@@ -7,6 +7,7 @@ mod shapes;
 mod steps;
 mod tables;
 
+pub use answers::{Answer, NO_FAILURE, answer_of, no_memory};
 use conversions::try_conversions;
 pub use dumps::try_dumps;
 use examples::try_examples;

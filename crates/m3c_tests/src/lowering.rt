@@ -17,6 +17,7 @@ use m3_test_tables::try_file;
 use programs::Lowering;
 use std::io;
 use std::rt::Files;
+pub use stops::{fault_text, uncaught_text};
 
 /// Tries what is lowered, on a table. Each procedure of each program has to be well formed, its
 /// frame within its share, and the program's image within its bound. What a program does as middle

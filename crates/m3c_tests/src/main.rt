@@ -8,6 +8,7 @@ mod commands;
 mod declaring;
 mod linking;
 mod lowering;
+mod meaning;
 
 use checking::try_checking;
 use commands::{try_commands, try_dumps, try_shapes};
@@ -15,6 +16,7 @@ use declaring::Declaring;
 use linking::Linking;
 use lowering::try_lowering;
 use m3_test_tables::try_file;
+use meaning::try_meaning;
 use std::rt::{Env, Files};
 use std::{env, io};
 
@@ -26,6 +28,7 @@ fn try_table(rt: &(impl Print + Files + AllocGlobal), name: &str) -> io::Result<
         "declaring" => try_file(rt, &Declaring, name),
         "checking" => try_checking(rt, name),
         "lowering" => try_lowering(rt, name),
+        "meaning" => try_meaning(rt, name),
         _ => try_commands(rt, name),
     }
 }

@@ -22,7 +22,8 @@ fn text(alloc: Global, words: &str) -> Result<String, NoMemory> {
     Ok(String::from_str(alloc, words)?)
 }
 
-fn fault_text(
+/// A fault with its file and line.
+pub fn fault_text(
     alloc: Global,
     core: &Core<'_>,
     kind: FaultKind,
@@ -38,7 +39,8 @@ fn fault_text(
     Ok(text)
 }
 
-fn uncaught_text(alloc: Global, core: &Core<'_>, place: u32) -> Result<String, NoMemory> {
+/// An exception that nobody handled.
+pub fn uncaught_text(alloc: Global, core: &Core<'_>, place: u32) -> Result<String, NoMemory> {
     let mut text = String::from_str(alloc, "uncaught ")?;
     if let Some(exception) = core.exceptions.get(place as usize) {
         add_bytes(&mut text, exception.unit)?;
