@@ -1,10 +1,11 @@
 use std::alloc::{AllocError, Global};
 
-/// A word: the number of a part of memory and a distance from its start, modulo 2^64. Part 0 is
-/// none, so a number is a distance from it.
+/// A word: how far it is from the start of a part of memory, less the start of another one, modulo
+/// 2^64. Part 0 is none, so a number is a distance from it.
 #[derive(Clone, Copy, PartialEq, Eq)]
 pub struct Word {
     pub part: u32,
+    pub less: u32,
     pub distance: u64,
 }
 
@@ -17,6 +18,7 @@ pub const CONSTANTS: u64 = 1 << 50;
 /// What no operation may use: a word that a collection could have changed.
 pub const STALE: Word = Word {
     part: u32::MAX,
+    less: 0,
     distance: 0,
 };
 
@@ -52,21 +54,28 @@ impl Word {
     pub fn number(number: u64) -> Word {
         Word {
             part: 0,
+            less: 0,
             distance: number,
+        }
+    }
+
+    /// The start of a part of memory.
+    pub fn start(part: u32) -> Word {
+        Word {
+            part,
+            less: 0,
+            distance: 0,
         }
     }
 
     /// The address of a word of the globals.
     pub fn global(word: u32) -> Word {
-        Word {
-            part: GLOBALS,
-            distance: u64::from(word),
-        }
+        Word::start(GLOBALS).further(u64::from(word))
     }
 
     /// The number that a word is, if it is one.
     pub fn as_number(self) -> Option<u64> {
-        if self.part == 0 {
+        if self.part == 0 && self.less == 0 {
             Some(self.distance)
         } else {
             None
@@ -76,8 +85,8 @@ impl Word {
     /// The word so many words further on.
     pub fn further(self, words: u64) -> Word {
         Word {
-            part: self.part,
             distance: self.distance.wrapping_add(words),
+            ..self
         }
     }
 }
@@ -139,6 +148,9 @@ impl<'a> Memory<'a> {
 
     /// The word at an address; none where there is no word.
     pub fn load(&self, at: Word) -> Option<Word> {
+        if at.less != 0 {
+            return None;
+        }
         if at.part == 0 {
             let place = at.distance.checked_sub(CONSTANTS)?;
             let word = self.constants.get(place as usize)?;
@@ -150,7 +162,8 @@ impl<'a> Memory<'a> {
 
     /// Stores a word, and tells whether there is a place for it.
     pub fn store(&mut self, at: Word, word: Word) -> bool {
-        if let Some(part) = self.parts.get_mut(at.part as usize)
+        if at.less == 0
+            && let Some(part) = self.parts.get_mut(at.part as usize)
             && let Some(old) = part.words.get_mut(at.distance as usize)
         {
             *old = word;
@@ -169,7 +182,7 @@ impl<'a> Memory<'a> {
                 None
             };
         }
-        if cell.distance != 0 {
+        if cell.distance != 0 || cell.less != 0 {
             return None;
         }
         match self.form(cell.part) {
@@ -188,7 +201,11 @@ impl<'a> Memory<'a> {
 
     /// Whether a word points into the heap, or to what was in it.
     pub fn is_in_heap(&self, word: Word) -> bool {
-        matches!(self.form(word.part), Some(Form::Cell(_)) | None)
+        self.is_part_in_heap(word.part) || self.is_part_in_heap(word.less)
+    }
+
+    fn is_part_in_heap(&self, part: u32) -> bool {
+        matches!(self.form(part), Some(Form::Cell(_)) | None)
     }
 
     /// Whether a word is NIL or the start of a cell.
@@ -242,7 +259,7 @@ impl<'a> Memory<'a> {
         let length = bytes.len() as u64;
         let words = (length.saturating_add(7) / 8).saturating_add(2);
         let part = self.make(0, words)?;
-        let text = Word { part, distance: 0 };
+        let text = Word::start(part);
         self.store(text.further(1), Word::number(length));
         for (place, piece) in bytes.chunks(8).enumerate() {
             let at = text.further((place as u64).wrapping_add(2));

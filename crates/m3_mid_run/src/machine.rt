@@ -239,7 +239,7 @@ impl<'a> Machine<'a> {
 
     /// The number that a word is.
     pub(crate) fn number_of(&mut self, word: Word) -> u64 {
-        if word.part != 0 {
+        if word.as_number().is_none() {
             self.stick("a pointer in place of a number");
         }
         word.distance
@@ -270,7 +270,7 @@ impl<'a> Machine<'a> {
     /// The start of a part of memory that was made, if there was room for it.
     pub(crate) fn made(&mut self, part: Result<u32, AllocError>) -> Word {
         match part {
-            Ok(part) => Word { part, distance: 0 },
+            Ok(part) => Word::start(part),
             Err(_) => {
                 self.fail(Stop::NoMemory);
                 Word::number(0)

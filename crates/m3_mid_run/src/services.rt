@@ -5,6 +5,7 @@ use m3_mid_memory::{GLOBALS, Word};
 
 const NOTHING: Word = Word {
     part: 0,
+    less: 0,
     distance: 0,
 };
 
@@ -57,12 +58,7 @@ impl<'a> Machine<'a> {
             Service::Acquire => self.hold(operands, true, pos),
             Service::Release => self.hold(operands, false, pos),
             Service::Signal | Service::Broadcast => {}
-            Service::MySelf => {
-                return Word {
-                    part: GLOBALS,
-                    distance: 0,
-                };
-            }
+            Service::MySelf => return Word::start(GLOBALS),
             Service::Alert => self.is_alerted = true,
             Service::TestAlert => {
                 let was = self.is_alerted;
